@@ -1,0 +1,93 @@
+-- The state after a line (this exchange's own rule).
+use Rattle.std.specs.Prelude.{List, [], ◌∷◌, ◌++◌, codes, slice_set, Option, Some, None, unwrap_or}
+use Rattle.std.specs.FinMap.{FinMap, empty, get, insert, remove, retain_keys}
+use Rattle.net_types.specs.Exports.{Routing, pid_of}
+use Rattle.net_types.specs.Keys.{prefix_cmp, pair_cmp}
+use Rattle.net_types.specs.declared.address.Pid.{Pid}
+use Rattle.net_types.specs.declared.prefix.Prefix.{Prefix}
+use Rattle.net_types.specs.declared.route.Attrs.{Attrs}
+use Rattle.net_types.specs.declared.route.Participant.{Participant}
+use Rattle.net_types.specs.declared.route.PortInfo.{PortInfo}
+use Rattle.net_types.specs.declared.rule.Pair.{Pair}
+use Rattle.net_types.specs.declared.rule.Rule.{Rule}
+use Rattle.events.specs.declared.Event.{Event}
+use Rattle.events.specs.declared.Event.TheVariants.{Bad, Exchange, Participant as DeclaresParticipant, Port as DeclaresPort, Update, Drain, Packet}
+use Rattle.events.specs.declared.Flow.{Flow}
+use Rattle.events.specs.declared.Head.{Head}
+use Rattle.events.specs.declared.Head.TheVariants.{Fine, Unrouted, Refused}
+use Rattle.events.specs.declared.Phase.TheVariants.{Declaring, Running}
+use Rattle.events.specs.declared.Reply.{Reply}
+use Rattle.events.specs.Restricted.{announced_attrs, announced_prefix}
+use Rattle.events.specs.State.{State, Entry, present}
+use Rattle.events.specs.Tags.{is_live, retagged}
+
+-- the state with a further participant, whose policies drop
+abbrev pub with_participant : State → Participant → State
+with_participant s m = record s {
+  routing = record s.routing { participants = s.routing.participants ++ m ∷ []; rules = s.routing.rules ++ [] ∷ [] };
+  outbound = s.outbound ++ codes "drop" ∷ [];
+  inbound = s.inbound ++ codes "drop" ∷ [];
+  told = s.told ++ empty ∷ [];
+}
+
+-- the state with a further port, whose router has resolved nothing
+abbrev pub with_port : State → PortInfo → State
+with_port s q = record s {
+  routing = record s.routing { ports = s.routing.ports ++ q ∷ [] };
+  resolved = s.resolved ++ [] ∷ [];
+}
+
+-- the routes with one more, in place of an earlier one
+abbrev pub with_route : Routing → Pid → Prefix → Attrs → Routing
+with_route r from p attrs = record r { routes = insert r.routes (record { from = from; prefix = p }) attrs }
+
+-- the state in which a participant was told just these
+abbrev pub with_told : State → Pid → FinMap prefix_cmp Entry → State
+with_told s who entries = record s { told = slice_set s.told who.0 entries }
+
+-- the first accepted line that declares nothing ends the declarations
+abbrev pub running : State → State
+running s = record s { phase = Running }
+
+-- a tag that is live no more is kept no more
+abbrev pub settled : State → State
+settled s = record s { kept = retain_keys s.kept (is_live s) }
+
+-- what becomes of a state where something is known
+abbrev pub with_known : {X : Type 0} → State → Option X → (X → State) → State
+with_known s None f = s
+with_known s (Some x) f = f x
+
+-- the state after an accepted line, but for the table
+abbrev pub after : State → Event → State
+after s Bad = s
+after s (Exchange base size capacity) = record s { phase = Declaring; base = base; size = size; capacity = capacity }
+after s (DeclaresParticipant name asn id) = with_participant s (record { name = name; asn = asn; id = id })
+after s (DeclaresPort name number ip mac) = with_known s (pid_of s.routing name) (λ who. with_port s (record { owner = who; number = number; ip = ip; mac = mac }))
+after s (Update name bytes) = with_known s (pid_of s.routing name) (λ who. retagged s (with_route s.routing who (announced_prefix bytes) (announced_attrs bytes)))
+after s (Drain name) = with_known s (pid_of s.routing name) (λ who. settled (running (with_told s who (present s who))))
+after s (Packet port bytes) = running s
+
+-- a rule is put behind those of its pair
+abbrev pub put_flow : FinMap pair_cmp (List Rule) → Flow → FinMap pair_cmp (List Rule)
+put_flow table f = insert table f.pair (unwrap_or (get table f.pair) [] ++ f.rule ∷ [])
+
+-- each rule in turn
+abbrev pub put_flows : FinMap pair_cmp (List Rule) → List Flow → FinMap pair_cmp (List Rule)
+put_flows table [] = table
+put_flows table (f ∷ fs) = put_flows (put_flow table f) fs
+
+-- the table without the rules of these pairs
+abbrev pub without_pairs : FinMap pair_cmp (List Rule) → List Pair → FinMap pair_cmp (List Rule)
+without_pairs table [] = table
+without_pairs table (q ∷ qs) = without_pairs (remove table q) qs
+
+-- a refusal changes nothing; else the pairs dropped are taken out of the table, and then the rules added are put in
+abbrev pub next_by : Head → State → Event → Reply → State
+next_by (Refused refusal) s e r = s
+next_by Fine s e r = record (after s e) { table = put_flows (without_pairs s.table r.drops) r.adds }
+next_by Unrouted s e r = record (after s e) { table = put_flows (without_pairs s.table r.drops) r.adds }
+
+-- the state after a line and its reply
+abbrev pub next : State → Event → Reply → State
+next s e r = next_by r.head s e r

@@ -1,0 +1,118 @@
+-- The refusals, in the order in which their conditions are looked at (this exchange's own rule).
+use Rattle.std.specs.Prelude.{ℕ, ◌+◌, Bool, true, false, ◌&&◌, ◌||◌, not, nat_eq, nat_le, nat_lt, List, [], ◌∷◌, length, map, filter, take, Option, Some, None, is_some, if◌then◌else◌}
+use Rattle.std.specs.FinMap.{get}
+use Rattle.std.specs.List.{list_any}
+use Rattle.net_types.specs.Attributes.{same_option}
+use Rattle.net_types.specs.Exports.{asn_of, pid_of}
+use Rattle.net_types.specs.Keys.{pair_cmp}
+use Rattle.net_types.specs.Maps.{ordered}
+use Rattle.net_types.specs.Octets.{same_octets}
+use Rattle.net_types.specs.Sets.{union_over}
+use Rattle.net_types.specs.declared.rule.Pair.{Pair}
+use Rattle.net_types.specs.Routes.{pids}
+use Rattle.net_types.specs.declared.address.Ip.{Ip}
+use Rattle.net_types.specs.declared.address.Mac.{Mac}
+use Rattle.net_types.specs.declared.address.Pid.{Pid}
+use Rattle.net_types.specs.declared.address.PortNo.{PortNo}
+use Rattle.net_types.specs.declared.prefix.Prefix.{Prefix}
+use Rattle.net_types.specs.declared.route.Attrs.{Attrs}
+use Rattle.net_types.specs.declared.route.PortInfo.{PortInfo}
+use Rattle.events.specs.declared.Event.{Event}
+use Rattle.events.specs.declared.Event.TheVariants.{Bad, Exchange, Participant as DeclaresParticipant, Port as DeclaresPort, Update, Drain, Packet}
+use Rattle.events.specs.declared.Phase.{Phase}
+use Rattle.events.specs.declared.Phase.TheVariants.{Start, Declaring, Running}
+use Rattle.events.specs.declared.Refusal.{Refusal}
+use Rattle.events.specs.declared.Refusal.TheVariants.{BadLine, Misplaced, Unknown}
+use Rattle.events.specs.After.{with_route}
+use Rattle.events.specs.Restricted.{announced_attrs, announced_prefix}
+use Rattle.events.specs.State.{State, port_of}
+use Rattle.events.specs.Tags.{is_live_pair, free_tags, groups, retagged, tags}
+use Rattle.events.specs.Updates.{first_as}
+
+-- which lines are in place in a phase: only `exchange` at the start, then all but `exchange`, and after the declarations
+-- neither `participant` nor `port`
+abbrev pub is_placed : Phase → Event → Bool
+is_placed phase Bad = true
+is_placed Start (Exchange base size capacity) = true
+is_placed Declaring (Exchange base size capacity) = false
+is_placed Running (Exchange base size capacity) = false
+is_placed Start (DeclaresParticipant name asn id) = false
+is_placed Declaring (DeclaresParticipant name asn id) = true
+is_placed Running (DeclaresParticipant name asn id) = false
+is_placed Start (DeclaresPort name number ip mac) = false
+is_placed Declaring (DeclaresPort name number ip mac) = true
+is_placed Running (DeclaresPort name number ip mac) = false
+is_placed Start (Update name bytes) = false
+is_placed Declaring (Update name bytes) = true
+is_placed Running (Update name bytes) = true
+is_placed Start (Drain name) = false
+is_placed Declaring (Drain name) = true
+is_placed Running (Drain name) = true
+is_placed Start (Packet port bytes) = false
+is_placed Declaring (Packet port bytes) = true
+is_placed Running (Packet port bytes) = true
+
+abbrev pub is_name_taken : State → List ℕ → Bool
+is_name_taken s name = is_some (pid_of s.routing name)
+
+-- the addresses of the tags
+abbrev pub is_in_pool : State → Ip → Bool
+is_in_pool s ip = nat_lt s.base.0 ip.0 && nat_le ip.0 (s.base.0 + s.size)
+
+-- a port's number, its address or its MAC is taken, or lies in the pool or among the MACs of tags
+abbrev pub is_port_taken : State → PortNo → Ip → Mac → Bool
+is_port_taken s number ip mac =
+    list_any (λ (q : PortInfo). nat_eq q.number.0 number.0 || nat_eq q.ip.0 ip.0 || same_octets q.mac.0 mac.0) s.routing.ports
+    || is_in_pool s ip || same_octets (take 3 mac.0) (2 ∷ 83 ∷ 68 ∷ [])
+
+-- an address is one of a participant's ports
+abbrev pub has_next_hop : State → Pid → Ip → Bool
+has_next_hop s who ip = list_any (λ (q : PortInfo). nat_eq q.owner.0 who.0 && nat_eq q.ip.0 ip.0) s.routing.ports
+
+-- somebody has a route for a prefix
+abbrev pub has_route : State → Prefix → Bool
+has_route s p = list_any (λ who. is_some (get s.routing.routes (record { from = who; prefix = p }))) (pids s.routing)
+
+-- each declared port with each tag of the pool
+abbrev pub pairs : State → List Pair
+pairs s = union_over (λ (q : PortInfo). map (λ t. record { port = q.number; tag = t }) (tags s)) s.routing.ports
+
+-- the pairs that are live, in order
+abbrev pub live_pairs : State → List Pair
+live_pairs s = ordered pair_cmp (filter (is_live_pair s) (pairs s))
+
+-- the refusal where the test holds
+abbrev pub unless : Bool → Refusal → Option Refusal
+unless true refusal = Some refusal
+unless false refusal = None
+
+-- An announcement that is refused in this version without a name of its own: its path doesn't begin with the participant's
+-- AS, its NEXT_HOP is none of the participant's ports, its prefix has a route already, no tag is free for it, or the pairs
+-- that would be live are more than the table's capacity.
+abbrev pub cannot_announce : State → Pid → Prefix → Attrs → Bool
+cannot_announce s who p attrs =
+    let r = with_route s.routing who p attrs in
+    not (same_option nat_eq (first_as attrs.path) (Some (asn_of s.routing who)))
+    || not (has_next_hop s who attrs.next_hop)
+    || has_route s p
+    || nat_lt (length (free_tags s)) (length (groups s r))
+    || nat_lt s.capacity (length (live_pairs (retagged s r)))
+
+-- what isn't declared is unknown
+abbrev pub if_known : {X : Type 0} → Option X → (X → Option Refusal) → Option Refusal
+if_known None f = Some Unknown
+if_known (Some x) f = f x
+
+-- the first refusal of a line that is in place
+abbrev pub refusal_in_place : State → Event → Option Refusal
+refusal_in_place s Bad = Some BadLine
+refusal_in_place s (Exchange base size capacity) = None
+refusal_in_place s (DeclaresParticipant name asn id) = unless (is_name_taken s name || nat_le 256 (length s.routing.participants)) BadLine
+refusal_in_place s (DeclaresPort name number ip mac) = if_known (pid_of s.routing name) (λ who. unless (is_port_taken s number ip mac) BadLine)
+refusal_in_place s (Update name bytes) = if_known (pid_of s.routing name) (λ who. unless (cannot_announce s who (announced_prefix bytes) (announced_attrs bytes)) BadLine)
+refusal_in_place s (Drain name) = if_known (pid_of s.routing name) (λ who. None)
+refusal_in_place s (Packet port bytes) = if_known (port_of s port) (λ q. None)
+
+-- the first refusal whose condition holds
+abbrev pub refusal : State → Event → Option Refusal
+refusal s e = if is_placed s.phase e then refusal_in_place s e else Some Misplaced

@@ -1,0 +1,64 @@
+-- When the rules of a pair are right and tight, and when a state is sound (this exchange's own rule).
+use Rattle.std.specs.Prelude.{◌≡◌, ℕ, ◌≤◌, false, nat_eq, List, [], ◌∷◌, length, map, find, Option, Some, is_some, sum_by}
+use Rattle.std.specs.FinMap.{get, values}
+use Rattle.std.specs.Option.{option_and_then}
+use Rattle.net_types.specs.Answers.{Policies, part_answer}
+use Rattle.net_types.specs.Cells.{cell_atoms}
+use Rattle.net_types.specs.Cubes.{lies_within_cube}
+use Rattle.net_types.specs.Headers.{IsValid}
+use Rattle.net_types.specs.Meets.{IsMeet}
+use Rattle.net_types.specs.Sets.{Member, SameMembers}
+use Rattle.net_types.specs.Signatures.{signature}
+use Rattle.net_types.specs.declared.address.Pid.{Pid}
+use Rattle.net_types.specs.declared.address.PortNo.{PortNo}
+use Rattle.net_types.specs.declared.address.Tag.{Tag}
+use Rattle.net_types.specs.declared.cube.Cube.{Cube}
+use Rattle.net_types.specs.declared.headers.Headers.{Headers}
+use Rattle.net_types.specs.declared.prefix.Prefix.{Prefix}
+use Rattle.net_types.specs.declared.route.Part.{Part}
+use Rattle.net_types.specs.declared.route.PortInfo.{PortInfo}
+use Rattle.net_types.specs.declared.rule.Pair.{Pair}
+use Rattle.net_types.specs.declared.rule.Rule.{Rule}
+use Rattle.events.specs.State.{State, ArePolicies, port_of}
+use Rattle.events.specs.Table.{first_rule, done_by}
+use Rattle.events.specs.Tags.{is_carried, is_live_pair}
+
+-- no member comes twice
+abbrev pub HasNoRepeats : {X : Type 0} → List X → Type 0
+HasNoRepeats [] = Unit {0}
+HasNoRepeats {X} (x ∷ xs) = (Member x xs → ⊥) × HasNoRepeats xs
+
+abbrev pub cubes_of : List Rule → List Cube
+cubes_of rules = map (λ (rule : Rule). rule.cube) rules
+
+-- For all headers at the port some rule has them, and the first one that has them gives what the part gives. The cubes
+-- differ, and each is a meet of the atoms that the sender and the receivers have.
+pub record IsRight (ps : Policies) (part : Part) (port : PortNo) (rules : List Rule) : Type 0 where
+  pub gives : (h : Headers) → IsValid h → h.inport ≡ port → (rule : Rule) × (first_rule rules h ≡ Some rule) × SameMembers (map (done_by h) rule.actions) (part_answer ps part h)
+  pub differ : HasNoRepeats (cubes_of rules)
+  pub meets : (c : Cube) → Member c (cubes_of rules) → IsMeet (cell_atoms ps port part) c
+
+-- no rule's cube lies within an earlier one's
+abbrev pub IsTight : List Rule → Type 0
+IsTight [] = Unit {0}
+IsTight (rule ∷ rules) = ((later : Rule) → Member later rules → lies_within_cube later.cube rule.cube ≡ false) × IsTight rules
+
+abbrev pub part_of : List Part → Pid → Option Part
+part_of sig who = find (λ (part : Part). nat_eq part.sender.0 who.0) sig
+
+-- the part of the owner of a pair's port in the signature kept for its tag
+abbrev pub owners_part : State → Pair → Option Part
+owners_part s pair = option_and_then (λ (q : PortInfo). option_and_then (λ sig. part_of sig q.owner) (get s.kept pair.tag)) (port_of s pair.port)
+
+-- how many rules the table has
+abbrev pub rule_count : State → ℕ
+rule_count s = sum_by (λ (rules : List Rule). length rules) (values s.table)
+
+-- The table has exactly the live pairs, each with right rules, and no more rules than its capacity. Exactly the carried
+-- prefixes have a tag, and the signature of each is the one kept for its tag.
+pub record IsSound (s : State) : Type 0 where
+  pub pairs : (pair : Pair) → is_some (get s.table pair) ≡ is_live_pair s pair
+  pub right : (ps : Policies) × ArePolicies s ps × ((pair : Pair) (rules : List Rule) → get s.table pair ≡ Some rules → (part : Part) × (owners_part s pair ≡ Some part) × IsRight ps part pair.port rules)
+  pub few : rule_count s ≤ s.capacity
+  pub tagged : (p : Prefix) → is_some (get s.tag p) ≡ is_carried s.routing p
+  pub kept : (p : Prefix) (t : Tag) → get s.tag p ≡ Some t → get s.kept t ≡ Some (signature s.routing p)
