@@ -2,7 +2,6 @@
 use Rattle.std.proofs.Common.{◌≡◌, ℕ, zero, suc, ◌≤◌, ◌<◌, List, [], ◌∷◌, ◌++◌, length, Result, Ok, Err, refl, sym, ap, ◌∙◌, append_assoc, arith}
 use Rattle.std.proofs.lemmas.List.{append-nil}
 use Rattle.grammar.specs.Reading.{on_read}
-use Rattle.grammar.specs.Formats.{items}
 use Rattle.grammar.specs.FormatReading.{Read, Reader, read_all}
 
 -- Items in front of those that are read.

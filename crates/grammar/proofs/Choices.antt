@@ -3,7 +3,7 @@ use Rattle.std.proofs.Common.{◌≡◌, ℕ, suc, ◌+◌, Bool, true, false, L
 use Rattle.std.specs.Prelude.{◌⊎◌}
 use Rattle.std.proofs.lemmas.Bool.{cond_both}
 use Rattle.grammar.specs.Octets.{Follows, IsLonger, StartsAs, StartsIn, among}
-use Rattle.grammar.specs.Rules.{either, place}
+use Rattle.grammar.specs.Rules.{either}
 use Rattle.grammar.specs.TextReading.{Deep, Fault, Read, Reader, Wrong, read_either}
 use Rattle.grammar.specs.Exactness.{Covers, Deeper, Family, Holds, IsExact, ReadsExactly}
 use Rattle.grammar.proofs.Lists.{starts_behind}

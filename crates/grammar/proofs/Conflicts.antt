@@ -1,6 +1,6 @@
 -- What octets spell, and what they fail by, exclude each other.
-use Rattle.std.proofs.Common.{◌≡◌, ℕ, List, ◌∷◌, ◌++◌, Ok, Err, sym, ◌∙◌}
-use Rattle.grammar.specs.Formats.{Format, octets}
+use Rattle.std.proofs.Common.{◌≡◌, ℕ, List, ◌++◌, Ok, Err, sym, ◌∙◌}
+use Rattle.grammar.specs.Formats.{Format}
 use Rattle.grammar.specs.FormatReading.{Read, Reader}
 use Rattle.grammar.specs.Messages.{Holds, IsExact}
 

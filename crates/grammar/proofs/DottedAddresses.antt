@@ -1,5 +1,5 @@
 -- Addresses are read exactly.
-use Rattle.std.proofs.Common.{ℕ, ◌+◌, ◌*◌, Bool, [], ◌∷◌, refl, arith}
+use Rattle.std.proofs.Common.{ℕ, ◌+◌, ◌*◌, Bool, [], refl, arith}
 use Rattle.std.specs.Prelude.{codes}
 use Rattle.grammar.specs.TextReading as reading
 use Rattle.grammar.specs.Octets.{among}

@@ -4,7 +4,7 @@ use Rattle.std.specs.Prelude.{not}
 use Rattle.std.proofs.lemmas.List.{length-append}
 use Rattle.grammar.specs.TextReading as reading
 use Rattle.grammar.specs.Octets.{Follows, IsLonger, StartsAs, StartsIn}
-use Rattle.grammar.specs.Rules.{BeginsBoth, SpellsBoth, place, ◌>>=◌}
+use Rattle.grammar.specs.Rules.{BeginsBoth, SpellsBoth, ◌>>=◌}
 use Rattle.grammar.specs.Reading.{on_read}
 use Rattle.grammar.specs.TextReading.{Deep, Fault, Read, Reader, Wrong}
 use Rattle.grammar.specs.Exactness.{Covers, Deeper, Family, Holds, IsExact, Reads, ReadsExactly, Stops}

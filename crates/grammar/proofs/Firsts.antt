@@ -2,7 +2,6 @@
 use Rattle.std.proofs.Common.{◌≡◌, ℕ, Bool, true, List, [], ◌∷◌, ◌++◌, refl, sym, ap, subst, ◌∙◌}
 use Rattle.grammar.specs.Octets.{Follows, StartsIn, among}
 use Rattle.grammar.specs.Rules.{word}
-use Rattle.grammar.specs.Tokens.{spaces}
 use Rattle.grammar.specs.Exactness.{Family}
 use Rattle.grammar.proofs.OctetKinds.{Follows-starts, Follows-within, Within, all_pass, among_within, any}
 

@@ -2,12 +2,12 @@
 use Rattle.std.proofs.Common.{◌≡◌, ℕ, zero, suc, ◌+◌, ◌*◌, ◌≤◌, Bool, List, [], ◌∷◌, ◌++◌, length, take, drop, refl, sym, subst, arith, inl, inr}
 use Rattle.std.specs.Prelude.{◌⊎◌, codes}
 use Rattle.std.proofs.lemmas.List.{append-nil, take-append-drop}
-use Rattle.grammar.specs.Rules.{BeginsBoth, BeginsTimes, IsRun, Rule, SpellsTimes, either, many, maybe, never, place, pure, run, token, word, ◌>>=◌}
+use Rattle.grammar.specs.Rules.{BeginsBoth, BeginsTimes, IsNonemptyRun, Rule, SpellsTimes, either, many, maybe, never, place, pure, run, token, word, ◌>>=◌}
 use Rattle.grammar.specs.Tokens.{IsName, IsNumber, address, gap, is_digit, is_letter, is_name_octet, is_space, name, number, number_of, parens, sign, spaces}
 use Rattle.grammar.specs.Exactness.{HasFronts}
 use Rattle.grammar.proofs.Lists.{AllPass-front, GoesOn, fronts, no_front}
 use Rattle.grammar.proofs.Tokens.{IsToken}
-use Rattle.grammar.proofs.Gaps.{runs_of_one}
+use Rattle.grammar.proofs.Gaps.{nonempty_runs}
 use Rattle.grammar.proofs.Names.{names}
 use Rattle.grammar.proofs.Numbers.{numbers}
 
@@ -88,7 +88,7 @@ pub number_fronts : (low high : ℕ) → low ≤ 1 → 9 ≤ high → HasFronts 
 number_fronts low high small large = token_fronts (IsNumber low high) number_of is_digit is_digit (numbers low high small large)
 
 pub gap_fronts : HasFronts gap
-gap_fronts = token_fronts (IsRun is_space) (λ _. tt) is_space is_space (runs_of_one is_space)
+gap_fronts = token_fronts (IsNonemptyRun is_space) (λ _. tt) is_space is_space (nonempty_runs is_space)
 
 pub sign_fronts : (w : List ℕ) → HasFronts (sign w)
 sign_fronts w = both_fronts (word w) (λ _. spaces) (word_fronts w) (λ _. run_fronts is_space)

@@ -2,16 +2,16 @@
 use Rattle.std.proofs.Common.{◌≡◌, ℕ, ◌+◌, ◌-◌, Bool, false, List, [], ◌∷◌, ◌++◌, length, Ok, Err, refl, sym, ap, ◌∙◌, arith}
 use Rattle.std.proofs.lemmas.Bool.{cond_both, both_ways}
 use Rattle.grammar.specs.Octets.{AllPass, IsLonger, StartsIn}
-use Rattle.grammar.specs.Rules.{IsRun, run_of_one}
-use Rattle.grammar.specs.TextReading.{Read, Wrong, after_run, read_run_of_one}
+use Rattle.grammar.specs.Rules.{IsNonemptyRun, nonempty_run}
+use Rattle.grammar.specs.TextReading.{Read, Wrong, after_run, read_nonempty_run}
 use Rattle.grammar.specs.Exactness.{Holds, IsExact, ReadsExactly}
 use Rattle.grammar.proofs.Lists.{AllPass-at, AllPass-front}
 use Rattle.grammar.proofs.OctetKinds.{Apart}
 use Rattle.grammar.proofs.Firsts.{Heads}
 use Rattle.grammar.proofs.Tokens.{IsLast, IsToken, token_heads, token_reads, token_stops}
 
-pub runs_of_one : (test : ℕ → Bool) → IsToken (IsRun test) test test
-runs_of_one test = record {
+pub nonempty_runs : (test : ℕ → Bool) → IsToken (IsNonemptyRun test) test test
+nonempty_runs test = record {
   closed = λ a b lo h. (lo, AllPass-front test a b h.1);
   octets = λ a b c lo h. AllPass-at test a b c h.1;
   starts = λ a h. first a h.0 h.1;
@@ -35,23 +35,23 @@ run_front test (c ∷ s) =
     (λ t. let h = run_front test s in record { front = c ∷ h.front; parts = ap (λ (w : List ℕ). c ∷ w) h.parts; all = (t, h.all); last = h.last })
     (λ t. record { front = []; parts = refl; all = tt; last = λ x more e. let same : c ≡ x = cc in ap test (sym same) ∙ t })
 
-run_last : (test : ℕ → Bool) (front m : List ℕ) → ((c : ℕ) (more : List ℕ) → m ≡ c ∷ more → test c ≡ false) → IsLast (IsRun test) front m
+run_last : (test : ℕ → Bool) (front m : List ℕ) → ((c : ℕ) (more : List ℕ) → m ≡ c ∷ more → test c ≡ false) → IsLast (IsNonemptyRun test) front m
 run_last test front [] last = tt
 run_last test front (x ∷ m) last = λ is. both_ways (test x) (last x m refl) (AllPass-at test front [] x is.1)
 
 module _ (test : ℕ → Bool) (d : ℕ) (follow : ℕ → Bool) (apart : Apart test follow) where
-  run_of_one_holds : ReadsExactly (λ e. run_of_one test) d follow (read_run_of_one test)
-  run_of_one_holds at [] = token_stops (IsRun test) (λ _. tt) test test follow (runs_of_one test) apart d at (at + 0) [] (omega arith) tt
-  run_of_one_holds at (c ∷ s) =
+  nonempty_run_holds : ReadsExactly (λ e. nonempty_run test) d follow (read_nonempty_run test)
+  nonempty_run_holds at [] = token_stops (IsNonemptyRun test) (λ _. tt) test test follow (nonempty_runs test) apart d at (at + 0) [] (omega arith) tt
+  nonempty_run_holds at (c ∷ s) =
       let h = run_front test s in
-      cond_both (test c) (Ok (tt, after_run test s)) (Err (Wrong ((at + length (c ∷ s)) - length (c ∷ s)))) (λ (r : Read (Unit {0})). Holds (λ e. run_of_one test) d follow at (c ∷ s) r)
-      (λ t. token_reads (IsRun test) (λ _. tt) test test follow (runs_of_one test) apart d at (c ∷ s) (c ∷ h.front) (after_run test s)
+      cond_both (test c) (Ok (tt, after_run test s)) (Err (Wrong ((at + length (c ∷ s)) - length (c ∷ s)))) (λ (r : Read (Unit {0})). Holds (λ e. nonempty_run test) d follow at (c ∷ s) r)
+      (λ t. token_reads (IsNonemptyRun test) (λ _. tt) test test follow (nonempty_runs test) apart d at (c ∷ s) (c ∷ h.front) (after_run test s)
       (ap (λ (w : List ℕ). c ∷ w) h.parts) (tt, (t, h.all)) (run_last test (c ∷ h.front) (after_run test s) h.last))
-      (λ t. token_stops (IsRun test) (λ _. tt) test test follow (runs_of_one test) apart d at ((at + length (c ∷ s)) - length (c ∷ s)) (c ∷ s) (omega arith)
+      (λ t. token_stops (IsNonemptyRun test) (λ _. tt) test test follow (nonempty_runs test) apart d at ((at + length (c ∷ s)) - length (c ∷ s)) (c ∷ s) (omega arith)
       (λ is. both_ways (test c) t is.1.0))
 
-  pub run_of_one_exact : IsExact (λ e. run_of_one test) d follow (read_run_of_one test)
-  run_of_one_exact = record { reads = run_of_one_holds }
+  pub nonempty_run_exact : IsExact (λ e. nonempty_run test) d follow (read_nonempty_run test)
+  nonempty_run_exact = record { reads = nonempty_run_holds }
 
-pub run_of_one_heads : (test : ℕ → Bool) → Heads (λ e. run_of_one test) test
-run_of_one_heads test = token_heads (IsRun test) (λ _. tt) test test (λ c. false) (runs_of_one test) (λ c h k. absurd cc)
+pub nonempty_run_heads : (test : ℕ → Bool) → Heads (λ e. nonempty_run test) test
+nonempty_run_heads test = token_heads (IsNonemptyRun test) (λ _. tt) test test (λ c. false) (nonempty_runs test) (λ c h k. absurd cc)

@@ -3,8 +3,8 @@ use Rattle.std.proofs.Common.{◌≡◌, ℕ, zero, suc, ◌+◌, ◌-◌, ◌�
 use Rattle.std.specs.Prelude.{◌⊎◌, codes}
 use Rattle.std.proofs.lemmas.Bool.{cond_both, eqb-true, or_cases}
 use Rattle.grammar.specs.Octets.{Follows, IsLonger, StartsAs, StartsIn, among}
-use Rattle.grammar.specs.Rules.{Rule, never, place, ◌>>=◌}
-use Rattle.grammar.specs.Tokens.{parens, spaces}
+use Rattle.grammar.specs.Rules.{Rule, never, ◌>>=◌}
+use Rattle.grammar.specs.Tokens.{parens}
 use Rattle.grammar.specs.TokenReading.{read_parens, read_too_deep}
 use Rattle.grammar.specs.TextReading.{Deep, Fault, Read, Reader, Wrong}
 use Rattle.grammar.specs.Exactness.{Covers, Deeper, Family, Holds, IsExact, ReadsExactly, Stops}

@@ -1,13 +1,12 @@
 -- A whole message is read exactly, with its first fault.
-use Rattle.std.proofs.Common.{◌≡◌, ℕ, Bool, true, false, List, ◌∷◌, ◌++◌, length, Result, Ok, Err, refl, sym, ap, subst, ◌∙◌, arith, inl, inr, cond}
+use Rattle.std.proofs.Common.{◌≡◌, ℕ, Bool, true, false, List, ◌++◌, length, Result, Ok, Err, refl, sym, ap, subst, ◌∙◌, arith, inl, inr, cond}
 use Rattle.std.specs.Prelude.{◌⊎◌}
 use Rattle.std.proofs.lemmas.Bool.{cond_both, both_ways}
 use Rattle.grammar.specs.Octets.{IsLonger}
 use Rattle.grammar.specs.Reading.{on_read}
-use Rattle.grammar.specs.Formats.{AllFail, FailsToEnd, Format, ItemsFail, ItemsSpell, SpellsToEnd, items, to_end}
+use Rattle.grammar.specs.Formats.{AllFail, FailsToEnd, Format, ItemsFail, ItemsSpell, SpellsToEnd, to_end}
 use Rattle.grammar.specs.FormatReading.{Read, Reader, read_items, read_to_end}
 use Rattle.grammar.specs.Messages.{Holds, IsBad, IsExact, IsMessage, Reads, Says, Stops}
-use Rattle.grammar.proofs.OctetKinds.{any}
 use Rattle.grammar.proofs.Blocks.{AllHold, AllRead, AllStop, all_hold}
 
 module _ {F X Y Z : Type 0} (f : Format F X) (item : Format F Y) (test : X → List Y → Bool) (fault : F) (make : X → List Y → Z) (b : List ℕ) where

@@ -1,5 +1,5 @@
 -- No octet, and the place, are read exactly.
-use Rattle.std.proofs.Common.{ℕ, ◌+◌, ◌-◌, Bool, List, [], ◌∷◌, ◌++◌, length, refl, sym, ap, subst, ◌∙◌, arith, inl, inr}
+use Rattle.std.proofs.Common.{ℕ, ◌+◌, ◌-◌, Bool, List, [], ◌++◌, length, refl, sym, ap, subst, ◌∙◌, arith, inl, inr}
 use Rattle.grammar.specs.Rules as rules
 use Rattle.grammar.specs.TextReading as reading
 use Rattle.grammar.specs.Octets.{Follows, StartsIn}

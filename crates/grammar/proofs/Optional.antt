@@ -2,7 +2,7 @@
 use Rattle.std.proofs.Common.{◌≡◌, ℕ, ◌+◌, Bool, true, false, List, [], ◌∷◌, ◌++◌, length, Ok, Err, refl, sym, ap, subst, ◌∙◌, arith, inl, inr}
 use Rattle.std.proofs.lemmas.Bool.{cond_both, both_ways}
 use Rattle.grammar.specs.Octets.{Follows, IsLonger, StartsAs, StartsIn}
-use Rattle.grammar.specs.Rules.{maybe, place}
+use Rattle.grammar.specs.Rules.{maybe}
 use Rattle.grammar.specs.TextReading.{Deep, Fault, Read, Reader, Wrong, read_maybe}
 use Rattle.grammar.specs.Exactness.{Covers, Deeper, Family, Holds, IsExact, Reads, ReadsExactly, Stops}
 use Rattle.grammar.proofs.Lists.{no_longer, starts_behind}

@@ -1,21 +1,15 @@
 -- A whole text of a rule without groups is read exactly.
-use Rattle.std.proofs.Common.{◌≡◌, ℕ, zero, suc, ◌≤◌, Bool, List, [], ◌∷◌, length, Result, Ok, Err, Some, arith}
-use Rattle.std.specs.Prelude.{slice_get}
-use Rattle.grammar.specs.Rules.{Rule, many}
+use Rattle.std.proofs.Common.{ℕ, suc, Bool, List, Result, Ok, Err, arith}
+use Rattle.grammar.specs.Rules.{Rule}
 use Rattle.grammar.specs.TextReading.{Deep, Fault, Reader, Wrong}
 use Rattle.grammar.specs.Exactness.{IsExact}
 use Rattle.grammar.specs.Texts.{IsDeepFault, Says, SaysPlain, read_whole}
-use Rattle.grammar.proofs.Texts.{text_said}
+use Rattle.grammar.proofs.Texts.{text_said, get_within}
 
 module _ {X : Type 0} (f : Rule X) (follow : ℕ → Bool) (text : List ℕ) where
   -- where one group more changes nothing, none is too many
   never_deep : (p : ℕ) → IsDeepFault (λ _. f) 0 text p → ⊥
-  never_deep p h = omega (arith, h.longest (suc p) (inside p text h.opens) h.begins)
-    where
-      inside : (p : ℕ) (text : List ℕ) → slice_get text p ≡ Some 40 → suc p ≤ length text
-      inside p [] e = absurd cc
-      inside zero (c ∷ text) e = omega arith
-      inside (suc p) (c ∷ text) e = omega (arith, inside p text e)
+  never_deep p h = omega (arith, h.longest (suc p) (get_within p text h.opens) h.begins)
 
   -- A reader that is exact for the rule reads a whole text rightly.
   pub plain_said : (reader : Reader X) → IsExact (λ _. f) 0 follow reader → SaysPlain f text (read_whole reader text)

@@ -3,7 +3,7 @@ use Rattle.std.proofs.Common.{◌≡◌, ℕ, zero, suc, ◌+◌, ◌≤◌, ◌
 use Rattle.std.proofs.lemmas.List.{length-append}
 use Rattle.std.proofs.lemmas.Bool.{cond_both, both_ways}
 use Rattle.grammar.specs.Octets.{Follows, IsLonger, StartsAs, StartsIn}
-use Rattle.grammar.specs.Rules.{BeginsTimes, SpellsTimes, many, place, ◌>>=◌}
+use Rattle.grammar.specs.Rules.{BeginsTimes, SpellsTimes, many, ◌>>=◌}
 use Rattle.grammar.specs.Reading.{on_read}
 use Rattle.grammar.specs.TextReading.{Deep, Fault, Read, Reader, Wrong, read_many}
 use Rattle.grammar.specs.Exactness.{Covers, Deeper, Family, Holds, IsExact, Reads, Stops}

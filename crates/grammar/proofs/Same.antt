@@ -1,6 +1,5 @@
 -- Rules that say the same are read by the same reader.
 use Rattle.std.proofs.Common.{ℕ, suc, ◌+◌, Bool, List, [], ◌∷◌, ◌++◌, length, Ok, Err}
-use Rattle.grammar.specs.Rules.{place}
 use Rattle.grammar.specs.TextReading.{Deep, Fault, Read, Reader, Wrong}
 use Rattle.grammar.specs.Exactness.{Deeper, Family, Holds, IsExact}
 use Rattle.grammar.proofs.Firsts.{Heads}

@@ -7,7 +7,6 @@ use Rattle.grammar.specs.Octets.{IsLonger, StartsAs}
 use Rattle.grammar.specs.TextReading.{Deep, Fault, Read, Reader, Wrong}
 use Rattle.grammar.specs.Exactness.{Family, Holds, IsExact, Reads, Stops}
 use Rattle.grammar.specs.Texts.{BeginsText, IsDeepFault, IsSyntaxFault, Says, at_end, finish, read_whole}
-use Rattle.grammar.proofs.Exact.{both}
 
 starts_self : (s : List ℕ) → StartsAs s s
 starts_self [] = tt
@@ -32,6 +31,11 @@ take_past (c ∷ a) b (suc k) le = let same : k - length a ≡ suc k - suc (leng
 get_at : (a b : List ℕ) (c : ℕ) → slice_get (a ++ c ∷ b) (length a) ≡ Some c
 get_at [] b c = refl
 get_at (x ∷ a) b c = get_at a b c
+
+pub get_within : (p : ℕ) (text : List ℕ) → slice_get text p ≡ Some 40 → suc p ≤ length text
+get_within p [] e = absurd cc
+get_within zero (c ∷ text) e = omega arith
+get_within (suc p) (c ∷ text) e = omega (arith, get_within p text e)
 
 front_of : (text front back : List ℕ) (n : ℕ) → n ≡ length front → text ≡ front ++ back → take n text ≡ front
 front_of text front back n n_is parts = ap (take n) parts ∙ take_at front back n (sym n_is)
@@ -130,9 +134,8 @@ module _ {X : Type 0} (f : Family X) where
 
   -- No text is both wrong and too deep.
   pub deep_or_syntax : (limit : ℕ) (text : List ℕ) (n p : ℕ) → IsSyntaxFault f limit text n → IsDeepFault f limit text p → ⊥
-  deep_or_syntax limit text n p s d = omega (arith, d.longest n s.within s.begins, s.longest (suc p) (inside p text d.opens) (suc limit, d.begins))
-    where
-      inside : (p : ℕ) (text : List ℕ) → slice_get text p ≡ Some 40 → suc p ≤ length text
-      inside p [] e = absurd cc
-      inside zero (c ∷ text) e = omega arith
-      inside (suc p) (c ∷ text) e = omega (arith, inside p text e)
+  deep_or_syntax limit text n p s d = omega (arith, d.longest n s.within s.begins, s.longest (suc p) (get_within p text d.opens) (suc limit, d.begins))
+
+  -- No text has two places where it is too deep.
+  pub one_deep_fault : (limit : ℕ) (text : List ℕ) (n m : ℕ) → IsDeepFault f limit text n → IsDeepFault f limit text m → n ≡ m
+  one_deep_fault limit text n m s r = omega (arith, s.longest m (omega (arith, get_within m text r.opens)) r.before, r.longest n (omega (arith, get_within n text s.opens)) s.before)

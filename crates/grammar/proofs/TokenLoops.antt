@@ -8,11 +8,10 @@ use Rattle.std.proofs.lemmas.Str.Ascii.{IsAscii-nil, IsAscii-cons}
 use Rattle.std.proofs.lemmas.List.{take_all}
 use Rattle.std.proofs.lemmas.Bool.{eqb-true, and_parts, or_cases, leb-true}
 use Rattle.grammar.specs.Octets.{AllPass, among, next_is}
-use Rattle.grammar.specs.Tokens.{is_digit, is_letter, is_name_octet, name}
+use Rattle.grammar.specs.Tokens.{is_digit, is_letter, is_name_octet}
 use Rattle.grammar.specs.TokenReading.{name_len}
 use Rattle.grammar.specs.TextReading.{Read, Wrong, read_word}
 use Rattle.grammar.proofs.Names.{name_all}
-use Rattle.grammar.proofs.Groups.{inside}
 
 -- The text ends inside a word.
 pub word_at_end : (w : List ℕ) (i size : ℕ) (left : List ℕ) (total : Read (Unit {0})) → i < length w → length left < 1 → read_word (drop i w) size left ≡ total → total ≡ Err (Wrong (size - length left))

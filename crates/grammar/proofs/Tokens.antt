@@ -2,7 +2,7 @@
 use Rattle.std.proofs.Common.{◌≡◌, ℕ, Bool, true, List, [], ◌∷◌, ◌++◌, refl, sym, ap, subst, ◌∙◌, append_assoc, arith, inl, inr}
 use Rattle.std.specs.Prelude.{◌⊎◌}
 use Rattle.grammar.specs.Octets.{Follows, IsLonger, StartsAs, StartsIn}
-use Rattle.grammar.specs.Rules.{place, token}
+use Rattle.grammar.specs.Rules.{token}
 use Rattle.grammar.specs.TextReading.{Wrong}
 use Rattle.grammar.specs.Exactness.{Reads, Stops}
 use Rattle.grammar.proofs.Lists.{GoesOn, fronts}

@@ -3,7 +3,7 @@ use Rattle.std.proofs.Common.{◌≡◌, ℕ, ◌+◌, ◌-◌, Bool, List, [], 
 use Rattle.std.proofs.lemmas.Bool.{cond_both, eqb-true, eqb-false}
 use Rattle.grammar.specs.TextReading as reading
 use Rattle.grammar.specs.Octets.{IsLonger, StartsAs}
-use Rattle.grammar.specs.Rules.{place, word}
+use Rattle.grammar.specs.Rules.{word}
 use Rattle.grammar.specs.TextReading.{Deep, Fault, Read, Reader, Wrong, read_word}
 use Rattle.grammar.specs.Exactness.{Deeper, Family, Holds, IsExact, ReadsExactly, Stops}
 use Rattle.grammar.proofs.Lists.{tail_is}

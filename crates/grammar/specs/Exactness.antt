@@ -1,6 +1,6 @@
 -- When a reader reads exactly what a rule spells, and stops at the first octet with which no text of the rule goes on.
 -- All is said of each text that agrees with the one read up to and with the first octet that is left.
-use Rattle.std.specs.Prelude.{◌≡◌, ℕ, zero, suc, ◌+◌, ◌≤◌, Bool, List, [], ◌∷◌, ◌++◌, length, Ok, Err}
+use Rattle.std.specs.Prelude.{◌≡◌, ℕ, suc, ◌+◌, ◌≤◌, Bool, List, [], ◌∷◌, ◌++◌, length, Ok, Err}
 use Rattle.grammar.specs.Octets.{IsLonger, Follows, StartsAs}
 use Rattle.grammar.specs.Rules.{Rule}
 use Rattle.grammar.specs.TextReading.{Fault, Wrong, Deep, Read, Reader}

@@ -1,6 +1,6 @@
 -- Rules of texts. A rule says which octets spell which value, and which octets begin one of its texts. Both are given
 -- by cases on how the rule is made, so a grammar is read aloud as it stands. The rules of this file need no token.
-use Rattle.std.specs.Prelude.{◌≡◌, ℕ, zero, suc, ◌+◌, Bool, ◌⊎◌, List, [], ◌∷◌, ◌++◌, length}
+use Rattle.std.specs.Prelude.{◌≡◌, ℕ, zero, suc, ◌+◌, Bool, ◌⊎◌, List, [], ◌++◌, length}
 use Rattle.grammar.specs.Octets.{AllPass, IsLonger}
 
 -- Spells at s x: the octets s, which stand at the place at of a text, spell x.
@@ -82,9 +82,9 @@ abbrev pub token : {X : Type 0} → (List ℕ → Type 0) → (List ℕ → X) �
 token Is value = record { Spells = λ at s x. Is s × (x ≡ value s); Begins = λ at s. (s ≡ []) ⊎ Is s }
 
 -- At least one octet, each of a kind.
-abbrev pub IsRun : (ℕ → Bool) → List ℕ → Type 0
-IsRun test s = IsLonger s × AllPass test s
+abbrev pub IsNonemptyRun : (ℕ → Bool) → List ℕ → Type 0
+IsNonemptyRun test s = IsLonger s × AllPass test s
 
 -- At least one octet of a kind.
-abbrev pub run_of_one : (ℕ → Bool) → Rule (Unit {0})
-run_of_one test = token (IsRun test) (λ _. tt)
+abbrev pub nonempty_run : (ℕ → Bool) → Rule (Unit {0})
+nonempty_run test = token (IsNonemptyRun test) (λ _. tt)

@@ -50,9 +50,9 @@ abbrev pub read_run : (ℕ → Bool) → Reader (Unit {0})
 read_run test n s = Ok (tt, after_run test s)
 
 -- At least one octet of a kind, and as many as there are.
-abbrev pub read_run_of_one : (ℕ → Bool) → Reader (Unit {0})
-read_run_of_one test n [] = Err (Wrong n)
-read_run_of_one test n (c ∷ s) = if test c then Ok (tt, after_run test s) else Err (Wrong (n - length (c ∷ s)))
+abbrev pub read_nonempty_run : (ℕ → Bool) → Reader (Unit {0})
+read_nonempty_run test n [] = Err (Wrong n)
+read_nonempty_run test n (c ∷ s) = if test c then Ok (tt, after_run test s) else Err (Wrong (n - length (c ∷ s)))
 
 -- The part as often as it begins; fuel is at least the number of octets.
 abbrev pub read_many : {X Y : Type 0} → ℕ → (ℕ → Bool) → (X → Y → X) → Reader Y → X → Reader X

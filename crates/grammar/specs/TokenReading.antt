@@ -3,7 +3,7 @@ use Rattle.std.specs.Prelude.{ℕ, ◌+◌, ◌-◌, ◌*◌, List, [], ◌∷�
 use Rattle.std.specs.List.{prefix_len}
 use Rattle.grammar.specs.Octets.{among}
 use Rattle.grammar.specs.Tokens.{is_letter, is_digit, is_name_octet, is_space}
-use Rattle.grammar.specs.TextReading.{Fault, Wrong, Deep, Reader, ◌>>=◌, ◌>>◌, pure, read_word, read_run, read_run_of_one}
+use Rattle.grammar.specs.TextReading.{Wrong, Deep, Reader, ◌>>=◌, ◌>>◌, pure, read_word, read_run, read_nonempty_run}
 
 -- How many octets of a name stand behind its first.
 abbrev pub name_len : List ℕ → ℕ
@@ -33,7 +33,7 @@ read_spaces = read_run is_space
 
 -- At least one space.
 abbrev pub read_gap : Reader (Unit {0})
-read_gap = read_run_of_one is_space
+read_gap = read_nonempty_run is_space
 
 -- A word or a sign, and the spaces behind it.
 abbrev pub read_sign : List ℕ → Reader (Unit {0})

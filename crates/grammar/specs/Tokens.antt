@@ -1,7 +1,7 @@
 -- The tokens that texts of this exchange share: names, numbers, addresses, spaces, signs and parentheses.
-use Rattle.std.specs.Prelude.{◌≡◌, ℕ, zero, suc, ◌+◌, ◌*◌, ◌-◌, ◌≤◌, Bool, true, ◌&&◌, ◌||◌, ◌==◌, nat_le, List, [], ◌∷◌, length, codes}
+use Rattle.std.specs.Prelude.{◌≡◌, ℕ, ◌+◌, ◌*◌, ◌-◌, ◌≤◌, Bool, true, ◌&&◌, ◌||◌, ◌==◌, nat_le, List, [], ◌∷◌, length, codes}
 use Rattle.grammar.specs.Octets.{AllPass}
-use Rattle.grammar.specs.Rules.{Rule, pure, ◌>>=◌, ◌>>◌, word, run, run_of_one, token}
+use Rattle.grammar.specs.Rules.{Rule, pure, ◌>>=◌, ◌>>◌, word, run, nonempty_run, token}
 
 -- A letter of either case.
 abbrev pub is_letter : ℕ → Bool
@@ -52,7 +52,7 @@ spaces = run is_space
 
 -- At least one space.
 abbrev pub gap : Rule (Unit {0})
-gap = run_of_one is_space
+gap = nonempty_run is_space
 
 -- A word or a sign, and any number of spaces behind it.
 abbrev pub sign : List ℕ → Rule (Unit {0})

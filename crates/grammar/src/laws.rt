@@ -8,13 +8,16 @@ ghost use Rattle.grammar.specs.TextReading.{Reader};
 ghost use Rattle.grammar.specs.Exactness.{IsExact, HasFronts};
 ghost use Rattle.grammar.specs.Texts.{read_whole, Says, IsSyntaxFault, IsDeepFault};
 ghost use Rattle.grammar.specs.Formats.{Format};
+ghost use Rattle.grammar.specs.Numbers.{four_octets};
 ghost use Rattle.grammar.specs.FormatReading as messages;
 ghost use Rattle.grammar.specs.Messages as messages_exactly;
 
 /// A rule of texts for each number of groups that may be open at once, with its reader.
 pub trait TextRule {
     ghost Value: { Type 0 };
+
     ghost rule: { ℕ → Rule Value };
+
     ghost reader: { ℕ → Reader Value };
     /// The octets that may stand behind a text.
     ghost follow: { ℕ → Bool };
@@ -31,8 +34,11 @@ pub trait TextRule {
 /// A format of messages, with its reader.
 pub trait MessageFormat {
     ghost Fault: { Type 0 };
+
     ghost Value: { Type 0 };
+
     ghost format: { Format Fault Value };
+
     ghost reader: { messages.Reader Fault Value };
 
     /// The reader reads exactly what the format spells, and gives its first fault.
@@ -45,8 +51,11 @@ pub struct AddressText;
 
 impl TextRule for AddressText {
     ghost Value = { ℕ };
+
     ghost rule = { λ _. address };
+
     ghost reader = { λ _. read_address };
+
     ghost follow = { λ c. not (is_digit c) };
 
     fn reads_exactly() {}
@@ -54,72 +63,73 @@ impl TextRule for AddressText {
     fn has_fronts() {}
 }
 
+/// Numbers of four octets, whose one fault is that there are fewer.
+pub struct FourOctets;
+
+impl MessageFormat for FourOctets {
+    ghost Fault = { Unit {0} };
+
+    ghost Value = { ℕ };
+
+    ghost format = { four_octets tt };
+
+    ghost reader = { messages.read_four_octets tt };
+
+    fn reads_exactly() {}
+}
+
 /// A text spells one value at most.
 pub fn texts_spell_one_value<T: TextRule>()
-    ensures {
-        (d : ℕ) (text : List ℕ) (x y : T.Value)
-        → (T.rule d).Spells 0 text x → (T.rule d).Spells 0 text y → x ≡ y
-    }
+    ensures { (d : ℕ) (text : List ℕ) (x y : T.Value)
+        → (T.rule d).Spells 0 text x → (T.rule d).Spells 0 text y → x ≡ y }
 {
     T::reads_exactly();
 }
 
 /// A whole text is read as what it spells, or with the place where it is wrong.
 pub fn texts_are_read<T: TextRule>()
-    ensures {
-        (d : ℕ) (text : List ℕ) → Says T.rule d text (read_whole (T.reader d) text)
-    }
+    ensures { (d : ℕ) (text : List ℕ) → Says T.rule d text (read_whole (T.reader d) text) }
 {
     T::reads_exactly();
 }
 
-/// A text is wrong at one place, and is not too deep as well.
+/// A text is wrong at one place or too deep at one place, and never both.
 pub fn places_of_faults_are_one<T: TextRule>()
-    ensures wrong {
-        (d : ℕ) (text : List ℕ) (m n : ℕ)
-        → IsSyntaxFault T.rule d text m → IsSyntaxFault T.rule d text n → m ≡ n
-    }
-    ensures deep {
-        (d : ℕ) (text : List ℕ) (m n : ℕ)
-        → IsSyntaxFault T.rule d text m → IsDeepFault T.rule d text n → ⊥
-    }
+    ensures wrong { (d : ℕ) (text : List ℕ) (m n : ℕ)
+        → IsSyntaxFault T.rule d text m → IsSyntaxFault T.rule d text n → m ≡ n }
+    ensures deep { (d : ℕ) (text : List ℕ) (m n : ℕ)
+        → IsDeepFault T.rule d text m → IsDeepFault T.rule d text n → m ≡ n }
+    ensures apart { (d : ℕ) (text : List ℕ) (m n : ℕ)
+        → IsSyntaxFault T.rule d text m → IsDeepFault T.rule d text n → ⊥ }
 {}
 
 /// Each front of a text that spells something begins a text.
 pub fn fronts_begin_texts<T: TextRule>()
-    ensures {
-        (d : ℕ) (text : List ℕ) (x : T.Value) (k : ℕ)
-        → (T.rule d).Spells 0 text x → (T.rule d).Begins 0 (take k text)
-    }
+    ensures { (d : ℕ) (text : List ℕ) (x : T.Value) (k : ℕ)
+        → (T.rule d).Spells 0 text x → (T.rule d).Begins 0 (take k text) }
 {
     T::has_fronts();
 }
 
 /// Of all fronts of the octets one alone spells something, and it spells one value.
 pub fn messages_spell_one_value<T: MessageFormat>()
-    ensures {
-        (s a b c d : List ℕ) (x y : T.Value) → s ≡ a ++ b → s ≡ c ++ d
-        → T.format.Spells a x → T.format.Spells c y → (a ≡ c) × (x ≡ y)
-    }
+    ensures { (s a b c d : List ℕ) (x y : T.Value) → s ≡ a ++ b → s ≡ c ++ d
+        → T.format.Spells a x → T.format.Spells c y → (a ≡ c) × (x ≡ y) }
 {
     T::reads_exactly();
 }
 
 /// Where a front of the octets spells something, no check fails.
 pub fn messages_spell_or_fail<T: MessageFormat>()
-    ensures {
-        (s a b : List ℕ) (x : T.Value) (e : T.Fault) → s ≡ a ++ b
-        → T.format.Spells a x → T.format.Fails s e → ⊥
-    }
+    ensures { (s a b : List ℕ) (x : T.Value) (e : T.Fault) → s ≡ a ++ b
+        → T.format.Spells a x → T.format.Fails s e → ⊥ }
 {
     T::reads_exactly();
 }
 
 /// There is one first fault.
 pub fn first_faults_are_one<T: MessageFormat>()
-    ensures {
-        (s : List ℕ) (e f : T.Fault) → T.format.Fails s e → T.format.Fails s f → e ≡ f
-    }
+    ensures { (s : List ℕ) (e f : T.Fault) → T.format.Fails s e → T.format.Fails s f → e ≡ f }
 {
     T::reads_exactly();
 }

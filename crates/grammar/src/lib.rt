@@ -4,7 +4,7 @@
 mod laws;
 
 pub use laws::{
-    first_faults_are_one, fronts_begin_texts, messages_spell_or_fail, messages_spell_one_value,
-    places_of_faults_are_one, texts_are_read, texts_spell_one_value, AddressText, MessageFormat,
-    TextRule,
+    AddressText, FourOctets, MessageFormat, TextRule, first_faults_are_one, fronts_begin_texts,
+    messages_spell_one_value, messages_spell_or_fail, places_of_faults_are_one, texts_are_read,
+    texts_spell_one_value,
 };
