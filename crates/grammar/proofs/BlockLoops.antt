@@ -1,7 +1,7 @@
 -- What a loop has read of a block, item by item.
 use Rattle.std.proofs.Common.{◌≡◌, ℕ, zero, suc, ◌≤◌, ◌<◌, List, [], ◌∷◌, ◌++◌, length, Result, Ok, Err, refl, sym, ap, ◌∙◌, append_assoc, arith}
 use Rattle.std.proofs.lemmas.List.{append-nil}
-use Rattle.grammar.specs.Reading.{on_read}
+use Rattle.grammar.specs.Reading.{on_read, Cause, Met, OutOfMemory, Unread, Tells}
 use Rattle.grammar.specs.FormatReading.{Read, Reader, read_all}
 
 -- Items in front of those that are read.
@@ -51,6 +51,13 @@ stops_with {F} {S} {X} part next total state front s fault h some p = go h.fuel 
     go zero (c ∷ s) le e some p = absurd (omega arith)
     go (suc fuel) (c ∷ s) le e some p =
         sym e ∙ ap (λ (r : Read F X). in_front front (on_read r (λ q. on_read (read_all fuel part next (next state q.0) q.1) (λ xs. Ok (q.0 ∷ xs))))) p
+
+-- An error that tells of an item tells of the whole.
+pub stops_reading : {F S X : Type 0} (part : S → Reader F X) (next : S → X → S) (total : Result (List X) F) (state : S) (front : List X) (s : List ℕ) (cause : Cause F)
+    → StillReads part next total state front s → 0 < length s → Tells cause (part state s) → Tells cause total
+stops_reading part next total state front s (Met fault) h some p = stops_with part next total state front s fault h some p
+stops_reading part next total state front s OutOfMemory h some p = tt
+stops_reading part next total state front s Unread h some p = p
 
 -- Nothing is left, and the whole is read.
 pub has_read : {F S X : Type 0} (part : S → Reader F X) (next : S → X → S) (total : Result (List X) F) (state : S) (front : List X) (s : List ℕ)

@@ -42,7 +42,7 @@ any_leads f follow = record { spells = λ e at s n x sp fol. all (s ++ n); begin
     all [] = tt
     all (c ∷ s) = refl
 
-wider : {X : Type 0} (f : Family X) (xs ys : List ℕ) → all_pass (among ys) xs ≡ true → Heads f (among xs) → Heads f (among ys)
+pub wider : {X : Type 0} (f : Family X) (xs ys : List ℕ) → all_pass (among ys) xs ≡ true → Heads f (among xs) → Heads f (among ys)
 wider f xs ys all h = Heads-within f (among xs) (among ys) (among_within xs (among ys) all) h
 
 -- what begins with one of these octets stands well behind spaces

@@ -21,7 +21,7 @@ pure_exact x = record {
   };
 }
 
-octets_front : (n : ℕ) (s a b : List ℕ) → n ≤ length s → s ≡ a ++ b → length a ≡ n → (a ≡ take n s) × (b ≡ drop n s)
+pub octets_front : (n : ℕ) (s a b : List ℕ) → n ≤ length s → s ≡ a ++ b → length a ≡ n → (a ≡ take n s) × (b ≡ drop n s)
 octets_front n s a b le e len = (sym (ap (take n) e ∙ take_at a b n len), sym (ap (drop n) e ∙ drop_at a b n len))
 
 octets_holds : {F : Type 0} (n : ℕ) (fault : F) (s : List ℕ) → Holds (octets n fault) s (read_octets n fault s)

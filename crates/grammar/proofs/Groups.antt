@@ -164,11 +164,11 @@ module _ {X : Type 0} (f : Family X) (follow : ℕ → Bool) where
     pub too_deep_exact : IsExact (deeper_of f) 0 follow read_too_deep
     too_deep_exact = record { reads = too_deep_holds }
 
-parens_heads : {X : Type 0} (f : Family X) → Heads (λ e. parens (f e)) is_open
+pub parens_heads : {X : Type 0} (f : Family X) → Heads (λ e. parens (f e)) is_open
 parens_heads f = sign_heads 40 [] _ is_open refl
 
 -- a rule in parentheses, behind which spaces may stand
-parens_exact : {X : Type 0} (f : Family X) (xs : List ℕ) (d : ℕ) (follow : ℕ → Bool) (rf : Reader X) → all_pass no_space xs ≡ true → Within follow no_space → Heads f (among xs) → IsExact f d (among (codes ")")) rf
+pub parens_exact : {X : Type 0} (f : Family X) (xs : List ℕ) (d : ℕ) (follow : ℕ → Bool) (rf : Reader X) → all_pass no_space xs ≡ true → Within follow no_space → Heads f (among xs) → IsExact f d (among (codes ")")) rf
     → IsExact (λ e. parens (f e)) d follow (read_parens rf)
 unfolding read_parens
 parens_exact f xs d follow rf firsts w heads exact =
@@ -176,10 +176,10 @@ parens_exact f xs d follow rf firsts w heads exact =
     (both_exact f _ d (among (codes ")")) follow (λ x. headed _ (codes ")") follow (among (codes ")")) refl (sign_heads 41 [] _ (among (codes ")")) refl)) _ _
     exact (λ x. sign_then (codes ")") _ d follow _ (pure_leads x follow no_space w) (pure_exact x d follow)))
 
-parens_opens : {X : Type 0} (f : Rule X) (at : ℕ) → (parens f).Begins at (40 ∷ [])
+pub parens_opens : {X : Type 0} (f : Rule X) (at : ℕ) → (parens f).Begins at (40 ∷ [])
 unfolding ◌>>=◌
 parens_opens f at = inl (inl ([], refl))
 
-parens_empty : {X : Type 0} (f : Rule X) (at : ℕ) → (parens f).Begins at []
+pub parens_empty : {X : Type 0} (f : Rule X) (at : ℕ) → (parens f).Begins at []
 unfolding ◌>>=◌
 parens_empty f at = inl (inl (40 ∷ [], refl))

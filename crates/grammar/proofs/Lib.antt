@@ -19,6 +19,7 @@ pub mod Groups
 pub mod DottedAddresses
 pub mod Texts
 pub mod PlainTexts
+pub mod TextAnswers
 pub mod Fronts
 pub mod RepeatLoops
 pub mod TokenLoops
@@ -26,5 +27,6 @@ pub mod FormatExact
 pub mod Blocks
 pub mod FormatNumbers
 pub mod Messages
+pub mod MessageAnswers
 pub mod Conflicts
 pub mod BlockLoops

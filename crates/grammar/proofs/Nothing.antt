@@ -50,7 +50,7 @@ place_leads follow test w = record {
 }
 
 -- a rule behind a place begins as the rule does
-place_heads : {X : Type 0} (g : ℕ → Family X) (to : ℕ → Bool) → ((x : ℕ) → Heads (g x) to) → Heads (both (λ e. place) g) to
+pub place_heads : {X : Type 0} (g : ℕ → Family X) (to : ℕ → Bool) → ((x : ℕ) → Heads (g x) to) → Heads (both (λ e. place) g) to
 unfolding ◌>>=◌
 place_heads g to h = record {
   spells = λ e at s y sp. subst (StartsIn to) (sym (sp.3 ∙ ap (λ (a : List ℕ). a ++ sp.1) sp.4.0)) ((h sp.2).spells e (at + length sp.0) sp.1 y sp.5);

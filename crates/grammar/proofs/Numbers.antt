@@ -16,14 +16,14 @@ pub number_from-append : (v : ℕ) (a b : List ℕ) → number_from v (a ++ b) �
 number_from-append v [] b = refl
 number_from-append v (c ∷ a) b = number_from-append (v * 10 + (c - 48)) a b
 
-number_from_le : (v : ℕ) (s : List ℕ) → v ≤ number_from v s
+pub number_from_le : (v : ℕ) (s : List ℕ) → v ≤ number_from v s
 number_from_le v [] = omega arith
 number_from_le v (c ∷ s) = omega (arith, number_from_le (v * 10 + (c - 48)) s)
 
-digit_low : (c : ℕ) → is_digit c ≡ true → 48 ≤ c
+pub digit_low : (c : ℕ) → is_digit c ≡ true → 48 ≤ c
 digit_low c t = leb-true 48 c (and_parts (leb 48 c) (leb c 57) t).0
 
-digit_high : (c : ℕ) → is_digit c ≡ true → c ≤ 57
+pub digit_high : (c : ℕ) → is_digit c ≡ true → c ≤ 57
 digit_high c t = leb-true c 57 (and_parts (leb 48 c) (leb c 57) t).1
 
 -- the front digits of s go on with v as far as the number stays below high

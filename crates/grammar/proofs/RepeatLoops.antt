@@ -2,7 +2,7 @@
 use Rattle.std.proofs.Common.{◌≡◌, ℕ, zero, suc, ◌≤◌, ◌<◌, Bool, true, false, List, [], ◌∷◌, length, Ok, Err, refl, sym, ap, ◌∙◌, arith}
 use Rattle.std.proofs.lemmas.Bool.{cond-true, cond-false}
 use Rattle.grammar.specs.Octets.{next_is}
-use Rattle.grammar.specs.Reading.{on_read}
+use Rattle.grammar.specs.Reading.{on_read, Cause, Met, OutOfMemory, Unread, Tells}
 use Rattle.grammar.specs.TextReading.{Fault, Read, Reader, read_many}
 
 -- What was read so far, and what is still read, make the whole.
@@ -34,6 +34,12 @@ module _ {X Y : Type 0} (first : ℕ → Bool) (join : X → Y → X) (part : Re
   pub stops_with : (before : X) (s : List ℕ) (fault : Fault) → StillReads first join part n total before s → next_is first s ≡ true → part n s ≡ Err fault → total ≡ Err fault
   stops_with before s fault h t p =
       let k = one_more h.fuel before s h.enough t h.same in sym k.2 ∙ ap (λ (r : Read Y). on_read r (λ q. read_many k.0 first join part (join before q.0) n q.1)) p
+
+  -- An error that tells of a part tells of the whole.
+  pub stops_reading : (before : X) (s : List ℕ) (cause : Cause Fault) → StillReads first join part n total before s → next_is first s ≡ true → Tells cause (part n s) → Tells cause total
+  stops_reading before s (Met fault) h t p = stops_with before s fault h t p
+  stops_reading before s OutOfMemory h t p = tt
+  stops_reading before s Unread h t p = p
 
   -- No part begins, and the whole is read.
   pub has_read : (before : X) (s : List ℕ) → StillReads first join part n total before s → next_is first s ≡ false → total ≡ Ok (before, s)

@@ -45,5 +45,5 @@ Same-trans f g h p q = record {
   begins_back = λ e at s k. p.begins_back e at s (q.begins_back e at s k);
 }
 
-same_heads : {X : Type 0} (f g : Family X) (to : ℕ → Bool) → Same f g → Heads f to → Heads g to
+pub same_heads : {X : Type 0} (f g : Family X) (to : ℕ → Bool) → Same f g → Heads f to → Heads g to
 same_heads f g to same h = record { spells = λ e at s x sp. h.spells e at s x (same.spells_back e at s x sp); begins = λ e at s b. h.begins e at s (same.begins_back e at s b) }

@@ -24,7 +24,7 @@ no_space = besides (32 ∷ [])
 pub spaces_exact : (d : ℕ) (follow : ℕ → Bool) → Apart is_space follow → IsExact (λ e. spaces) d follow read_spaces
 spaces_exact d follow apart = record { reads = λ at s. run_reads is_space follow apart d at s }
 
-space_apart : Apart is_space no_space
+pub space_apart : Apart is_space no_space
 space_apart c h k = go (eqb-true c 32 h)
   where
     go : c ≡ 32 → ⊥
@@ -45,7 +45,7 @@ sign_then w g d follow rg leads exact = both_exact (λ e. sign w) (λ _. g) d no
 pub sign_heads : {X : Type 0} (c : ℕ) (w : List ℕ) (g : Family X) (to : ℕ → Bool) → to c ≡ true → Heads (both (λ e. sign (c ∷ w)) (λ _. g)) to
 sign_heads c w g to t = both_heads (λ e. sign (c ∷ w)) (λ _. g) to (both_heads (λ e. word (c ∷ w)) (λ _ e. spaces) to (word_heads c w to t))
 
-sign_opens : {X : Type 0} (x : ℕ) (w : List ℕ) (g : Rule X) (at c : ℕ) → among (x ∷ []) c ≡ true → (sign (x ∷ w) >>= λ _. g).Begins at (c ∷ [])
+pub sign_opens : {X : Type 0} (x : ℕ) (w : List ℕ) (g : Rule X) (at c : ℕ) → among (x ∷ []) c ≡ true → (sign (x ∷ w) >>= λ _. g).Begins at (c ∷ [])
 unfolding ◌>>=◌
 sign_opens x w g at c h = go (or_cases (eqb c x) false h)
   where
@@ -54,22 +54,22 @@ sign_opens x w g at c h = go (or_cases (eqb c x) false h)
     go (inr e) = absurd cc
 
 -- spaces at the end, and a value
-ends_exact : {X : Type 0} (x : X) (d : ℕ) (follow : ℕ → Bool) → Within follow no_space → IsExact (both (λ e. spaces) (λ _ e. pure x)) d follow (reading.◌>>◌ read_spaces (reading.pure x))
+pub ends_exact : {X : Type 0} (x : X) (d : ℕ) (follow : ℕ → Bool) → Within follow no_space → IsExact (both (λ e. spaces) (λ _ e. pure x)) d follow (reading.◌>>◌ read_spaces (reading.pure x))
 ends_exact x d follow w = spaces_then _ d follow _ (pure_leads x follow no_space w) (pure_exact x d follow)
 
-ends_leads : {X : Type 0} (x : X) (follow to : ℕ → Bool) → to 32 ≡ true → Within follow to → Leads (both (λ e. spaces) (λ _ e. pure x)) follow to
+pub ends_leads : {X : Type 0} (x : X) (follow to : ℕ → Bool) → to 32 ≡ true → Within follow to → Leads (both (λ e. spaces) (λ _ e. pure x)) follow to
 ends_leads x follow to t w = both_leads _ _ follow follow to (run_leads is_space follow to (λ c h. ap to (eqb-true c 32 h) ∙ t) w) (λ _. pure_leads x follow follow (λ c h. h))
 
 -- a place at the end, spaces and a value
-placed_exact : {X : Type 0} (make : ℕ → X) (d : ℕ) (follow : ℕ → Bool) → Within follow no_space
+pub placed_exact : {X : Type 0} (make : ℕ → X) (d : ℕ) (follow : ℕ → Bool) → Within follow no_space
     → IsExact (both (λ e. place) (λ x. both (λ e. spaces) (λ _ e. pure (make x)))) d follow (reading.◌>>=◌ reading.place (λ x. reading.◌>>◌ read_spaces (reading.pure (make x))))
 placed_exact make d follow w = both_exact _ _ d any follow (λ x. any_leads _ follow) _ _ (place_exact d any) (λ x. ends_exact (make x) d follow w)
 
-placed_leads : {X : Type 0} (make : ℕ → X) (follow to : ℕ → Bool) → to 32 ≡ true → Within follow to
+pub placed_leads : {X : Type 0} (make : ℕ → X) (follow to : ℕ → Bool) → to 32 ≡ true → Within follow to
     → Leads (both (λ e. place) (λ x. both (λ e. spaces) (λ _ e. pure (make x)))) follow to
 placed_leads make follow to t w = both_leads _ _ follow to to (place_leads to to (λ c h. h)) (λ x. ends_leads (make x) follow to t w)
 
-letters_no_space : Within is_letter no_space
+pub letters_no_space : Within is_letter no_space
 letters_no_space c h = besides_space c (λ e. go (or_cases (leb 65 c && leb c 90) (leb 97 c && leb c 122) h) e)
   where
     besides_space : (c : ℕ) → (c ≡ 32 → ⊥) → no_space c ≡ true

@@ -42,7 +42,7 @@ front_of text front back n n_is parts = ap (take n) parts ∙ take_at front back
 
 module _ {X : Type 0} (f : Family X) where
   -- no longer front of a text begins one
-  longest_for : (e : ℕ) (text front back : List ℕ) (n : ℕ) → n ≡ length front → text ≡ front ++ back
+  pub longest_for : (e : ℕ) (text front back : List ℕ) (n : ℕ) → n ≡ length front → text ≡ front ++ back
       → ((t : List ℕ) → StartsAs back t → IsLonger t → (f e).Begins 0 (front ++ t) → ⊥)
       → (k : ℕ) → k ≤ length text → (f e).Begins 0 (take k text) → k ≤ n
   longest_for e text front back n n_is parts ends k le b = go (cases_lt n k)

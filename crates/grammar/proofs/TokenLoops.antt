@@ -20,14 +20,14 @@ word_at_end w i size [] total lt le e =
     sym e ∙ ap (λ (v : List ℕ). read_word v size []) (drop-cons w i 0 lt) ∙ ap (λ (n : ℕ). Err (Wrong n)) same
 word_at_end w i size (c ∷ left) total lt le e = absurd (omega arith)
 
-letter_ascii : (c : ℕ) → is_letter c ≡ true → c < 128
+pub letter_ascii : (c : ℕ) → is_letter c ≡ true → c < 128
 letter_ascii c h = go (or_cases (leb 65 c && leb c 90) (leb 97 c && leb c 122) h)
   where
     go : ((leb 65 c && leb c 90) ≡ true) ⊎ ((leb 97 c && leb c 122) ≡ true) → c < 128
     go (inl k) = omega (arith, leb-true c 90 (and_parts (leb 65 c) (leb c 90) k).1)
     go (inr k) = omega (arith, leb-true c 122 (and_parts (leb 97 c) (leb c 122) k).1)
 
-name_octet_ascii : (c : ℕ) → is_name_octet c ≡ true → c < 128
+pub name_octet_ascii : (c : ℕ) → is_name_octet c ≡ true → c < 128
 name_octet_ascii c h = go (or_cases (is_letter c || is_digit c) (eqb c 45 || eqb c 95) h)
   where
     word : (is_letter c ≡ true) ⊎ (is_digit c ≡ true) → c < 128

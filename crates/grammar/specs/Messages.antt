@@ -2,6 +2,7 @@
 use Rattle.std.specs.Prelude.{◌≡◌, ℕ, List, ◌++◌, Result, Ok, Err}
 use Rattle.grammar.specs.Formats.{Format}
 use Rattle.grammar.specs.FormatReading.{Read, Reader}
+use Rattle.grammar.specs.Reading.{Cause, Met, OutOfMemory, Unread}
 
 -- Of all fronts of s this one spells something, it spells x and nothing else, m is left, and no check fails.
 pub record Reads {F X : Type 0} (f : Format F X) (s : List ℕ) (x : X) (m : List ℕ) : Type 0 where
@@ -42,3 +43,9 @@ pub record IsBad {F X : Type 0} (f : Format F X) (b : List ℕ) (fault : F) : Ty
 abbrev pub Says : {F X : Type 0} → Format F X → List ℕ → Result X F → Type 0
 Says f b (Ok x) = IsMessage f b x
 Says f b (Err e) = IsBad f b e
+
+-- Why a whole message was refused. Nothing is said where memory ran out.
+abbrev pub IsMessageCause : {F X : Type 0} → Format F X → List ℕ → Cause F → Type 0
+IsMessageCause f b (Met e) = IsBad f b e
+IsMessageCause f b OutOfMemory = Unit {0}
+IsMessageCause f b Unread = ⊥

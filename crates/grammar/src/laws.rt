@@ -14,11 +14,15 @@ ghost use Rattle.grammar.specs.Messages as messages_exactly;
 
 /// A rule of texts for each number of groups that may be open at once, with its reader.
 pub trait TextRule {
+    /// What a text spells.
     ghost Value: { Type 0 };
 
+    /// The rule, by the number of groups that may be open.
     ghost rule: { ℕ → Rule Value };
 
+    /// Its reader, by the same number.
     ghost reader: { ℕ → Reader Value };
+
     /// The octets that may stand behind a text.
     ghost follow: { ℕ → Bool };
 
@@ -33,12 +37,16 @@ pub trait TextRule {
 
 /// A format of messages, with its reader.
 pub trait MessageFormat {
+    /// What may be wrong with a message.
     ghost Fault: { Type 0 };
 
+    /// What a message spells.
     ghost Value: { Type 0 };
 
+    /// The format, check by check.
     ghost format: { Format Fault Value };
 
+    /// Its reader.
     ghost reader: { messages.Reader Fault Value };
 
     /// The reader reads exactly what the format spells, and gives its first fault.
@@ -46,7 +54,7 @@ pub trait MessageFormat {
         ensures { messages_exactly.IsExact format reader };
 }
 
-/// AddressText, read behind which no digit may stand.
+/// Addresses as four numbers with dots between them, behind which no digit stands.
 pub struct AddressText;
 
 impl TextRule for AddressText {
