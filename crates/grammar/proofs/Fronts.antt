@@ -4,7 +4,7 @@ use Rattle.std.specs.Prelude.{◌⊎◌, codes}
 use Rattle.std.proofs.lemmas.List.{append-nil, take-append-drop}
 use Rattle.grammar.specs.Rules.{BeginsBoth, BeginsTimes, IsNonemptyRun, Rule, SpellsTimes, either, many, maybe, never, place, pure, run, token, word, ◌>>=◌}
 use Rattle.grammar.specs.Tokens.{IsName, IsNumber, address, gap, is_digit, is_letter, is_name_octet, is_space, name, number, number_of, parens, sign, spaces}
-use Rattle.grammar.specs.Exactness.{HasFronts}
+use Rattle.grammar.specs.Exactness.{Family, HasFronts}
 use Rattle.grammar.proofs.Lists.{AllPass-front, GoesOn, fronts, no_front}
 use Rattle.grammar.proofs.Tokens.{IsToken}
 use Rattle.grammar.proofs.Gaps.{nonempty_runs}
@@ -96,6 +96,11 @@ sign_fronts w = both_fronts (word w) (λ _. spaces) (word_fronts w) (λ _. run_f
 pub parens_fronts : {X : Type 0} (f : Rule X) → HasFronts f → HasFronts (parens f)
 parens_fronts f hf =
     both_fronts (sign (codes "(")) _ (sign_fronts (codes "(")) (λ _. both_fronts f _ hf (λ x. both_fronts (sign (codes ")")) _ (sign_fronts (codes ")")) (λ _. pure_fronts x)))
+
+-- A rule that is none where no group may be open, and else a group.
+pub groups_fronts : {X : Type 0} (f inner : Family X) → f zero ≡ never → ((e : ℕ) → f (suc e) ≡ parens (inner e)) → ((d : ℕ) → HasFronts (f d) → HasFronts (inner d)) → (d : ℕ) → HasFronts (f d)
+groups_fronts {X} f inner none group step zero = subst (λ (r : Rule X). HasFronts r) (sym none) never_fronts
+groups_fronts {X} f inner none group step (suc d) = subst (λ (r : Rule X). HasFronts r) (sym (group d)) (parens_fronts (inner d) (step d (groups_fronts f inner none group step d)))
 
 pub address_fronts : HasFronts address
 address_fronts =

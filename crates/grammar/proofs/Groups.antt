@@ -8,11 +8,12 @@ use Rattle.grammar.specs.Tokens.{parens}
 use Rattle.grammar.specs.TokenReading.{read_parens, read_too_deep}
 use Rattle.grammar.specs.TextReading.{Deep, Fault, Read, Reader, Wrong}
 use Rattle.grammar.specs.Exactness.{Covers, Deeper, Family, Holds, IsExact, ReadsExactly, Stops}
-use Rattle.grammar.proofs.Lists.{no_longer}
+use Rattle.grammar.proofs.Lists.{no_longer, never_empty}
 use Rattle.grammar.proofs.OctetKinds.{Within, all_pass, besides, besides_apart, besides_rest, other_kind}
 use Rattle.grammar.proofs.Firsts.{Heads, headed}
 use Rattle.grammar.proofs.Exact.{both_exact, both_heads}
 use Rattle.grammar.proofs.Nothing.{pure_exact, pure_leads}
+use Rattle.grammar.proofs.Same.{Same, same_exact, same_heads}
 use Rattle.grammar.proofs.Spaces.{no_space, sign_heads, sign_then}
 
 -- no group where none may be open, and else one whose inside may have one group fewer
@@ -24,10 +25,6 @@ abbrev pub is_open : ℕ → Bool
 is_open = among (40 ∷ [])
 
 module _ {X : Type 0} (f : Family X) (follow : ℕ → Bool) where
-  never_longer : (front n : List ℕ) → front ++ n ≡ [] → IsLonger n → ⊥
-  never_longer [] n e lo = no_longer n e lo
-  never_longer (c ∷ front) n e lo = cc
-
   pub deeper_heads : Heads f is_open → Heads (deeper_of f) is_open
   deeper_heads h = record { spells = λ e at s x sp. spelt e at s x sp; begins = λ e at s b. begun e at s b }
     where
@@ -63,7 +60,7 @@ module _ {X : Type 0} (f : Family X) (follow : ℕ → Bool) where
       only_case (suc e) a n n' y st sp fol eq = k.only e a n n' y st sp fol eq
 
       ends_case : (e : ℕ) (n : List ℕ) → StartsAs r.1 n → IsLonger n → (deeper_of f e).Begins at (k.front ++ n) → ⊥
-      ends_case zero n st lo b = never_longer k.front n b lo
+      ends_case zero n st lo b = never_empty k.front n lo b
       ends_case (suc e) n st lo b = k.ends e n st lo b
   inside_holds d at s (Err fault) k = record {
     front = k.front;
@@ -89,7 +86,7 @@ module _ {X : Type 0} (f : Family X) (follow : ℕ → Bool) where
       begun (suc e) le = k.begins e (omega arith)
 
       ends_case : (e : ℕ) → Covers fault (suc d) e → (n : List ℕ) → StartsAs k.back n → IsLonger n → (deeper_of f e).Begins at (k.front ++ n) → ⊥
-      ends_case zero cov n st lo b = never_longer k.front n b lo
+      ends_case zero cov n st lo b = never_empty k.front n lo b
       ends_case (suc e) cov n st lo b = k.ends e (fewer fault e cov) n st lo b
 
       none_case : (e : ℕ) → Covers fault (suc d) e → (a n n' : List ℕ) (y : X) → StartsAs k.back n → (deeper_of f e).Spells at a y → Follows follow n' → a ++ n' ≡ k.front ++ n → ⊥
@@ -183,3 +180,47 @@ parens_opens f at = inl (inl ([], refl))
 pub parens_empty : {X : Type 0} (f : Rule X) (at : ℕ) → (parens f).Begins at []
 unfolding ◌>>=◌
 parens_empty f at = inl (inl (40 ∷ [], refl))
+
+-- ---- a rule that is given by the number of groups
+
+-- A rule that is none where no group may be open, and else a group of what may have one group fewer.
+module _ {X : Type 0} (f inner : Family X) (none : f zero ≡ never) (group : (e : ℕ) → f (suc e) ≡ parens (inner e)) where
+  in_group : Family X
+  in_group e = parens (inner e)
+
+  groups_same : Same (deeper_of in_group) f
+  unfolding in_group
+  groups_same = record { spells = λ e at s x h. a e at s x h; spells_back = λ e at s x h. b e at s x h; begins = λ e at s h. c e at s h; begins_back = λ e at s h. d e at s h }
+    where
+      a : (e at : ℕ) (s : List ℕ) (x : X) → (deeper_of in_group e).Spells at s x → (f e).Spells at s x
+      a zero at s x h = absurd h
+      a (suc e) at s x h = subst (λ (r : Rule X). r.Spells at s x) (sym (group e)) h
+
+      b : (e at : ℕ) (s : List ℕ) (x : X) → (f e).Spells at s x → (deeper_of in_group e).Spells at s x
+      b zero at s x h = subst (λ (r : Rule X). r.Spells at s x) none h
+      b (suc e) at s x h = subst (λ (r : Rule X). r.Spells at s x) (group e) h
+
+      c : (e at : ℕ) (s : List ℕ) → (deeper_of in_group e).Begins at s → (f e).Begins at s
+      c zero at s h = subst (λ (r : Rule X). r.Begins at s) (sym none) h
+      c (suc e) at s h = subst (λ (r : Rule X). r.Begins at s) (sym (group e)) h
+
+      d : (e at : ℕ) (s : List ℕ) → (f e).Begins at s → (deeper_of in_group e).Begins at s
+      d zero at s h = subst (λ (r : Rule X). r.Begins at s) none h
+      d (suc e) at s h = subst (λ (r : Rule X). r.Begins at s) (group e) h
+
+  -- It begins with an opening parenthesis.
+  pub groups_heads : Heads f is_open
+  unfolding in_group
+  groups_heads = same_heads _ _ is_open groups_same (deeper_heads in_group is_open (parens_heads inner))
+
+  -- It is read exactly, where what stands in a group is read exactly once the groups in it are.
+  pub groups_exact : (xs : List ℕ) (follow : ℕ → Bool) (rf ri : ℕ → Reader X) → rf zero ≡ read_too_deep → ((d : ℕ) → rf (suc d) ≡ read_parens (ri d))
+      → all_pass no_space xs ≡ true → Within follow no_space → Heads inner (among xs) → ((d : ℕ) → IsExact f d follow (rf d) → IsExact inner d (among (codes ")")) (ri d))
+      → (d : ℕ) → IsExact f d follow (rf d)
+  unfolding in_group
+  groups_exact xs follow rf ri too_deep reads firsts w heads step zero =
+      subst (λ (r : Reader X). IsExact f 0 follow r) (sym too_deep)
+      (same_exact _ _ 0 follow _ groups_same (too_deep_exact in_group follow (parens_heads inner) (λ e at. parens_opens (inner e) at) (λ e at. parens_empty (inner e) at)))
+  groups_exact xs follow rf ri too_deep reads firsts w heads step (suc d) =
+      subst (λ (r : Reader X). IsExact f (suc d) follow r) (sym (reads d))
+      (same_exact _ _ (suc d) follow _ groups_same (inside in_group follow d _ (parens_exact inner xs d follow _ firsts w heads (step d (groups_exact xs follow rf ri too_deep reads firsts w heads step d)))))

@@ -21,6 +21,10 @@ regroup a p q n' front n e h = sym (append_assoc p q n') ∙ ap (λ (t : List �
 pub no_longer : (n : List ℕ) → n ≡ [] → IsLonger n → ⊥
 no_longer n e lo = subst IsLonger e lo
 
+pub never_empty : (front n : List ℕ) → IsLonger n → front ++ n ≡ [] → ⊥
+never_empty [] n lo e = no_longer n e lo
+never_empty (c ∷ front) n lo e = cc
+
 pub tail_is : (b c : ℕ) (s t : List ℕ) → b ∷ s ≡ c ∷ t → s ≡ t
 tail_is b c s t e = cc
 

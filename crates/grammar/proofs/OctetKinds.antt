@@ -1,5 +1,5 @@
 -- Kinds of octets: which lie within which, and which are apart.
-use Rattle.std.proofs.Common.{◌≡◌, ℕ, Bool, true, false, List, [], ◌∷◌, ◌++◌, sym, ap, ◌∙◌, inl, inr, eqb}
+use Rattle.std.proofs.Common.{◌≡◌, ℕ, Bool, true, false, List, [], ◌∷◌, ◌++◌, sym, ap, subst, ◌∙◌, inl, inr, eqb}
 use Rattle.std.specs.Prelude.{◌⊎◌, ◌&&◌, not}
 use Rattle.std.proofs.lemmas.Bool.{eqb-true, both_ways, and_parts, or_cases, not_from_false, not-true}
 use Rattle.grammar.specs.Octets.{Follows, IsLonger, StartsAs, StartsIn, among}
@@ -69,3 +69,11 @@ no_begin first second apart [] [] (x ∷ n) fol st lo h = st
 no_begin first second apart (b ∷ s) [] (x ∷ n) fol st lo h = apart x (ap first (sym st) ∙ fol) h
 no_begin first second apart [] (x ∷ front) n fol st lo h = st
 no_begin first second apart (b ∷ s) (x ∷ front) n fol st lo h = apart x (ap first (sym st) ∙ fol) h
+
+-- Where s begins with an octet of the first kind and front takes some of it, no octet is no text.
+pub not_nothing : (first follow : ℕ → Bool) → Apart first follow → (c : ℕ) (s a front n n' : List ℕ) → first c ≡ true → StartsAs (c ∷ s) (front ++ n) → IsLonger front → Follows follow n' → a ≡ [] → a ++ n' ≡ front ++ n → ⊥
+not_nothing first follow apart c s a [] n n' t st lo fol e eq = lo
+not_nothing first follow apart c s a (x ∷ front) n n' t st lo fol e eq =
+    let same : n' ≡ x ∷ (front ++ n) = ap (λ (w : List ℕ). w ++ n') (sym e) ∙ eq in
+    let f : Follows follow (x ∷ (front ++ n)) = subst (Follows follow) same fol in
+    apart x (ap first (sym st) ∙ t) f

@@ -5,8 +5,8 @@ use Rattle.grammar.specs.Octets.{Follows, IsLonger, StartsAs, StartsIn}
 use Rattle.grammar.specs.Rules.{maybe}
 use Rattle.grammar.specs.TextReading.{Deep, Fault, Read, Reader, Wrong, read_maybe}
 use Rattle.grammar.specs.Exactness.{Covers, Deeper, Family, Holds, IsExact, Reads, ReadsExactly, Stops}
-use Rattle.grammar.proofs.Lists.{no_longer, starts_behind}
-use Rattle.grammar.proofs.OctetKinds.{Apart, Follows-starts, Follows-within, Within}
+use Rattle.grammar.proofs.Lists.{no_longer, starts_behind, never_empty}
+use Rattle.grammar.proofs.OctetKinds.{Apart, Follows-starts, Follows-within, Within, not_nothing}
 use Rattle.grammar.proofs.Firsts.{Heads, Leads}
 
 abbrev pub maybe_of : {X : Type 0} → X → Family X → Family X
@@ -14,18 +14,6 @@ maybe_of x f = λ e. maybe x (f e)
 
 module _ {X : Type 0} (x : X) (f : Family X) (d : ℕ) (first follow : ℕ → Bool) (heads : Heads f first) (apart : Apart first follow)
     (opens : (at c : ℕ) → first c ≡ true → (f d).Begins at (c ∷ [])) where
-  -- where s begins so and front takes some of it, nothing is no text
-  not_nothing : (c : ℕ) (s a front n n' : List ℕ) → first c ≡ true → StartsAs (c ∷ s) (front ++ n) → IsLonger front → Follows follow n' → a ≡ [] → a ++ n' ≡ front ++ n → ⊥
-  not_nothing c s a [] n n' t st lo fol e eq = lo
-  not_nothing c s a (y ∷ front) n n' t st lo fol e eq =
-      let same : n' ≡ y ∷ (front ++ n) = ap (λ (w : List ℕ). w ++ n') (sym e) ∙ eq in
-      let f : Follows follow (y ∷ (front ++ n)) = subst (Follows follow) same fol in
-      apart y (ap first (sym st) ∙ t) f
-
-  never_nothing : (front n : List ℕ) → IsLonger n → front ++ n ≡ [] → ⊥
-  never_nothing [] n lo e = no_longer n e lo
-  never_nothing (y ∷ front) n lo e = cc
-
   takes_some : (at c : ℕ) (s front back : List ℕ) → first c ≡ true → c ∷ s ≡ front ++ back → ((n : List ℕ) → StartsAs back n → IsLonger n → (f d).Begins at (front ++ n) → ⊥) → IsLonger front
   takes_some at c s [] back t e over = absurd (over (c ∷ []) (subst (λ (w : List ℕ). StartsAs w (c ∷ [])) e refl) tt (opens at c t))
   takes_some at c s (y ∷ front) back t e over = tt
@@ -41,12 +29,12 @@ module _ {X : Type 0} (x : X) (f : Family X) (d : ℕ) (first follow : ℕ → B
   }
     where
       ends_case : (e : ℕ) (n : List ℕ) → StartsAs m n → IsLonger n → (maybe_of x f e).Begins at (k.front ++ n) → ⊥
-      ends_case e n st lo (inl b) = never_nothing k.front n lo b
+      ends_case e n st lo (inl b) = never_empty k.front n lo b
       ends_case e n st lo (inr b) = k.ends e n st lo b
 
       only_case : (e : ℕ) (a n n' : List ℕ) (z : X) → StartsAs m n → Follows follow n' → a ++ n' ≡ k.front ++ n → (maybe_of x f e).Spells at a z → (a ≡ k.front) × (n' ≡ n) × (z ≡ y)
       only_case e a n n' z st fol eq (inl sp) =
-          absurd (not_nothing c s a k.front n n' t (starts_behind k.front (c ∷ s) m n k.parts st) (takes_some at c s k.front m t k.parts (λ n st lo b. k.ends d n st lo b)) fol sp.0 eq)
+          absurd (not_nothing first follow apart c s a k.front n n' t (starts_behind k.front (c ∷ s) m n k.parts st) (takes_some at c s k.front m t k.parts (λ n st lo b. k.ends d n st lo b)) fol sp.0 eq)
       only_case e a n n' z st fol eq (inr sp) = k.only e a n n' z st sp fol eq
 
   maybe_stops : (at c : ℕ) (s : List ℕ) (fault : Fault) → first c ≡ true → Stops f d follow at (c ∷ s) fault → Stops (maybe_of x f) d follow at (c ∷ s) fault
@@ -70,12 +58,12 @@ module _ {X : Type 0} (x : X) (f : Family X) (d : ℕ) (first follow : ℕ → B
       deeper_case (Deep p) front back h = (h.0, h.1, inr h.2)
 
       ends_case : (e : ℕ) → Covers fault d e → (n : List ℕ) → StartsAs k.back n → IsLonger n → (maybe_of x f e).Begins at (k.front ++ n) → ⊥
-      ends_case e cov n st lo (inl b) = never_nothing k.front n lo b
+      ends_case e cov n st lo (inl b) = never_empty k.front n lo b
       ends_case e cov n st lo (inr b) = k.ends e cov n st lo b
 
       none_case : (e : ℕ) → Covers fault d e → (a n n' : List ℕ) (z : X) → StartsAs k.back n → Follows follow n' → a ++ n' ≡ k.front ++ n → (maybe_of x f e).Spells at a z → ⊥
       none_case e cov a n n' z st fol eq (inl sp) =
-          not_nothing c s a k.front n n' t (starts_behind k.front (c ∷ s) k.back n k.parts st)
+          not_nothing first follow apart c s a k.front n n' t (starts_behind k.front (c ∷ s) k.back n k.parts st)
           (takes_some at c s k.front k.back t k.parts (λ n st lo b. k.ends d (covers_self fault) n st lo b)) fol sp.0 eq
       none_case e cov a n n' z st fol eq (inr sp) = k.none e cov a n n' z st sp fol eq
 

@@ -7,8 +7,8 @@ use Rattle.grammar.specs.Rules.{BeginsTimes, SpellsTimes, many, ◌>>=◌}
 use Rattle.grammar.specs.Reading.{on_read}
 use Rattle.grammar.specs.TextReading.{Deep, Fault, Read, Reader, Wrong, read_many}
 use Rattle.grammar.specs.Exactness.{Covers, Deeper, Family, Holds, IsExact, Reads, Stops}
-use Rattle.grammar.proofs.Lists.{no_longer, starts_behind}
-use Rattle.grammar.proofs.OctetKinds.{Apart, Follows-starts, Follows-within, Within}
+use Rattle.grammar.proofs.Lists.{no_longer, starts_behind, never_empty}
+use Rattle.grammar.proofs.OctetKinds.{Apart, Follows-starts, Follows-within, Within, not_nothing}
 use Rattle.grammar.proofs.Firsts.{Heads, Leads}
 use Rattle.grammar.proofs.Exact.{both, both_reads, both_stops, both_stops_later}
 
@@ -33,18 +33,6 @@ module _ {X Y : Type 0} (join : X → Y → X) (part : Family Y) (d : ℕ) (firs
 
   abbrev again : X → Y → Family X
   again before y = many_of join part (join before y)
-
-  -- no text is empty where a part begins
-  not_empty : (c : ℕ) (s a front n n' : List ℕ) → first c ≡ true → StartsAs (c ∷ s) (front ++ n) → IsLonger front → Follows follow n' → a ≡ [] → a ++ n' ≡ front ++ n → ⊥
-  not_empty c s a [] n n' t st lo fol e eq = lo
-  not_empty c s a (x ∷ front) n n' t st lo fol e eq =
-      let same : n' ≡ x ∷ (front ++ n) = ap (λ (w : List ℕ). w ++ n') (sym e) ∙ eq in
-      let f : Follows follow (x ∷ (front ++ n)) = subst (Follows follow) same fol in
-      apart x (ap first (sym st) ∙ t) f
-
-  never_empty : (front n : List ℕ) → IsLonger n → front ++ n ≡ [] → ⊥
-  never_empty [] n lo e = no_longer n e lo
-  never_empty (x ∷ front) n lo e = cc
 
   many_reads : (at c : ℕ) (s : List ℕ) (before x : X) (m : List ℕ) → first c ≡ true → Reads (both part (again before)) d follow at (c ∷ s) x m → Reads (many_of join part before) d follow at (c ∷ s) x m
   unfolding ◌>>=◌
@@ -72,7 +60,7 @@ module _ {X Y : Type 0} (join : X → Y → X) (part : Family Y) (d : ℕ) (firs
 
       only_case : (e : ℕ) (a n n' : List ℕ) (y : X) → StartsAs m n → (j : ℕ) → SpellsTimes join (part e) j before at a y → Follows follow n' → a ++ n' ≡ k.front ++ n → (a ≡ k.front) × (n' ≡ n) × (y ≡ x)
       only_case e a n n' y st zero sp fol eq =
-          absurd (not_empty c s a k.front n n' t (starts_behind k.front (c ∷ s) m n k.parts st) (takes_some k.front k.parts (λ n st lo b. ends_case d n st lo 1 b)) fol sp.0 eq)
+          absurd (not_nothing first follow apart c s a k.front n n' t (starts_behind k.front (c ∷ s) m n k.parts st) (takes_some k.front k.parts (λ n st lo b. ends_case d n st lo 1 b)) fol sp.0 eq)
       only_case e a n n' y st (suc j) sp fol eq = k.only e a n n' y st (sp.0, sp.1, sp.2, sp.3, sp.4, (j, sp.5)) fol eq
 
   many_stops : (at c : ℕ) (s : List ℕ) (before : X) (fault : Fault) → first c ≡ true → Stops (both part (again before)) d follow at (c ∷ s) fault → Stops (many_of join part before) d follow at (c ∷ s) fault
@@ -111,7 +99,7 @@ module _ {X Y : Type 0} (join : X → Y → X) (part : Family Y) (d : ℕ) (firs
 
       none_case : (e : ℕ) → Covers fault d e → (a n n' : List ℕ) (y : X) → StartsAs k.back n → (j : ℕ) → SpellsTimes join (part e) j before at a y → Follows follow n' → a ++ n' ≡ k.front ++ n → ⊥
       none_case e cov a n n' y st zero sp fol eq =
-          not_empty c s a k.front n n' t (starts_behind k.front (c ∷ s) k.back n k.parts st) (takes_some k.front k.parts (λ n st lo b. ends_case d (covers_self fault) n st lo 1 b)) fol sp.0 eq
+          not_nothing first follow apart c s a k.front n n' t (starts_behind k.front (c ∷ s) k.back n k.parts st) (takes_some k.front k.parts (λ n st lo b. ends_case d (covers_self fault) n st lo 1 b)) fol sp.0 eq
       none_case e cov a n n' y st (suc j) sp fol eq = k.none e cov a n n' y st (sp.0, sp.1, sp.2, sp.3, sp.4, (j, sp.5)) fol eq
 
   -- where no part begins, the repetition is over

@@ -5,8 +5,8 @@ use Rattle.std.proofs.lemmas.Bool.{eqb-true, both_ways, and_parts, or_cases, leb
 use Rattle.grammar.specs.TextReading as reading
 use Rattle.grammar.specs.Octets.{among}
 use Rattle.grammar.specs.Rules.{Rule, place, pure, word, ◌>>=◌}
-use Rattle.grammar.specs.Tokens.{is_digit, is_letter, is_space, sign, spaces}
-use Rattle.grammar.specs.TokenReading.{read_sign, read_spaces}
+use Rattle.grammar.specs.Tokens.{is_digit, is_letter, is_space, sign, spaces, gap}
+use Rattle.grammar.specs.TokenReading.{read_sign, read_spaces, read_gap}
 use Rattle.grammar.specs.TextReading.{Reader}
 use Rattle.grammar.specs.Exactness.{Family, IsExact}
 use Rattle.grammar.proofs.OctetKinds.{Apart, Within, any, besides}
@@ -16,6 +16,7 @@ use Rattle.grammar.proofs.Nothing.{place_exact, place_leads, pure_exact, pure_le
 use Rattle.grammar.proofs.Words.{word_then}
 use Rattle.grammar.proofs.Runs.{run_leads, run_reads}
 use Rattle.grammar.proofs.Numbers.{digits_within}
+use Rattle.grammar.proofs.Gaps.{nonempty_run_exact, nonempty_run_heads}
 
 abbrev pub no_space : ℕ → Bool
 no_space = besides (32 ∷ [])
@@ -89,3 +90,15 @@ digits_no_space = digits_within no_space (λ c lo hi. not_from_false (eqb c 32 |
     go : (c : ℕ) → 48 ≤ c → (eqb c 32 ≡ true) ⊎ (false ≡ true) → ⊥
     go c lo (inl e) = omega (arith, eqb-true c 32 e)
     go c lo (inr e) = cc
+
+-- ---- at least one space
+
+pub gap_exact : (d : ℕ) (follow : ℕ → Bool) → Apart is_space follow → IsExact (λ e. gap) d follow read_gap
+gap_exact d follow apart = nonempty_run_exact is_space d follow apart
+
+pub gap_then : {X : Type 0} (g : Family X) (d : ℕ) (follow : ℕ → Bool) (rg : Reader X) → Leads g follow no_space → IsExact g d follow rg
+    → IsExact (both (λ e. gap) (λ _. g)) d follow (reading.◌>>◌ read_gap rg)
+gap_then g d follow rg leads exact = both_exact (λ e. gap) (λ _. g) d no_space follow (λ _. leads) read_gap (λ _. rg) (gap_exact d no_space space_apart) (λ _. exact)
+
+pub gap_heads : Heads (λ e. gap) is_space
+gap_heads = nonempty_run_heads is_space

@@ -4,8 +4,8 @@
 use Rattle.std.specs.Prelude.{◌≡◌, ℕ, zero, suc, ◌<◌, Bool, true, false, ◌⊎◌, List, [], ◌∷◌, ◌++◌, length}
 use Rattle.grammar.specs.Octets.{IsLonger}
 
--- Spells s x: the octets s spell x.
--- Fails s e: e is the first fault where the octets s, and what stands behind them, are read.
+-- Spells s x: the octets s, no more and no fewer, spell x.
+-- Fails s e: where s is all that is left of the message, e is the first fault.
 pub record Format (F X : Type 0) : Type 1 where
   pub Spells : List ℕ → X → Type 0
   pub Fails : List ℕ → F → Type 0
