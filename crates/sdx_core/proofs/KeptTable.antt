@@ -3,7 +3,7 @@ use Rattle.std.proofs.Common.{◌≡◌, ℕ, ◌+◌, ◌<◌, ◌≤◌, Bool,
 use Rattle.std.specs.Prelude.{Option, Some, None, find, slice_get, unwrap_or}
 use Rattle.std.specs.FinMap.{get, from_entries, get-from_entries, find as find_key}
 use Rattle.std.specs.List.{filter_map, cons_option}
-use Rattle.std.specs.Option.{option_map, option_map_or, option_and_then}
+use Rattle.std.specs.Option.{option_map, option_map_or, option_and_then, option_or}
 use Rattle.std.specs.Ordering.{nat_cmp, eq_by_cmp, is_eq}
 use Rattle.std.proofs.lemmas.Bool.{eq-eqb, eqb-true, ne_eqb}
 use Rattle.events.specs.Sound.{HasNoRepeats}
@@ -119,3 +119,61 @@ entry_here pair q (Some t) false rules later here none = none ∙ sym (same_both
 entry_here pair q (Some t) true rules later here none =
     ap (λ b. cond b (Some rules) (find_key pair_cmp pair later)) (pair_ties pair q t ∙ ap (λ b. b && nat_eq t.0 pair.tag.0) here)
     ∙ ap (cond (nat_eq t.0 pair.tag.0) (Some rules)) none
+
+same_both : {A : Type 0} (b : Bool) (x : A) → cond b x x ≡ x
+same_both true x = refl
+same_both false x = refl
+
+-- what the entries of one announcement give for a pair
+one_found : (ms : List Participant) (qs : List PortInfo) (a : Announcement) (pair : Pair) → HasNoRepeats (numbers_of qs) → find_key pair_cmp pair (filter_map (table_entry ms a) qs) ≡ cond (has_tag pair.tag a) (option_and_then (rules_for ms a) (find (with_number pair.port) qs)) None
+one_found ms [] a pair apart = sym (same_both (has_tag pair.tag a) None)
+one_found ms (q ∷ qs) a pair apart =
+    let rules : List Rule = rule_to a.port ∷ [] in
+    let later : List (Pair × List Rule) = filter_map (table_entry ms a) qs in
+    ap (λ o. find_key pair_cmp pair (cons_option o later)) (owner_cond (owner_of ms q) a q)
+    ∙ elim (with_number pair.port q) as (λ b. with_number pair.port q ≡ b → find_key pair_cmp pair (cons_option (entry_at q a.tag (receives ms a q.owner) rules) later) ≡ cond (has_tag pair.tag a) (option_and_then (rules_for ms a) (cond b (Some q) (find (with_number pair.port) qs))) None) [
+      | true ↦ λ t. entry_here pair q a.tag (receives ms a q.owner) rules later t
+          (one_found ms qs a pair apart.1 ∙ ap (λ o. cond (has_tag pair.tag a) (option_and_then (rules_for ms a) o) None) (number_once q qs pair.port apart t) ∙ same_both (has_tag pair.tag a) None)
+      | false ↦ λ t. entry_other pair q a.tag (receives ms a q.owner) rules later t ∙ one_found ms qs a pair apart.1
+    ] refl
+
+-- ---- the rules of all announcements
+
+find_append : (pair : Pair) (xs ys : List (Pair × List Rule)) → find_key pair_cmp pair (xs ++ ys) ≡ option_or (find_key pair_cmp pair xs) (find_key pair_cmp pair ys)
+find_append pair [] ys = refl
+find_append pair (x ∷ xs) ys = ap (cond (eq_by_cmp pair_cmp pair x.0) (Some x.1)) (find_append pair xs ys) ∙ or_cond (eq_by_cmp pair_cmp pair x.0) x.1 (find_key pair_cmp pair xs) (find_key pair_cmp pair ys)
+  where
+    or_cond : (b : Bool) (v : List Rule) (o p : Option (List Rule)) → cond b (Some v) (option_or o p) ≡ option_or (cond b (Some v) o) p
+    or_cond true v o p = refl
+    or_cond false v o p = refl
+
+or_none : {A : Type 0} (o p : Option A) → p ≡ None → option_or o p ≡ o
+or_none None p e = e
+or_none (Some x) p e = refl
+
+none_both : {A B : Type 0} (o : Option A) → option_and_then {T = A} {U = B} (λ x. None) o ≡ None
+none_both None = refl
+none_both (Some x) = refl
+
+-- the rules of a pair, by its port and the announcement that has its tag
+abbrev pub rules_at : List Participant → Option PortInfo → Option Announcement → Option (List Rule)
+rules_at ms port announced = option_and_then (λ (q : PortInfo). option_and_then (λ (a : Announcement). rules_for ms a q) announced) port
+
+table_found : (ms : List Participant) (qs : List PortInfo) (n : ℕ) (anns : List Announcement) (pair : Pair) → HasNoRepeats (numbers_of qs) → AreTagged ms n anns → find_key pair_cmp pair (table_entries ms qs anns) ≡ rules_at ms (find (with_number pair.port) qs) (tagged_in anns pair.tag)
+table_found ms qs n [] pair apart tagged = sym (none_both (find (with_number pair.port) qs))
+table_found ms qs n (a ∷ anns) pair apart tagged =
+    let port : Option PortInfo = find (with_number pair.port) qs in
+    let later : Option (List Rule) = find_key pair_cmp pair (table_entries ms qs anns) in
+    let rest : later ≡ rules_at ms port (tagged_in anns pair.tag) = table_found ms qs (cond (is_given_on ms a) (n + 1) n) anns pair apart tagged.1 in
+    find_append pair (filter_map (table_entry ms a) qs) (table_entries ms qs anns)
+    ∙ ap (λ o. option_or o later) (one_found ms qs a pair apart)
+    ∙ elim (has_tag pair.tag a) as (λ b. has_tag pair.tag a ≡ b → option_or (cond b (option_and_then (rules_for ms a) port) None) later ≡ rules_at ms port (cond b (Some a) (tagged_in anns pair.tag))) [
+      | true ↦ λ t. or_none (option_and_then (rules_for ms a) port) later (rest ∙ ap (rules_at ms port) (tagged_once ms n a anns pair.tag tagged t) ∙ none_both port)
+      | false ↦ λ t. rest
+    ] refl
+
+-- a port's rules for a tag: those of the announcement that has the tag, where the port's owner is given it
+pub table_kept : (ms : List Participant) (qs : List PortInfo) (anns : List Announcement) (n : ℕ) → HasNoRepeats (numbers_of qs) → AreTagged ms n anns → (pair : Pair)
+    → get (from_entries {R = pair_cmp} (table_entries ms qs anns)) pair
+    ≡ option_and_then (λ (q : PortInfo). option_and_then (λ (a : Announcement). cond (receives ms a q.owner) (Some (rule_to a.port ∷ [])) None) (tagged_in anns pair.tag)) (find (λ (q : PortInfo). nat_eq q.number.0 pair.port.0) qs)
+table_kept ms qs anns n apart tagged pair = get-from_entries pairs_total (table_entries ms qs anns) pair ∙ table_found ms qs n anns pair apart tagged
