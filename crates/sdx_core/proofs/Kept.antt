@@ -21,9 +21,9 @@ use Rattle.net_types.specs.declared.route.Part.{Part}
 use Rattle.net_types.specs.declared.route.Participant.{Participant}
 use Rattle.net_types.specs.declared.route.PortInfo.{PortInfo}
 use Rattle.net_types.proofs.FindLemmas.{find-IsFound, any_place, any_false, filter_map_none, slice_get_some}
-use Rattle.net_types.proofs.OrderLemmas.{routes_total}
+use Rattle.net_types.proofs.OrderLemmas.{prefixes_total, routes_total}
 use Rattle.net_types.proofs.RouteLemmas.{one_candidate, best_one}
-use Rattle.net_types.proofs.TieLemmas.{prefix_cmp-IsAntisymmetric, same_from_tie, then_ties, nat_ties}
+use Rattle.net_types.proofs.TieLemmas.{prefix_cmp-IsAntisymmetric, same_from_tie, ties_itself, then_ties, nat_ties}
 use Rattle.sdx_core.specs.View.{attrs_of, route_entry, is_receiver, parts_from, routing_of, announced_in, is_announced, receives, is_given_on, AreApart, IsOwn, ForEach}
 use Rattle.sdx_core.specs.declared.announcement.Announcement.{Announcement}
 
@@ -52,6 +52,21 @@ announced_prefix anns p a there =
 
 pub announced_Member : (anns : List Announcement) (p : Prefix) (a : Announcement) → announced_in anns p ≡ Some a → Member a anns
 announced_Member anns p a there = (find-IsFound (λ (b : Announcement). eq_by_cmp prefix_cmp p b.prefix) anns a there).stands
+
+not_both : {A : Type 0} (o : Option A) (x : A) → o ≡ None → o ≡ Some x → ⊥
+not_both o x none some = cc
+
+-- an announcement's own prefix finds it
+pub announced_own : (anns : List Announcement) (a : Announcement) → AreApart anns → Member a anns → announced_in anns a.prefix ≡ Some a
+announced_own [] a apart m = elim m [ ]
+announced_own (b ∷ anns) a apart (inl same) =
+    ap (λ (x : Announcement). announced_in (b ∷ anns) x.prefix) same ∙ ap (λ c. cond c (Some b) (announced_in anns b.prefix)) (ties_itself prefixes_total b.prefix) ∙ ap Some (sym same)
+announced_own (b ∷ anns) a apart (inr m) =
+    let later : announced_in anns a.prefix ≡ Some a = announced_own anns a apart.1 m in
+    elim (eq_by_cmp prefix_cmp a.prefix b.prefix) as (λ c. eq_by_cmp prefix_cmp a.prefix b.prefix ≡ c → cond c (Some b) (announced_in anns a.prefix) ≡ Some a) [
+      | true ↦ λ t. absurd (not_both (announced_in anns a.prefix) a (announced_once b anns a.prefix apart t) later)
+      | false ↦ λ t. later
+    ] refl
 
 pub is_own : (ms : List Participant) (qs : List PortInfo) (anns : List Announcement) → ForEach (IsOwn ms qs) anns → (p : Prefix) (a : Announcement) → announced_in anns p ≡ Some a → IsOwn ms qs a
 is_own ms qs anns own p a there = at_member (IsOwn ms qs) anns a own (announced_Member anns p a there)

@@ -87,10 +87,10 @@ number_once q qs n apart e =
     apart.0 (subst (λ k. Member k (numbers_of qs)) alike (Member-map (λ (y : PortInfo). y.number.0) qs x m))))
 
 -- an entry of the port and the tag, where there is one
-abbrev entry_at : PortInfo → Option Tag → Bool → List Rule → Option (Pair × List Rule)
+abbrev pub entry_at : PortInfo → Option Tag → Bool → List Rule → Option (Pair × List Rule)
 entry_at q tag given rules = cond given (option_map (λ t. (record { port = q.number; tag = t }, rules)) tag) None
 
-owner_cond : (o : Option Participant) (a : Announcement) (q : PortInfo) → option_and_then (λ m. cond (is_receiver a m) (option_map {U = Pair × List Rule} (λ t. (record { port = q.number; tag = t }, rule_to a.port ∷ [])) a.tag) None) o ≡ entry_at q a.tag (option_map_or (is_receiver a) o false) (rule_to a.port ∷ [])
+pub owner_cond : (o : Option Participant) (a : Announcement) (q : PortInfo) → option_and_then (λ m. cond (is_receiver a m) (option_map {U = Pair × List Rule} (λ t. (record { port = q.number; tag = t }, rule_to a.port ∷ [])) a.tag) None) o ≡ entry_at q a.tag (option_map_or (is_receiver a) o false) (rule_to a.port ∷ [])
 owner_cond None a q = refl
 owner_cond (Some m) a q = refl
 
