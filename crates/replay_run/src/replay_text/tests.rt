@@ -1,0 +1,1 @@
+//! Lines with what they are read as, and replies with their texts.
