@@ -53,7 +53,7 @@ fn number_up_to(high: u32, digits: &[u8]) -> Option<u32>
         if !digit.is_ascii_digit() {
             return None;
         }
-        value = value * 10 + u64::from(*digit - b'0');
+        value = 10 * value + u64::from(*digit - b'0');
         if value > u64::from(high) {
             return None;
         }

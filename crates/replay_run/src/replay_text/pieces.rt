@@ -6,8 +6,10 @@ ghost use Rattle.events.specs.Lines.{pieces};
 pub fn split_once(text: &[u8], separator: u8) -> Option<(&[u8], &[u8])>
     ensures { MatchOption result (pieces separator text.now ≡ text.now ∷ []) (λ p. pieces separator text.now ≡ p.0.now ∷ pieces separator p.1.now) }
 {
-    let at = text.iter().position(|c| *c == separator)?;
-    Some((&text[..at], &text[at + 1..]))
+    match text.iter().position(|c| *c == separator) {
+        Some(at) => Some((&text[..at], &text[at + 1..])),
+        None => None,
+    }
 }
 
 /// A text without a separator.

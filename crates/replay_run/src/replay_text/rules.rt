@@ -1,8 +1,7 @@
 //! Writing addresses, prefixes and rules.
-ghost use Rattle.std.specs.Prelude.{◌≡◌, ◌++◌, OnOk, IfOk, string_bytes, codes};
-ghost use Rattle.events.specs.Text.{address_text, prefix_text, number_field, address_field, prefix_field, cube_text, action_text, or_none, rule_text};
-ghost use Rattle.std.specs.Prelude.{map};
-ghost use Rattle.replay_run.specs.Fields.{led, next_lead, more_text, set_text};
+ghost use Rattle.std.specs.Prelude.{◌≡◌, ◌++◌, [], OnOk, IfOk, string_bytes, codes, map};
+ghost use Rattle.events.specs.Text.{address_text, prefix_text, number_field, address_field, prefix_field, cube_text, action_text, in_brackets, or_none, rule_text};
+ghost use Rattle.replay_run.specs.Fields.{cube_fields, led, more_text, next_lead, set_fields};
 
 use net_types::{Action, Assign, Cube, Ip, Memory, Prefix, Rule};
 
@@ -89,28 +88,48 @@ fn widened(number: Option<u8>) -> Option<u16>
     Some(u16::from(number?))
 }
 
-fn push_cube(text: &mut String, cube: &Cube) -> Result<(), Memory>
-    ensures { OnOk result (string_bytes text.new ≡ string_bytes text.old ++ cube_text cube.now) }
+/// Writes the fields that aren't any; gives what would lead another one.
+#[tactic(auto, using(crate::proofs::LedFields::led_rules))]
+fn push_cube_fields(text: &mut String, cube: &Cube) -> Result<&'static str, Memory>
+    ensures written { OnOk result (string_bytes text.new ≡ string_bytes text.old ++ led [] (cube_fields cube.now)) }
+    ensures next { IfOk result (λ next. next.now ≡ next_lead [] (cube_fields cube.now)) }
 {
     let lead = push_prefix_field(text, "", "srcip", cube.src)?;
     let lead = push_prefix_field(text, lead, "dstip", cube.dst)?;
     let lead = push_number_field(text, lead, "proto", widened(cube.proto))?;
     let lead = push_number_field(text, lead, "srcport", cube.sport)?;
-    let lead = push_number_field(text, lead, "dstport", cube.dport)?;
+    push_number_field(text, lead, "dstport", cube.dport)
+}
+
+#[tactic(auto, using(crate::proofs::LedFields::star_rules))]
+fn push_cube(text: &mut String, cube: &Cube) -> Result<(), Memory>
+    ensures { OnOk result (string_bytes text.new ≡ string_bytes text.old ++ cube_text cube.now) }
+{
+    let lead = push_cube_fields(text, cube)?;
     if lead.is_empty() {
         text.push_str("*")?;
     }
     Ok(())
 }
 
-/// Writes the set fields in brackets, where there are some.
-fn push_set(text: &mut String, set: Assign) -> Result<(), Memory>
-    ensures { OnOk result (string_bytes text.new ≡ string_bytes text.old ++ set_text set) }
+/// Writes the set fields behind a bracket; gives what would lead another one.
+#[tactic(auto, using(crate::proofs::LedFields::led_rules))]
+fn push_set_fields(text: &mut String, set: Assign) -> Result<&'static str, Memory>
+    ensures written { OnOk result (string_bytes text.new ≡ string_bytes text.old ++ led (codes "[") (set_fields set)) }
+    ensures next { IfOk result (λ next. next.now ≡ next_lead (codes "[") (set_fields set)) }
 {
     let lead = push_address_field(text, "[", "srcip", set.src)?;
     let lead = push_address_field(text, lead, "dstip", set.dst)?;
     let lead = push_number_field(text, lead, "srcport", set.sport)?;
-    let lead = push_number_field(text, lead, "dstport", set.dport)?;
+    push_number_field(text, lead, "dstport", set.dport)
+}
+
+/// Writes the set fields in brackets, where there are some.
+#[tactic(auto, using(crate::proofs::LedFields::bracket_rules))]
+fn push_set(text: &mut String, set: Assign) -> Result<(), Memory>
+    ensures { OnOk result (string_bytes text.new ≡ string_bytes text.old ++ in_brackets (set_fields set)) }
+{
+    let lead = push_set_fields(text, set)?;
     if lead == "," {
         text.push_str("]")?;
     }
@@ -135,6 +154,7 @@ fn push_more_actions(text: &mut String, actions: &[Action]) -> Result<(), Memory
     Ok(())
 }
 
+#[tactic(auto, using(crate::proofs::LedFields::action_rules))]
 fn push_actions(text: &mut String, actions: &[Action]) -> Result<(), Memory>
     ensures { OnOk result (string_bytes text.new ≡ string_bytes text.old ++ or_none (map action_text actions.now)) }
 {
