@@ -1,13 +1,12 @@
 -- What a line gives is well formed.
-use Rattle.std.proofs.Common.{◌≡◌, ℕ, ◌+◌, ◌≤◌, Bool, true, false, cond, ◌&&◌, List, [], ◌∷◌, refl, arith, nat_le, nat_eq, not, Option, Some, None, codes}
+use Rattle.std.proofs.Common.{◌≡◌, ℕ, ◌+◌, ◌≤◌, Bool, true, false, cond, ◌&&◌, List, [], ◌∷◌, refl, nat_le, nat_eq, not, Option, Some, None, codes}
 use Rattle.std.specs.Prelude.{IfSome, IsTrue}
 use Rattle.std.specs.Option.{option_map, option_and_then}
 use Rattle.std.proofs.lemmas.Bool.{and_parts, leb-true}
 use Rattle.net_types.specs.declared.address.Ip.{Ip}
-use Rattle.net_types.specs.declared.address.Mac.{Mac}
 use Rattle.net_types.specs.declared.policy.PortNo.{PortNo}
 use Rattle.events.specs.declared.Event.{Event}
-use Rattle.events.specs.declared.Event.TheVariants.{Bad, Exchange, Participant, Port, Update, Drain, Packet}
+use Rattle.events.specs.declared.Event.TheVariants.{Exchange, Participant, Port, Update, Drain, Packet}
 use Rattle.events.specs.Lines.{only_if, number, number_within, port_number, as_number, address, hardware_address, is_name, name, bytes, exchange_event, exchange_line, participant_line, port_line, update_line, packet_line, is_short_datagram, is_word, or_bad, event_of_words}
 use Rattle.events.specs.Messages.{is_announcement}
 use Rattle.events.specs.Fits.{IsWellFormed}

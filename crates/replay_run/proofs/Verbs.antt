@@ -1,7 +1,6 @@
 -- Which event a first word gives.
-use Rattle.std.proofs.Common.{◌≡◌, ℕ, Bool, true, false, List, [], ◌∷◌, refl, ap, ◌∙◌, codes}
+use Rattle.std.proofs.Common.{◌≡◌, ℕ, false, List, [], ◌∷◌, refl, ◌∙◌, codes}
 use Rattle.std.proofs.lemmas.Bool.{cond-false}
-use Rattle.events.specs.declared.Event.{Event}
 use Rattle.events.specs.declared.Event.TheVariants.{Bad}
 use Rattle.events.specs.Lines.{event_of_words, is_word}
 

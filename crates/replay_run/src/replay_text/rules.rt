@@ -98,7 +98,8 @@ fn push_cube_fields(text: &mut String, cube: &Cube) -> Result<&'static str, Memo
     let lead = push_prefix_field(text, lead, "dstip", cube.dst)?;
     let lead = push_number_field(text, lead, "proto", widened(cube.proto))?;
     let lead = push_number_field(text, lead, "srcport", cube.sport)?;
-    push_number_field(text, lead, "dstport", cube.dport)
+    let lead = push_number_field(text, lead, "dstport", cube.dport)?;
+    Ok(lead)
 }
 
 #[tactic(auto, using(crate::proofs::LedFields::star_rules))]
@@ -165,7 +166,8 @@ fn push_actions(text: &mut String, actions: &[Action]) -> Result<(), Memory>
         }
         [first, others @ ..] => {
             push_action(text, *first)?;
-            push_more_actions(text, others)
+            push_more_actions(text, others)?;
+            Ok(())
         }
     }
 }

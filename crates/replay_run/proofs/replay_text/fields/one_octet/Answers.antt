@@ -1,4 +1,4 @@
-use Rattle.std.proofs.Common.{arith, sym, ap, ◌∙◌}
+use Rattle.std.proofs.Common.{arith}
 use Rattle.std.proofs.lemmas.Grind.{common_steps}
 use Rattle.replay_run.proofs.HexFields.{one_octet-decode}
 use Rattle.replay_run.proofs.replay_text.fields.one_octet.Goals as goal

@@ -1,4 +1,4 @@
-use Rattle.std.proofs.Common.{◌∙◌, sym, ap, ◌≡◌, ◌∷◌, codes, subst, List, ℕ}
+use Rattle.std.proofs.Common.{rules, sym, ◌≡◌, ◌∷◌, codes, subst, List, ℕ}
 use Rattle.std.specs.Prelude.{IfOk}
 use Rattle.std.specs.Cmp.Lexicographic.{same_text}
 use Rattle.events.specs.Lines.{event_of_words, or_bad, pieces}
@@ -7,7 +7,7 @@ use Rattle.replay_run.proofs.replay_text.lines.words.Goals as goal
 
 pub returns-then-eq-5 : goal.returns-then-eq-5
 returns-then-eq-5 c =
-    let same : c.args.word.now ≡ codes "participant" = same_text c.args.word.now (codes "participant") ? in
+    let same : c.args.word.now ≡ codes "participant" = same_text c.args.word.now (codes "participant") (search rules) in
     subst (λ (w : List ℕ). IfOk c.participant.result (λ event. or_bad event ≡ event_of_words (w ∷ pieces 32 c.args.rest.now))) (sym same) c.participant.ensures
 
 pub returns-else-eq-6 : goal.returns-else-eq-6

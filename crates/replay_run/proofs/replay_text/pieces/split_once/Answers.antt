@@ -1,6 +1,5 @@
-use Rattle.std.proofs.Common.{rules, ◌∙◌, ap, sym, ◌∷◌}
+use Rattle.std.proofs.Common.{rules}
 use Rattle.std.proofs.lemmas.List.{take_rest}
-use Rattle.events.specs.Lines.{pieces}
 use Rattle.replay_run.proofs.PieceSplits.{pieces_none, pieces_at_first}
 use Rattle.replay_run.proofs.replay_text.pieces.split_once.Goals as goal
 
