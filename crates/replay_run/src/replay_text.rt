@@ -1,7 +1,8 @@
 //! Lines are read as events, and replies are written as text.
-mod announcements;
+
 mod fields;
 mod lines;
+mod messages;
 mod pieces;
 mod replies;
 mod rules;

@@ -3,7 +3,7 @@ ghost use Rattle.std.specs.Prelude.{◌≡◌, ◌≤◌, nat_le, IfOk, IfSome, 
 ghost use Rattle.std.specs.List.{list_all};
 ghost use Rattle.events.specs.Lines.{is_letter, is_name, is_name_octet, name, only_if, number_from, number_within, port_number, as_number, address, one_octet, hardware_address, bytes};
 
-use super::pieces::{four, split_once};
+use super::pieces::{four_pieces, split_once};
 use hex::FromHexError;
 use net_types::{Bytes, Ip, Mac, Memory, PortNo};
 use std::alloc::Global;
@@ -98,7 +98,7 @@ pub fn as_number(text: &[u8]) -> Option<u32>
 pub fn address(text: &[u8]) -> Option<Ip>
     ensures { result ≡ address text.now }
 {
-    let (a, b, c, d) = four(text, b'.')?;
+    let (a, b, c, d) = four_pieces(text, b'.')?;
     let a = number_within(0, 255, a)?;
     let b = number_within(0, 255, b)?;
     let c = number_within(0, 255, c)?;
@@ -123,7 +123,7 @@ pub fn hardware_address(text: &[u8]) -> Option<Mac>
 {
     let (a, rest) = split_once(text, b':')?;
     let (b, rest) = split_once(rest, b':')?;
-    let (c, d, e, f) = four(rest, b':')?;
+    let (c, d, e, f) = four_pieces(rest, b':')?;
     Some(Mac([
         one_octet(a)?,
         one_octet(b)?,
@@ -147,7 +147,7 @@ pub fn bytes(alloc: Global, text: &[u8]) -> Result<Option<Bytes>, Memory>
 }
 
 /// A list of these octets.
-pub fn owned(alloc: Global, octets: &[u8]) -> Result<Bytes, Memory>
+pub fn copied(alloc: Global, octets: &[u8]) -> Result<Bytes, Memory>
     ensures { IfOk result (λ list. list ≡ octets.now) }
 {
     Ok(Bytes::from_vec(octets.to_vec(alloc)?))

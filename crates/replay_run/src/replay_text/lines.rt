@@ -5,11 +5,11 @@ ghost use Rattle.events.specs.declared.Event.TheVariants.{Participant, Port, Dra
 ghost use Rattle.events.specs.Lines.{address, event_of, event_of_words, is_skipped, only_if, or_bad, packet_line, pieces, update_line};
 ghost use Rattle.events.specs.Fits.{IsWellFormed};
 
-use super::announcements::{is_announcement, is_short_datagram};
 use super::fields::{
-    address, as_number, bytes, hardware_address, name, number_within, owned, port_number,
+    address, as_number, bytes, copied, hardware_address, name, number_within, port_number,
 };
-use super::pieces::{four, only, split_once, three, two};
+use super::messages::{is_announcement, is_short_datagram};
+use super::pieces::{four_pieces, one_piece, split_once, three_pieces, two_pieces};
 use events::Event;
 use net_types::{Ip, Mac, Memory, PortNo};
 use std::alloc::Global;
@@ -17,7 +17,7 @@ use std::alloc::Global;
 fn exchange(text: &[u8]) -> Option<Event>
     ensures { or_bad result ≡ event_of_words (codes "exchange" ∷ pieces 32 text.now) }
 {
-    let (base, size, capacity) = three(text, b' ')?;
+    let (base, size, capacity) = three_pieces(text, b' ')?;
     let base = address(base)?;
     let size = number_within(1, 65536, size)?;
     let capacity = number_within(1, 1000000, capacity)?;
@@ -46,7 +46,7 @@ fn identifier(text: &[u8]) -> Option<Ip>
 fn participant_fields(text: &[u8]) -> Option<(&[u8], u32, Ip)>
     ensures { or_bad (option_map (λ f. Participant f.0.now f.1 f.2) result) ≡ event_of_words (codes "participant" ∷ pieces 32 text.now) }
 {
-    let (who, asn, id) = three(text, b' ')?;
+    let (who, asn, id) = three_pieces(text, b' ')?;
     let who = name(who)?;
     let asn = as_number(asn)?;
     let id = identifier(id)?;
@@ -59,14 +59,14 @@ fn participant(alloc: Global, text: &[u8]) -> Result<Option<Event>, Memory>
     let Some((name, asn, id)) = participant_fields(text) else {
         return Ok(None);
     };
-    let name = owned(alloc, name)?;
+    let name = copied(alloc, name)?;
     Ok(Some(Event::Participant { name, asn, id }))
 }
 
 fn port_fields(text: &[u8]) -> Option<(&[u8], PortNo, Ip, Mac)>
     ensures { or_bad (option_map (λ f. Port f.0.now f.1 f.2 f.3) result) ≡ event_of_words (codes "port" ∷ pieces 32 text.now) }
 {
-    let (who, number, ip, mac) = four(text, b' ')?;
+    let (who, number, ip, mac) = four_pieces(text, b' ')?;
     let who = name(who)?;
     let number = port_number(number)?;
     let ip = address(ip)?;
@@ -80,7 +80,7 @@ fn port(alloc: Global, text: &[u8]) -> Result<Option<Event>, Memory>
     let Some((name, number, ip, mac)) = port_fields(text) else {
         return Ok(None);
     };
-    let name = owned(alloc, name)?;
+    let name = copied(alloc, name)?;
     Ok(Some(Event::Port {
         name,
         number,
@@ -101,14 +101,14 @@ fn update_event(alloc: Global, who: &[u8], octets: &[u8]) -> Result<Option<Event
     if !is_announcement(bytes.items()) {
         return Ok(None);
     }
-    let name = owned(alloc, who)?;
+    let name = copied(alloc, who)?;
     Ok(Some(Event::Update { name, bytes }))
 }
 
 fn update(alloc: Global, text: &[u8]) -> Result<Option<Event>, Memory>
     ensures { IfOk result (λ event. or_bad event ≡ event_of_words (codes "update" ∷ pieces 32 text.now)) }
 {
-    match two(text, b' ') {
+    match two_pieces(text, b' ') {
         Some((who, octets)) => update_event(alloc, who, octets),
         None => Ok(None),
     }
@@ -117,13 +117,13 @@ fn update(alloc: Global, text: &[u8]) -> Result<Option<Event>, Memory>
 fn drain(alloc: Global, text: &[u8]) -> Result<Option<Event>, Memory>
     ensures { IfOk result (λ event. or_bad event ≡ event_of_words (codes "drain" ∷ pieces 32 text.now)) }
 {
-    let Some(who) = only(text, b' ') else {
+    let Some(who) = one_piece(text, b' ') else {
         return Ok(None);
     };
     let Some(who) = name(who) else {
         return Ok(None);
     };
-    let name = owned(alloc, who)?;
+    let name = copied(alloc, who)?;
     Ok(Some(Event::Drain { name }))
 }
 
@@ -145,14 +145,14 @@ fn packet_event(alloc: Global, port: &[u8], octets: &[u8]) -> Result<Option<Even
 fn packet(alloc: Global, text: &[u8]) -> Result<Option<Event>, Memory>
     ensures { IfOk result (λ event. or_bad event ≡ event_of_words (codes "packet" ∷ pieces 32 text.now)) }
 {
-    match two(text, b' ') {
+    match two_pieces(text, b' ') {
         Some((port, octets)) => packet_event(alloc, port, octets),
         None => Ok(None),
     }
 }
 
 /// The event of a line with this word before the first space and this text behind it.
-fn words(alloc: Global, word: &[u8], rest: &[u8]) -> Result<Option<Event>, Memory>
+fn verb_event(alloc: Global, word: &[u8], rest: &[u8]) -> Result<Option<Event>, Memory>
     ensures { IfOk result (λ event. or_bad event ≡ event_of_words (word.now ∷ pieces 32 rest.now)) }
 {
     if word == b"update".as_slice() {
@@ -185,7 +185,7 @@ fn line_event(alloc: Global, line: &[u8]) -> Result<Event, Memory>
     let Some((word, rest)) = split_once(line, b' ') else {
         return Ok(Event::Bad);
     };
-    match words(alloc, word, rest)? {
+    match verb_event(alloc, word, rest)? {
         Some(event) => Ok(event),
         None => Ok(Event::Bad),
     }

@@ -13,7 +13,7 @@ pub fn split_once(text: &[u8], separator: u8) -> Option<(&[u8], &[u8])>
 }
 
 /// A text without a separator.
-pub fn only(text: &[u8], separator: u8) -> Option<&[u8]>
+pub fn one_piece(text: &[u8], separator: u8) -> Option<&[u8]>
     ensures { MatchOption result (length (pieces separator text.now) ≢ 1) (λ p. pieces separator text.now ≡ p.now ∷ []) }
 {
     match split_once(text, separator) {
@@ -23,28 +23,28 @@ pub fn only(text: &[u8], separator: u8) -> Option<&[u8]>
 }
 
 /// The pieces of a text that has two.
-pub fn two(text: &[u8], separator: u8) -> Option<(&[u8], &[u8])>
+pub fn two_pieces(text: &[u8], separator: u8) -> Option<(&[u8], &[u8])>
     ensures { MatchOption result (length (pieces separator text.now) ≢ 2) (λ p. pieces separator text.now ≡ p.0.now ∷ p.1.now ∷ []) }
 {
     let (a, rest) = split_once(text, separator)?;
-    let b = only(rest, separator)?;
+    let b = one_piece(rest, separator)?;
     Some((a, b))
 }
 
 /// The pieces of a text that has three.
-pub fn three(text: &[u8], separator: u8) -> Option<(&[u8], &[u8], &[u8])>
+pub fn three_pieces(text: &[u8], separator: u8) -> Option<(&[u8], &[u8], &[u8])>
     ensures { MatchOption result (length (pieces separator text.now) ≢ 3) (λ p. pieces separator text.now ≡ p.0.now ∷ p.1.now ∷ p.2.now ∷ []) }
 {
     let (a, rest) = split_once(text, separator)?;
-    let (b, c) = two(rest, separator)?;
+    let (b, c) = two_pieces(rest, separator)?;
     Some((a, b, c))
 }
 
 /// The pieces of a text that has four.
-pub fn four(text: &[u8], separator: u8) -> Option<(&[u8], &[u8], &[u8], &[u8])>
+pub fn four_pieces(text: &[u8], separator: u8) -> Option<(&[u8], &[u8], &[u8], &[u8])>
     ensures { MatchOption result (length (pieces separator text.now) ≢ 4) (λ p. pieces separator text.now ≡ p.0.now ∷ p.1.now ∷ p.2.now ∷ p.3.now ∷ []) }
 {
     let (a, rest) = split_once(text, separator)?;
-    let (b, c, d) = three(rest, separator)?;
+    let (b, c, d) = three_pieces(rest, separator)?;
     Some((a, b, c, d))
 }

@@ -89,7 +89,7 @@ fn widened(number: Option<u8>) -> Option<u16>
 }
 
 /// Writes the fields that aren't any; gives what would lead another one.
-#[tactic(auto, using(crate::proofs::LedFields::led_rules))]
+#[tactic(auto, using(crate::proofs::replay_text::LedFields::led_rules))]
 fn push_cube_fields(text: &mut String, cube: &Cube) -> Result<&'static str, Memory>
     ensures written { OnOk result (string_bytes text.new ≡ string_bytes text.old ++ led [] (cube_fields cube.now)) }
     ensures next { IfOk result (λ next. next.now ≡ next_lead [] (cube_fields cube.now)) }
@@ -102,7 +102,7 @@ fn push_cube_fields(text: &mut String, cube: &Cube) -> Result<&'static str, Memo
     Ok(lead)
 }
 
-#[tactic(auto, using(crate::proofs::LedFields::star_rules))]
+#[tactic(auto, using(crate::proofs::replay_text::LedFields::star_rules))]
 fn push_cube(text: &mut String, cube: &Cube) -> Result<(), Memory>
     ensures { OnOk result (string_bytes text.new ≡ string_bytes text.old ++ cube_text cube.now) }
 {
@@ -114,7 +114,7 @@ fn push_cube(text: &mut String, cube: &Cube) -> Result<(), Memory>
 }
 
 /// Writes the set fields behind a bracket; gives what would lead another one.
-#[tactic(auto, using(crate::proofs::LedFields::led_rules))]
+#[tactic(auto, using(crate::proofs::replay_text::LedFields::led_rules))]
 fn push_set_fields(text: &mut String, set: Assign) -> Result<&'static str, Memory>
     ensures written { OnOk result (string_bytes text.new ≡ string_bytes text.old ++ led (codes "[") (set_fields set)) }
     ensures next { IfOk result (λ next. next.now ≡ next_lead (codes "[") (set_fields set)) }
@@ -126,7 +126,7 @@ fn push_set_fields(text: &mut String, set: Assign) -> Result<&'static str, Memor
 }
 
 /// Writes the set fields in brackets, where there are some.
-#[tactic(auto, using(crate::proofs::LedFields::bracket_rules))]
+#[tactic(auto, using(crate::proofs::replay_text::LedFields::bracket_rules))]
 fn push_set(text: &mut String, set: Assign) -> Result<(), Memory>
     ensures { OnOk result (string_bytes text.new ≡ string_bytes text.old ++ in_brackets (set_fields set)) }
 {
@@ -155,7 +155,7 @@ fn push_more_actions(text: &mut String, actions: &[Action]) -> Result<(), Memory
     Ok(())
 }
 
-#[tactic(auto, using(crate::proofs::LedFields::action_rules))]
+#[tactic(auto, using(crate::proofs::replay_text::LedFields::action_rules))]
 fn push_actions(text: &mut String, actions: &[Action]) -> Result<(), Memory>
     ensures { OnOk result (string_bytes text.new ≡ string_bytes text.old ++ or_none (map action_text actions.now)) }
 {

@@ -1,6 +1,6 @@
 use Rattle.std.proofs.Common.{arith}
 use Rattle.std.proofs.lemmas.Grind.{common_steps}
-use Rattle.replay_run.proofs.HexFields.{bytes-decode}
+use Rattle.replay_run.proofs.replay_text.HexFields.{bytes-decode}
 use Rattle.replay_run.proofs.replay_text.fields.bytes.Goals as goal
 
 pub returns-in-Ok : goal.returns-in-Ok

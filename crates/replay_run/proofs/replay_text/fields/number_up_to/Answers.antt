@@ -1,6 +1,6 @@
 use Rattle.std.proofs.Common.{rules, arith, ap, ◌∙◌, sym, drop, ◌+◌, ◌*◌, ◌-◌, ◌≡◌, true, get_or, nat_le}
 use Rattle.events.specs.Lines.{is_digit, only_if}
-use Rattle.replay_run.proofs.Numerals.{number_more, number_above}
+use Rattle.replay_run.proofs.replay_text.Numerals.{number_more, number_above}
 use Rattle.replay_run.proofs.replay_text.fields.number_up_to.Goals as goal
 
 pub returns-then-value-from : goal.returns-then-value-from

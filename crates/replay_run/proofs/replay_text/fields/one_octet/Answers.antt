@@ -1,6 +1,6 @@
 use Rattle.std.proofs.Common.{arith}
 use Rattle.std.proofs.lemmas.Grind.{common_steps}
-use Rattle.replay_run.proofs.HexFields.{one_octet-decode}
+use Rattle.replay_run.proofs.replay_text.HexFields.{one_octet-decode}
 use Rattle.replay_run.proofs.replay_text.fields.one_octet.Goals as goal
 
 pub returns-in-Ok : goal.returns-in-Ok

@@ -1,6 +1,6 @@
 use Rattle.std.proofs.Common.{rules}
 use Rattle.std.proofs.lemmas.List.{take_rest}
-use Rattle.replay_run.proofs.PieceSplits.{pieces_none, pieces_at_first}
+use Rattle.replay_run.proofs.replay_text.PieceSplits.{pieces_none, pieces_at_first}
 use Rattle.replay_run.proofs.replay_text.pieces.split_once.Goals as goal
 
 pub returns-in-Some : goal.returns-in-Some

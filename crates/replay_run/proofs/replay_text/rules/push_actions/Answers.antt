@@ -1,7 +1,7 @@
 use Rattle.std.proofs.Common.{ap, sym, ◌∙◌, ◌++◌, ◌-◌, append_assoc, arith, length, take, drop}
 use Rattle.std.specs.Prelude.{string_bytes}
 use Rattle.replay_run.specs.Fields.{more_text}
-use Rattle.replay_run.proofs.LedFields.{actions-first}
+use Rattle.replay_run.proofs.replay_text.LedFields.{actions-first}
 use Rattle.replay_run.proofs.replay_text.rules.push_actions.Goals as goal
 
 pub returns-in_ok-push_more_actions-in-len1-up : goal.returns-in_ok-push_more_actions-in-len1-up

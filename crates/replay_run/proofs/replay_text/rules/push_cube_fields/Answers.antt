@@ -2,7 +2,7 @@ use Rattle.std.proofs.Common.{ap, ◌∙◌, ◌++◌, [], codes}
 use Rattle.std.specs.Prelude.{string_bytes}
 use Rattle.events.specs.Text.{prefix_field, number_field}
 use Rattle.replay_run.specs.Fields.{led}
-use Rattle.replay_run.proofs.LedFields.{more_led, more_next}
+use Rattle.replay_run.proofs.replay_text.LedFields.{more_led, more_next}
 use Rattle.replay_run.proofs.replay_text.rules.push_cube_fields.Goals as goal
 
 pub returns-clause-written : goal.returns-clause-written

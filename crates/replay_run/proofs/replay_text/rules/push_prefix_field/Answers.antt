@@ -2,7 +2,7 @@ use Rattle.std.proofs.Common.{ap, sym, ◌∙◌, ◌++◌}
 use Rattle.std.specs.Prelude.{string_bytes}
 use Rattle.events.specs.Text.{prefix_text}
 use Rattle.replay_run.specs.Fields.{led}
-use Rattle.replay_run.proofs.LedFields.{prefix-some, written_field}
+use Rattle.replay_run.proofs.replay_text.LedFields.{prefix-some, written_field}
 use Rattle.replay_run.proofs.replay_text.rules.push_prefix_field.Goals as goal
 
 pub returns-clause-written : goal.returns-clause-written

@@ -2,8 +2,8 @@ use Rattle.std.proofs.Common.{rules, sym, ◌≡◌, ◌∷◌, codes, subst, Li
 use Rattle.std.specs.Prelude.{IfOk}
 use Rattle.std.specs.Cmp.Lexicographic.{same_text}
 use Rattle.events.specs.Lines.{event_of_words, or_bad, pieces}
-use Rattle.replay_run.proofs.Verbs.{other_word}
-use Rattle.replay_run.proofs.replay_text.lines.words.Goals as goal
+use Rattle.replay_run.proofs.replay_text.Verbs.{other_word}
+use Rattle.replay_run.proofs.replay_text.lines.verb_event.Goals as goal
 
 pub returns-then-eq-5 : goal.returns-then-eq-5
 returns-then-eq-5 c =

@@ -1,6 +1,6 @@
 use Rattle.std.proofs.Common.{arith, ap, length}
-use Rattle.replay_run.proofs.PieceSplits.{pieces_some}
-use Rattle.replay_run.proofs.replay_text.pieces.only.Goals as goal
+use Rattle.replay_run.proofs.replay_text.PieceSplits.{pieces_some}
+use Rattle.replay_run.proofs.replay_text.pieces.one_piece.Goals as goal
 
 pub returns-in-Some : goal.returns-in-Some
 returns-in-Some c =
