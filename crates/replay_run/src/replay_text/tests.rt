@@ -239,13 +239,31 @@ fn a_twin_of_a_line_is_refused(rt: HostRuntime) -> Result<(), Fail> {
     Ok(())
 }
 
+fn name_of(event: &Option<Event>) -> &[u8] {
+    match event {
+        Some(Event::Participant { name, .. }) => name.items(),
+        Some(Event::Port { name, .. }) => name.items(),
+        Some(Event::Update { name, .. }) => name.items(),
+        Some(Event::Drain { name }) => name.items(),
+        _ => &[],
+    }
+}
+
+fn bytes_of(event: &Option<Event>) -> &[u8] {
+    match event {
+        Some(Event::Update { bytes, .. }) => bytes.items(),
+        Some(Event::Packet { bytes, .. }) => bytes.items(),
+        _ => &[],
+    }
+}
+
 #[test]
 fn a_line_of_each_kind_is_read(rt: HostRuntime) -> Result<(), Fail> {
     let alloc = rt.alloc();
     let exchange = read_line(alloc, b"exchange 172.16.0.0 4096 100000")?;
     assert!(rt;
         matches!(
-            exchange,
+            &exchange,
             Some(Event::Exchange {
                 base: Ip(2886729728),
                 size: 4096,
@@ -255,14 +273,24 @@ fn a_line_of_each_kind_is_read(rt: HostRuntime) -> Result<(), Fail> {
     );
     let participant = read_line(alloc, b"participant Abc_9-z 65001 1.0.0.2")?;
     assert!(rt;
-        matches!(participant, Some(Event::Participant { name, asn: 65001, id: Ip(16777218) }) if name.items() == b"Abc_9-z".as_slice())
+        matches!(
+            &participant,
+            Some(Event::Participant {
+                asn: 65001,
+                id: Ip(16777218),
+                ..
+            })
+        )
     );
+    assert!(rt; name_of(&participant) == b"Abc_9-z".as_slice());
     let port = read_line(alloc, b"port A 65279 172.16.1.2 02:0a:0B:fF:00:91")?;
+    let mac = Mac([2, 10, 11, 255, 0, 145]);
     assert!(rt;
-        matches!(port, Some(Event::Port { name, number: PortNo(65279), ip: Ip(2886729986), mac: Mac([2, 10, 11, 255, 0, 145]) }) if name.items() == b"A".as_slice())
+        matches!(&port, Some(Event::Port { number: PortNo(65279), ip: Ip(2886729986), mac: read, .. }) if *read == mac)
     );
+    assert!(rt; name_of(&port) == b"A".as_slice());
     let drain = read_line(alloc, b"drain a")?;
-    assert!(rt; matches!(drain, Some(Event::Drain { name }) if name.items() == b"a".as_slice()));
+    assert!(rt; name_of(&drain) == b"a".as_slice());
     Ok(())
 }
 
@@ -273,16 +301,22 @@ fn octets_of_either_case_are_read(rt: HostRuntime) -> Result<(), Fail> {
         alloc,
         b"update B FFFFFFFFFFFFFFFFFFFFFFFFFFFFFFFF002B0200000012400101004002040201FDEA400304AC100102080A",
     )?;
-    assert!(rt;
-        matches!(update, Some(Event::Update { name, bytes }) if name.items() == b"B".as_slice() && bytes.items() == UPDATE.as_slice())
-    );
+    assert!(rt; name_of(&update) == b"B".as_slice());
+    assert!(rt; bytes_of(&update) == UPDATE.as_slice());
     let packet = read_line(
         alloc,
         b"packet 2 4500001C000000004011aCccC00002010a01020303e8005000080000",
     )?;
     assert!(rt;
-        matches!(packet, Some(Event::Packet { port: PortNo(2), bytes }) if bytes.items() == DATAGRAM.as_slice())
+        matches!(
+            &packet,
+            Some(Event::Packet {
+                port: PortNo(2),
+                ..
+            })
+        )
     );
+    assert!(rt; bytes_of(&packet) == DATAGRAM.as_slice());
     Ok(())
 }
 
