@@ -1,8 +1,8 @@
 -- Fields that are written one after the other.
 use Rattle.std.specs.Prelude.{ℕ, List, [], ◌∷◌, ◌++◌, codes, flat_map}
-use Rattle.net_types.specs.declared.policy.Action.{Action}
-use Rattle.net_types.specs.declared.policy.Assign.{Assign}
-use Rattle.net_types.specs.declared.policy.Cube.{Cube}
+use Rattle.net_types.specs.declared.rule.Action.{Action}
+use Rattle.net_types.specs.declared.headers.Assign.{Assign}
+use Rattle.net_types.specs.declared.cube.Cube.{Cube}
 use Rattle.events.specs.Text.{action_text, address_field, number_field, prefix_field}
 
 -- Fields with commas between them, and before the first one what leads them.

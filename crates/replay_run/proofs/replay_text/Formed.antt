@@ -4,12 +4,12 @@ use Rattle.std.specs.Prelude.{IfSome, IsTrue}
 use Rattle.std.specs.Option.{option_map, option_and_then}
 use Rattle.std.proofs.lemmas.Bool.{and_parts, leb-true}
 use Rattle.net_types.specs.declared.address.Ip.{Ip}
-use Rattle.net_types.specs.declared.policy.PortNo.{PortNo}
+use Rattle.net_types.specs.declared.address.PortNo.{PortNo}
 use Rattle.events.specs.declared.Event.{Event}
 use Rattle.events.specs.declared.Event.TheVariants.{Exchange, Participant, Port, Update, Drain, Packet}
-use Rattle.events.specs.Lines.{only_if, number, number_within, port_number, as_number, address, hardware_address, is_name, name, bytes, exchange_event, exchange_line, participant_line, port_line, update_line, packet_line, is_short_datagram, is_word, or_bad, event_of_words}
-use Rattle.events.specs.Messages.{is_announcement}
 use Rattle.events.specs.Fits.{IsWellFormed}
+use Rattle.events.specs.Lines.{only_if, number, number_within, port_number, as_number, address, hardware_address, is_name, name, bytes, exchange_event, exchange_line, participant_line, port_line, update_line, packet_line, is_word, or_bad, event_of_words}
+use Rattle.events.specs.Restricted.{is_short_datagram, is_announcement}
 
 then_holds : {X Y : Type 0} (P : X → Type 0) (Q : Y → Type 0) (o : Option X) (f : X → Option Y) → IfSome o P → ((x : X) → P x → IfSome (f x) Q) → IfSome (option_and_then f o) Q
 then_holds P Q None f h next = tt

@@ -1,7 +1,6 @@
 //! Which octets this exchange takes as an UPDATE or as a datagram.
 ghost use Rattle.std.specs.Prelude.{◌≡◌};
-ghost use Rattle.events.specs.Lines.{is_short_datagram};
-ghost use Rattle.events.specs.Messages.{is_announcement};
+ghost use Rattle.events.specs.Restricted.{is_short_datagram, is_announcement};
 
 /// Marker, length 43, type UPDATE, nothing withdrawn, 18 octets of attributes, and the head of ORIGIN.
 const HEAD: [u8; 26] = [

@@ -19,7 +19,7 @@ pub fn push_address(text: &mut String, ip: Ip) -> Result<(), Memory>
 pub fn push_prefix(text: &mut String, prefix: Prefix) -> Result<(), Memory>
     ensures { OnOk result (string_bytes text.new ≡ string_bytes text.old ++ prefix_text prefix) }
 {
-    push_address(text, prefix.ip)?;
+    push_address(text, prefix.address)?;
     let len = prefix.len;
     write!(text, "/{len}")?;
     Ok(())

@@ -1,6 +1,6 @@
 use Rattle.std.proofs.Common.{sym, subst}
-use Rattle.events.specs.Lines.{pieces}
 use Rattle.events.specs.Fits.{IsWellFormed}
+use Rattle.events.specs.Lines.{pieces}
 use Rattle.replay_run.proofs.replay_text.Formed.{words_formed}
 use Rattle.replay_run.proofs.replay_text.lines.read_line.Goals as goal
 
