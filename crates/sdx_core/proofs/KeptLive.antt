@@ -27,7 +27,7 @@ use Rattle.net_types.specs.declared.route.Participant.{Participant}
 use Rattle.net_types.specs.declared.route.PortInfo.{PortInfo}
 use Rattle.net_types.specs.declared.rule.Pair.{Pair}
 use Rattle.net_types.specs.declared.rule.Rule.{Rule}
-use Rattle.net_types.proofs.FindLemmas.{find-IsFound, slice_get_some}
+use Rattle.net_types.proofs.FindLemmas.{is_some-cond, find-IsFound, slice_get_some}
 use Rattle.net_types.proofs.OrderLemmas.{prefixes_total, pairs_total}
 use Rattle.net_types.proofs.SetLemmas.{map-append}
 use Rattle.net_types.proofs.TieLemmas.{ties_itself}
@@ -113,11 +113,7 @@ module _ (phase : Phase) (base : Ip) (size capacity : ℕ) (ms : List Participan
 
   some_rules : (q : PortInfo) (o : Option Announcement) → is_some (option_and_then (λ (a : Announcement). rules_for ms a q) o) ≡ is_told ms q.owner o
   some_rules q None = refl
-  some_rules q (Some a) = some_cond (receives ms a q.owner) (rule_to a.port ∷ [])
-    where
-      some_cond : (b : Bool) (x : List Rule) → is_some (cond b (Some x) None) ≡ b
-      some_cond true x = refl
-      some_cond false x = refl
+  some_rules q (Some a) = is_some-cond (receives ms a q.owner) (rule_to a.port ∷ [])
 
   pub owner_declared : (pair : Pair) (q : PortInfo) → port_of s pair.port ≡ Some q → q.owner.0 < length ms
   owner_declared pair q e = at_member (HasOwner ms) qs q kept.owners (find-IsFound (with_number pair.port) qs q e).stands
