@@ -4,11 +4,11 @@ ghost use Rattle.std.specs.Prelude.{◌≡◌, Some};
 mod inputs;
 
 use crate::{Failed, Sink, SinkFault, SinkOf, SinkOk, Source, SourceOf, SourceOk, Status, run};
+use net_types::{Items, Memory, Steps, Text, Words};
 use inputs::{
     FIRST_INPUT, FIRST_OUTPUT, NOT_DRAINED_INPUT, NOT_DRAINED_OUTPUT, REFUSALS_INPUT,
     REFUSALS_OUTPUT, TWO_PREFIXES_INPUT, TWO_PREFIXES_OUTPUT,
 };
-use net_types::{Items, Memory, Steps, Text, Words};
 use sdx_core::Sdx;
 use std::alloc::Global;
 use std::marker::Brand;
@@ -154,8 +154,8 @@ fn calls_fail_as_listed(rt: HostRuntime) -> Result<(), Fail> {
     Ok(())
 }
 
-#[test]
-fn runs_without_a_line(rt: HostRuntime) -> Result<(), Fail> {
+/// Runs that read no line.
+fn cases_without_lines<'c>() -> [Case<'c>; 5] {
     let empty = replays("an empty input", b"", Status::Done, "");
     let usage = Case {
         input: b"exchange 172.16.0.0 8 64\n",
@@ -164,7 +164,7 @@ fn runs_without_a_line(rt: HostRuntime) -> Result<(), Fail> {
         status: Status::Usage,
         ..empty
     };
-    let cases = [
+    [
         empty,
         Case {
             name: "the first read fails",
@@ -187,29 +187,18 @@ fn runs_without_a_line(rt: HostRuntime) -> Result<(), Fail> {
             words: &["Replay"],
             ..usage
         },
-    ];
-    for case in cases {
-        let passed = passes::<Brand>(&rt, Blank::new(1), case)?;
-        assert!(rt; passed, "{}", case.name);
-    }
-    Ok(())
+    ]
 }
 
-#[test]
-fn runs_with_faults(rt: HostRuntime) -> Result<(), Fail> {
+/// Lines that are skipped, with reads that fail.
+fn skipped_cases<'c>() -> [Case<'c>; 3] {
     let skipped = replays(
         "lines that are skipped",
         b"# one\n\n#\n\n\n# no end",
         Status::Done,
         "",
     );
-    let refused = replays(
-        "lines that are refused",
-        b"x\n# skipped\n\ny\nz",
-        Status::Refused,
-        "1 refused line\n4 refused line\n5 refused line\n",
-    );
-    let cases = [
+    [
         skipped,
         Case {
             name: "the second read fails",
@@ -218,14 +207,30 @@ fn runs_with_faults(rt: HostRuntime) -> Result<(), Fail> {
             ..skipped
         },
         Case {
-            name: "a third read would fail",
+            name: "a third read and a write would fail",
             failing_reads: &[2],
             failing_writes: &[0],
             ..skipped
         },
+    ]
+}
+
+fn refused_case<'c>() -> Case<'c> {
+    replays(
+        "lines that are refused",
+        b"x\n# skipped\n\ny\nz",
+        Status::Refused,
+        "1 refused line\n4 refused line\n5 refused line\n",
+    )
+}
+
+/// Refused lines, with reads and writes that fail.
+fn refused_cases<'c>() -> [Case<'c>; 4] {
+    let refused = refused_case();
+    [
         refused,
         Case {
-            name: "the line without an end is not answered",
+            name: "a line without an end is not answered",
             failing_reads: &[1],
             status: Status::ReadFault,
             output: "1 refused line\n4 refused line\n",
@@ -245,91 +250,54 @@ fn runs_with_faults(rt: HostRuntime) -> Result<(), Fail> {
             output: "1 refused line\n4 refused line\n",
             ..refused
         },
-    ];
-    for case in cases {
-        let passed = passes::<Brand>(&rt, Blank::new(1), case)?;
-        assert!(rt; passed, "{}", case.name);
-    }
-    Ok(())
+    ]
 }
 
-#[test]
-fn runs_octet_by_octet(rt: HostRuntime) -> Result<(), Fail> {
-    let whole = replays(
-        "lines that are refused",
-        b"x\n# skipped\n\ny\nz",
-        Status::Refused,
-        "1 refused line\n4 refused line\n5 refused line\n",
-    );
-    let cases = [
-        whole,
+/// The same, where one octet is read or written at a time.
+fn slowly_refused_cases<'c>() -> [Case<'c>; 4] {
+    let refused = refused_case();
+    [
+        refused,
         Case {
             name: "a read fails before an end",
             failing_reads: &[1],
             status: Status::ReadFault,
             output: "",
-            ..whole
+            ..refused
         },
         Case {
             name: "a read fails behind an end",
             failing_reads: &[2],
             status: Status::ReadFault,
             output: "1 refused line\n",
-            ..whole
+            ..refused
         },
         Case {
             name: "a write fails within a reply",
             failing_writes: &[17],
             status: Status::WriteFault,
             output: "1 refused line\n4 ",
-            ..whole
+            ..refused
         },
-        replays(
-            "an announcement, a drain and a packet",
-            FIRST_INPUT.as_bytes(),
-            Status::Done,
-            FIRST_OUTPUT,
-        ),
-    ];
-    for case in cases {
-        let passed = passes_slowly::<Brand>(&rt, Blank::new(1), case)?;
-        assert!(rt; passed, "{}", case.name);
-    }
-    Ok(())
+    ]
 }
 
-#[test]
-fn long_lines_are_refused(rt: HostRuntime) -> Result<(), Fail> {
-    let longest = vec![in rt.alloc(); b'#'; 20000]?;
-    let longer = vec![in rt.alloc(); b'#'; 20001]?;
-    let far_longer = vec![in rt.alloc(); b'#'; 200000]?;
-    let cases = [
-        replays("the longest line", &longest, Status::Done, ""),
-        replays(
-            "an octet more",
-            &longer,
-            Status::Refused,
-            "1 refused line\n",
-        ),
+/// Comments of 20000 octets, of one more, and of many pieces.
+fn long_cases<'c>(longest: &'c [u8], longer: &'c [u8], far_longer: &'c [u8]) -> [Case<'c>; 3] {
+    [
+        replays("the longest line", longest, Status::Done, ""),
+        replays("an octet more", longer, Status::Refused, "1 refused line\n"),
         replays(
             "many pieces",
-            &far_longer,
+            far_longer,
             Status::Refused,
             "1 refused line\n",
         ),
-    ];
-    for case in cases {
-        let passed = passes::<Brand>(&rt, Blank::new(1), case)?;
-        assert!(rt; passed, "{}", case.name);
-        let passed_slowly = passes_slowly::<Brand>(&rt, Blank::new(1), case)?;
-        assert!(rt; passed_slowly, "{}", case.name);
-    }
-    Ok(())
+    ]
 }
 
-#[test]
-fn exchanges_run(rt: HostRuntime) -> Result<(), Fail> {
-    let cases = [
+fn exchange_cases<'c>() -> [Case<'c>; 4] {
+    [
         replays(
             "an announcement, a drain and a packet",
             FIRST_INPUT.as_bytes(),
@@ -354,9 +322,37 @@ fn exchanges_run(rt: HostRuntime) -> Result<(), Fail> {
             Status::Done,
             NOT_DRAINED_OUTPUT,
         ),
-    ];
-    for case in cases {
-        let passed = passes::<Brand>(&rt, Blank::new(1), case)?;
+    ]
+}
+
+#[test]
+fn runs_end_and_write_as_they_should(rt: HostRuntime) -> Result<(), Fail> {
+    let longest = vec![in rt.alloc(); b'#'; 20000]?;
+    let longer = vec![in rt.alloc(); b'#'; 20001]?;
+    let far_longer = vec![in rt.alloc(); b'#'; 200000]?;
+    let mut cases = Vec::from_slice(rt.alloc(), &cases_without_lines())?;
+    cases.extend_from_slice(&skipped_cases())?;
+    cases.extend_from_slice(&refused_cases())?;
+    cases.extend_from_slice(&long_cases(&longest, &longer, &far_longer))?;
+    cases.extend_from_slice(&exchange_cases())?;
+    for case in &cases {
+        let passed = passes::<Brand>(&rt, Blank::new(1), *case)?;
+        assert!(rt; passed, "{}", case.name);
+    }
+    Ok(())
+}
+
+#[test]
+fn runs_octet_by_octet_do_the_same(rt: HostRuntime) -> Result<(), Fail> {
+    let longest = vec![in rt.alloc(); b'#'; 20000]?;
+    let longer = vec![in rt.alloc(); b'#'; 20001]?;
+    let far_longer = vec![in rt.alloc(); b'#'; 200000]?;
+    let mut cases = Vec::from_slice(rt.alloc(), &cases_without_lines())?;
+    cases.extend_from_slice(&slowly_refused_cases())?;
+    cases.extend_from_slice(&long_cases(&longest, &longer, &far_longer))?;
+    cases.extend_from_slice(&exchange_cases())?;
+    for case in &cases {
+        let passed = passes_slowly::<Brand>(&rt, Blank::new(1), *case)?;
         assert!(rt; passed, "{}", case.name);
     }
     Ok(())

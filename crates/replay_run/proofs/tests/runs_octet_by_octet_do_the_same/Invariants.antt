@@ -1,4 +1,4 @@
-use Rattle.replay_run.proofs.tests.runs_octet_by_octet.Given as goal
+use Rattle.replay_run.proofs.tests.runs_octet_by_octet_do_the_same.Given as goal
 
 -- the ledger of the counter
 abbrev pub ghosts-passes_slowly : goal.ghosts-passes_slowly

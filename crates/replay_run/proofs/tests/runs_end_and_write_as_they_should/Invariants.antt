@@ -1,4 +1,4 @@
-use Rattle.replay_run.proofs.tests.exchanges_run.Given as goal
+use Rattle.replay_run.proofs.tests.runs_end_and_write_as_they_should.Given as goal
 
 -- the ledger of the counter
 abbrev pub ghosts-passes : goal.ghosts-passes
