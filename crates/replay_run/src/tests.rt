@@ -4,11 +4,11 @@ ghost use Rattle.std.specs.Prelude.{◌≡◌, Some};
 mod inputs;
 
 use crate::{Failed, Sink, SinkFault, SinkOf, SinkOk, Source, SourceOf, SourceOk, Status, run};
-use net_types::{Items, Memory, Steps, Text, Words};
 use inputs::{
     FIRST_INPUT, FIRST_OUTPUT, NOT_DRAINED_INPUT, NOT_DRAINED_OUTPUT, REFUSALS_INPUT,
     REFUSALS_OUTPUT, TWO_PREFIXES_INPUT, TWO_PREFIXES_OUTPUT,
 };
+use net_types::{Items, Memory, Steps, Text, Words};
 use sdx_core::Sdx;
 use std::alloc::Global;
 use std::marker::Brand;

@@ -10,8 +10,8 @@ use std::test::Fail;
 
 const EVERYTHING: Cube = Cube {
     inport: None,
-    src: Prefix { ip: Ip(0), len: 0 },
-    dst: Prefix { ip: Ip(0), len: 0 },
+    src: Prefix { address: Ip(0), len: 0 },
+    dst: Prefix { address: Ip(0), len: 0 },
     proto: None,
     sport: None,
     dport: None,
@@ -21,11 +21,11 @@ const EVERYTHING: Cube = Cube {
 const ALL_FIELDS: Cube = Cube {
     inport: None,
     src: Prefix {
-        ip: Ip(2147483648),
+        address: Ip(2147483648),
         len: 1,
     },
     dst: Prefix {
-        ip: Ip(167838211),
+        address: Ip(167838211),
         len: 32,
     },
     proto: Some(17),
@@ -101,7 +101,7 @@ fn octets(alloc: Global) -> Result<Bytes, Memory> {
 /// A reply with details of each kind.
 fn full_reply(alloc: Global) -> Result<Reply, Memory> {
     let prefix = Prefix {
-        ip: Ip(167772160),
+        address: Ip(167772160),
         len: 8,
     };
     let mut tags = TagChanges::new(alloc);
