@@ -1,6 +1,6 @@
 -- When an UPDATE is taken, by the tests that the code makes.
 use Rattle.std.proofs.Common.{◌≡◌, ℕ, zero, suc, ◌+◌, ◌≤◌, ◌<◌, Bool, true, false, cond, ◌&&◌, ◌||◌, not, nat_eq, nat_lt, nat_le, List, [], ◌∷◌, length, sym, ap, subst, ◌∙◌, refl, arith, slice_index_or}
-use Rattle.std.specs.Prelude.{Option, Some, None, IfNone, is_some, find, slice_get}
+use Rattle.std.specs.Prelude.{Option, Some, None, is_some, find, slice_get}
 use Rattle.std.specs.List.{list_any}
 use Rattle.std.specs.Option.{option_map, option_map_or}
 use Rattle.std.proofs.lemmas.Bool.{or_from, or_left, or_right, eq-eqb, ltb-true, ltb-false, le-leb, lt-leb, not_from_true, not_from_false}
@@ -15,10 +15,6 @@ use Rattle.sdx_core.specs.Building.{is_at, kept_of, has_others, is_inadmissible,
 use Rattle.sdx_core.specs.View.{is_announced, tag_at_place, tag_count}
 use Rattle.sdx_core.specs.declared.announcement.Announcement.{Announcement}
 use Rattle.sdx_core.specs.declared.bgp_update.ShortUpdate.{ShortUpdate}
-
-pub when_none : {A : Type 0} (o : Option A) (P : Type 0) → P → IfNone o P
-when_none None P h = h
-when_none (Some x) P h = tt
 
 -- what stands at a place in range
 pub got : {A : Type 0} (xs : List A) (k : ℕ) (x : A) → k < length xs → x ≡ slice_index_or xs k x → slice_get xs k ≡ Some x
