@@ -12,6 +12,7 @@ use Rattle.events.specs.declared.Phase.{Phase}
 use Rattle.events.specs.declared.Phase.TheVariants.{Running}
 use Rattle.net_types.proofs.OrderLemmas.{prefixes_total}
 use Rattle.net_types.specs.Keys.{prefix_cmp}
+use Rattle.net_types.specs.declared.address.Ip.{Ip}
 use Rattle.net_types.specs.declared.address.Tag.{Tag}
 use Rattle.net_types.specs.declared.route.Participant.{Participant}
 use Rattle.net_types.specs.declared.route.PortInfo.{PortInfo}
@@ -158,10 +159,10 @@ no_new_entries ms (q ∷ qs) a is =
     ∙ no_entry a (owner_of ms q) (new_entries ms qs a) (no_new_entries ms qs a is)
 
 -- the lists with one announcement more are kept
-pub kept_more : (phase : Phase) (size capacity : ℕ) (ms : List Participant) (qs : List PortInfo) (anns : List Announcement) (ns : List ℕ) (rules : ℕ) (a : Announcement) (more room : ℕ) → IsKept phase size capacity ms qs anns ns rules
+pub kept_more : (phase : Phase) (size capacity : ℕ) (ms : List Participant) (qs : List PortInfo) (anns : List Announcement) (ns : List ℕ) (rules : ℕ) (base : Ip) (a : Announcement) (more room : ℕ) → IsKept phase size capacity ms qs anns ns rules base
     → IsOwn ms qs a → is_announced a.prefix anns ≡ false → a.tag ≡ tag_at_place (is_given_on ms a) (tag_count anns) → tag_count anns + one_if (is_given_on ms a) ≤ size
-    → more ≡ length (new_entries ms qs a) → rules + more ≤ room → IsKept Running size room ms qs (anns ++ a ∷ []) ns (rules + more)
-kept_more phase size capacity ms qs anns ns rules a more room kept own new tag free counted fits = record {
+    → more ≡ length (new_entries ms qs a) → rules + more ≤ room → IsKept Running size room ms qs (anns ++ a ∷ []) ns (rules + more) base
+kept_more phase size capacity ms qs anns ns rules base a more room kept own new tag free counted fits = record {
   told = kept.told;
   few = kept.few;
   early = tt;
@@ -176,4 +177,6 @@ kept_more phase size capacity ms qs anns ns rules a more room kept own new tag f
     let whole : length (table_entries ms qs (anns ++ a ∷ [])) ≡ length (table_entries ms qs anns ++ new_entries ms qs a) = ap length (entries_more ms qs anns a) in omega arith);
   room = fits;
   addresses = kept.addresses;
+  small = kept.small;
+  low = kept.low;
 }
