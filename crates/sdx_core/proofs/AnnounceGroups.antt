@@ -1,0 +1,211 @@
+-- The prefixes that one announcement more changes: its own alone, where it is given on.
+use Rattle.std.proofs.Common.{◌≡◌, ℕ, zero, suc, ◌+◌, ◌≤◌, ◌<◌, Bool, true, false, cond, ◌&&◌, ◌||◌, not, nat_eq, nat_lt, nat_le, List, [], ◌∷◌, ◌++◌, length, map, filter, take, sym, ap, subst, ◌∙◌, refl, arith, inl, inr}
+use Rattle.std.specs.Prelude.{Option, Some, None, is_some, slice_get, ◌⊎◌}
+use Rattle.std.specs.Cmp.Lexicographic.{pointwise}
+use Rattle.std.specs.List.{list_any, filter_map, position_from}
+use Rattle.std.specs.Option.{option_map, option_map_or, option_and_then}
+use Rattle.std.specs.Ordering.{eq_by_cmp}
+use Rattle.std.specs.FinMap.{FinMap, get, insert, keys, from_entries, get-from_entries, from_entries_push, same_map}
+use Rattle.std.specs.FinMap as maps
+use Rattle.std.proofs.lemmas.Bool.{and_from, and_parts, and_left, and_right, or_parts, eq-eqb, le-ltb, lt-ltb, le-leb, lt-leb, cases_lt, not_from_true, not_from_false, false_from_ne_true}
+use Rattle.std.proofs.lemmas.List.{map-append}
+use Rattle.events.specs.After.{with_route}
+use Rattle.events.specs.State.{State}
+use Rattle.events.specs.Tags.{is_carried, carried, is_changed, Group, same_group, group_of, groups, each_once, fresh_tag, new_tag, tags_after, free_tags, same_tag}
+use Rattle.events.specs.declared.Phase.{Phase}
+use Rattle.events.specs.declared.Phase.TheVariants.{Running}
+use Rattle.net_types.proofs.KeyLemmas.{filter_keys_one}
+use Rattle.net_types.proofs.MapLemmas.{get-tabulate}
+use Rattle.net_types.proofs.OrderLemmas.{prefixes_total, routes_total}
+use Rattle.net_types.proofs.TieLemmas.{prefix_cmp-IsAntisymmetric, route_cmp-IsAntisymmetric, same_from_tie, ties_itself}
+use Rattle.net_types.specs.Attributes.{same_option, same_signature, same_part, same_offer}
+use Rattle.net_types.specs.Exports.{Routing, route}
+use Rattle.net_types.specs.Keys.{prefix_cmp, tag_cmp, route_cmp}
+use Rattle.net_types.specs.Maps.{tabulate}
+use Rattle.net_types.specs.Routes.{announced}
+use Rattle.net_types.specs.Sets.{Member}
+use Rattle.net_types.specs.Signatures.{signature}
+use Rattle.net_types.specs.declared.address.Ip.{Ip}
+use Rattle.net_types.specs.declared.address.Tag.{Tag}
+use Rattle.net_types.specs.declared.prefix.Prefix.{Prefix}
+use Rattle.net_types.specs.declared.route.Attrs.{Attrs}
+use Rattle.net_types.specs.declared.route.Offer.{Offer}
+use Rattle.net_types.specs.declared.route.Part.{Part}
+use Rattle.net_types.specs.declared.route.Participant.{Participant}
+use Rattle.net_types.specs.declared.route.PortInfo.{PortInfo}
+use Rattle.sdx_core.specs.View.{attrs_of, route_entry, tag_entry, parts_from, state_of, routing_of, is_announced, announced_in, AreApart, ForEach, AreTagged, IsOwn, IsKept, is_given_on, tag_at_place, tag_count}
+use Rattle.sdx_core.proofs.AnnounceLists.{any_more, find_more, find_last, is_some-any, each_more, apart_more}
+use Rattle.sdx_core.proofs.AnnounceTags.{tag_of, first_free_tag, no_free_tag}
+use Rattle.sdx_core.proofs.Kept.{key_of, route_from, route_kept, announced_none, announced_prefix, announced_Member, carried_kept, signature_kept}
+use Rattle.sdx_core.proofs.KeptMaps.{tag_kept, tagged_in, signature_of_tag, announced_listed}
+use Rattle.sdx_core.proofs.KeptTable.{tagged_member}
+use Rattle.sdx_core.proofs.Soundness.{tagged_where_given}
+use Rattle.sdx_core.specs.declared.announcement.Announcement.{Announcement}
+
+-- ---- what is the same as itself
+
+same_offers : (os : List Offer) → pointwise same_offer os os ≡ true
+same_offers [] = refl
+same_offers (o ∷ os) = and_from _ _ (and_from _ _ (eq-eqb o.exporter.0 o.exporter.0 refl) (eq-eqb o.port.0 o.port.0 refl)) (same_offers os)
+
+pub same_parts : (ps : List Part) → same_signature ps ps ≡ true
+same_parts [] = refl
+same_parts (p ∷ ps) = and_from _ _ (and_from _ _ (eq-eqb p.sender.0 p.sender.0 refl) (and_from _ _ (eq-eqb p.best.0 p.best.0 refl) (same_offers p.offers))) (same_parts ps)
+
+same_before : (o : Option Tag) → same_option same_tag o o ≡ true
+same_before None = refl
+same_before (Some t) = eq-eqb t.0 t.0 refl
+
+same_itself : (g : Group) → same_group g g ≡ true
+same_itself g = and_from (same_option same_tag g.before g.before) (same_signature g.after g.after) (same_before g.before) (same_parts g.after)
+
+-- ---- lists
+
+filter_twice : {A : Type 0} (f g : A → Bool) (xs : List A) → filter f (filter g xs) ≡ filter (λ x. g x && f x) xs
+filter_twice f g [] = refl
+filter_twice f g (x ∷ xs) = elim (g x) as (λ b. filter f (cond b (x ∷ filter g xs) (filter g xs)) ≡ cond (b && f x) (x ∷ filter (λ x. g x && f x) xs) (filter (λ x. g x && f x) xs)) [
+    | true ↦ ap (λ ys. cond (f x) (x ∷ ys) ys) (filter_twice f g xs)
+    | false ↦ filter_twice f g xs
+  ]
+
+pub filter_nothing : {A : Type 0} (f : A → Bool) (xs : List A) → ((x : A) → f x ≡ false) → filter f xs ≡ []
+filter_nothing f [] h = refl
+filter_nothing f (x ∷ xs) h = ap (λ b. cond b (x ∷ filter f xs) (filter f xs)) (h x) ∙ filter_nothing f xs h
+
+nonempty : {A : Type 0} (xs : List A) (x : A) → slice_get xs 0 ≡ Some x → 1 ≤ length xs
+nonempty [] x e = cc
+nonempty (y ∷ xs) x e = omega arith
+
+some_there : {A : Type 0} (o : Option A) → is_some o ≡ true → (x : A) × (o ≡ Some x)
+some_there None e = absurd (cc)
+some_there (Some x) e = (x, refl)
+
+none_there : {A : Type 0} (o : Option A) → is_some o ≡ false → o ≡ None
+none_there None e = refl
+none_there (Some x) e = cc
+
+clash : (b : Bool) → b ≡ true → b ≡ false → ⊥
+clash b t f = cc
+
+-- where an entry is there, the prefix is listed
+where_listed : {X : Type 0} (f : Announcement → Option X) (listed : Bool) (o : Option Announcement) (x : Option X) → x ≡ option_and_then f o → ((b : Announcement) → o ≡ Some b → listed ≡ true) → cond listed x None ≡ option_and_then f o
+where_listed f true o x is h = is
+where_listed f false None x is h = refl
+where_listed f false (Some b) x is h = absurd (clash false (h b refl) refl)
+
+module _ (phase : Phase) (base : Ip) (size capacity : ℕ) (ms : List Participant) (qs : List PortInfo) (anns : List Announcement) (ns : List ℕ) (rules : ℕ) (kept : IsKept phase size capacity ms qs anns ns rules base) (a : Announcement) (own : IsOwn ms qs a) (new : is_announced a.prefix anns ≡ false) (tag : a.tag ≡ tag_at_place (is_given_on ms a) (tag_count anns)) where
+  abbrev before : State
+  before = state_of phase base size capacity ms qs anns ns
+
+  abbrev more : List Announcement
+  more = anns ++ a ∷ []
+
+  abbrev routing : Routing
+  routing = routing_of ms qs (anns ++ a ∷ [])
+
+  pub more_apart : AreApart (anns ++ a ∷ [])
+  more_apart = apart_more anns a kept.apart new
+
+  pub more_own : ForEach (IsOwn ms qs) (anns ++ a ∷ [])
+  more_own = each_more (IsOwn ms qs) anns a kept.own own
+
+  -- ---- the announcement of a prefix in the longer list
+
+  pub in_new : announced_in (anns ++ a ∷ []) a.prefix ≡ Some a
+  in_new = find_last (λ (b : Announcement). eq_by_cmp prefix_cmp a.prefix b.prefix) anns a new ∙ ap (λ c. cond c (Some a) None) (ties_itself prefixes_total a.prefix)
+
+  pub in_old : (q : Prefix) (b : Announcement) → announced_in anns q ≡ Some b → announced_in (anns ++ a ∷ []) q ≡ Some b
+  in_old q b there = find_more (λ (x : Announcement). eq_by_cmp prefix_cmp q x.prefix) anns a b there
+
+  pub in_none : (q : Prefix) → is_announced q anns ≡ false → eq_by_cmp prefix_cmp q a.prefix ≡ false → announced_in (anns ++ a ∷ []) q ≡ None
+  in_none q none other = find_last (λ (x : Announcement). eq_by_cmp prefix_cmp q x.prefix) anns a none ∙ ap (λ c. cond c (Some a) None) other
+
+  -- ---- routes
+
+  no_route : maps.find route_cmp (key_of a.from a.prefix) (map route_entry anns) ≡ None
+  no_route = sym (get-from_entries routes_total (map route_entry anns) (key_of a.from a.prefix)) ∙ route_kept ms qs anns kept.apart a.from a.prefix ∙ ap (option_and_then (route_from a.from)) (announced_none anns a.prefix new)
+
+  -- the routes are those of the longer list
+  pub new_routing : with_route (routing_of ms qs anns) a.from a.prefix (attrs_of a) ≡ routing_of ms qs (anns ++ a ∷ [])
+  new_routing =
+      let same : insert (from_entries {R = route_cmp} (map route_entry anns)) (key_of a.from a.prefix) (attrs_of a) ≡ from_entries (map route_entry (anns ++ a ∷ [])) =
+      sym (ap from_entries (map-append route_entry anns (a ∷ [])) ∙ from_entries_push routes_total route_cmp-IsAntisymmetric (map route_entry anns) (key_of a.from a.prefix) (attrs_of a) no_route) in
+      λ i. record (routing_of ms qs anns) { routes = same i }
+
+  -- ---- what is changed
+
+  changed_new : is_changed before routing a.prefix ≡ true
+  changed_new =
+      ap (λ o. not (same_option same_signature (option_and_then (get before.kept) o) (Some (signature routing a.prefix)))) (tag_kept anns kept.apart a.prefix ∙ ap (option_and_then (λ (b : Announcement). b.tag)) (announced_none anns a.prefix new))
+
+  changed_old : (q : Prefix) (b : Announcement) → announced_in anns q ≡ Some b → is_given_on ms b ≡ true → is_changed before routing q ≡ false
+  changed_old q b there given =
+      let m : Member b anns = announced_Member anns q b there in
+      let t = some_there b.tag (tagged_where_given ms 0 anns b kept.tagged m ∙ given) in
+      let has : get before.tag q ≡ Some t.0 = tag_kept anns kept.apart q ∙ ap (option_and_then (λ (x : Announcement). x.tag)) there ∙ t.1 in
+      let sig : get before.kept t.0 ≡ Some (parts_from 0 ms b) =
+      signature_of_tag ms anns t.0 ∙ ap (option_map (λ (x : Announcement). parts_from 0 ms x)) (tagged_member ms 0 anns b t.0 kept.tagged m (ap (λ o. same_option same_tag o (Some t.0)) t.1 ∙ eq-eqb t.0.0 t.0.0 refl)) in
+      let same : signature routing q ≡ parts_from 0 ms b = signature_kept ms qs (anns ++ a ∷ []) more_apart more_own q b (in_old q b there) in
+      ap (λ o. not (same_option same_signature (option_and_then (get before.kept) o) (Some (signature routing q)))) has
+      ∙ ap (λ o. not (same_option same_signature o (Some (signature routing q)))) sig
+      ∙ ap (λ ps. not (same_signature (parts_from 0 ms b) ps)) same
+      ∙ ap not (same_parts (parts_from 0 ms b))
+
+  carried_at : (q : Prefix) (o : Option Announcement) → announced_in (anns ++ a ∷ []) q ≡ o → is_carried routing q ≡ option_map_or (is_given_on ms) o false
+  carried_at q o is = carried_kept ms qs (anns ++ a ∷ []) more_apart more_own q ∙ ap (λ x. option_map_or (is_given_on ms) x false) is
+
+  -- a prefix that is carried and changed
+  abbrev is_fresh : Prefix → Bool
+  is_fresh q = is_carried routing q && is_changed before routing q
+
+  fresh_new : is_fresh a.prefix ≡ is_given_on ms a
+  fresh_new = ap (λ b. b && is_changed before routing a.prefix) (carried_at a.prefix (Some a) in_new) ∙ ap (λ b. is_given_on ms a && b) changed_new ∙ and_true (is_given_on ms a)
+    where
+    and_true : (b : Bool) → (b && true) ≡ b
+    and_true true = refl
+    and_true false = refl
+
+  fresh_old : (q : Prefix) (b : Announcement) → announced_in anns q ≡ Some b → is_fresh q ≡ false
+  fresh_old q b there = by (is_given_on ms b) refl
+    where
+    by : (given : Bool) → is_given_on ms b ≡ given → is_fresh q ≡ false
+    by true given = and_right (is_carried routing q) (is_changed before routing q) (changed_old q b there given)
+    by false given = and_left (is_carried routing q) (is_changed before routing q) (carried_at q (Some b) (in_old q b there) ∙ given)
+
+  -- no other prefix is fresh
+  fresh_other : (q : Prefix) → eq_by_cmp prefix_cmp q a.prefix ≡ false → is_fresh q ≡ false
+  fresh_other q other = by (announced_in anns q) refl (is_announced q anns) refl
+    where
+    by : (o : Option Announcement) → announced_in anns q ≡ o → (b : Bool) → is_announced q anns ≡ b → is_fresh q ≡ false
+    by (Some b) there c is = fresh_old q b there
+    by None there true is = absurd (clash true refl (sym is ∙ sym (is_some-any (λ (x : Announcement). eq_by_cmp prefix_cmp q x.prefix) anns) ∙ ap is_some there))
+    by None there false is = and_left (is_carried routing q) (is_changed before routing q) (carried_at q None (in_none q is other))
+
+  abbrev listed : FinMap prefix_cmp Prefix
+  listed = tabulate prefix_cmp (announced routing) (λ k. Some k)
+
+  -- the prefixes that change
+  pub changed_are : filter (is_changed before routing) (carried routing) ≡ cond (is_given_on ms a) (a.prefix ∷ []) []
+  changed_are = filter_twice (is_changed before routing) (is_carried routing) (keys listed) ∙ by (is_given_on ms a) refl
+    where
+    there : get listed a.prefix ≡ Some a.prefix
+    there = get-tabulate prefix_cmp prefixes_total (λ k. Some k) (λ q k e. ap Some (sym (same_from_tie prefix_cmp prefix_cmp-IsAntisymmetric q k e))) (announced routing) a.prefix
+        ∙ ap (λ b. cond b (Some a.prefix) None) (announced_listed ms qs (anns ++ a ∷ []) more_apart a.prefix a in_new)
+
+    all_false : is_given_on ms a ≡ false → (q : Prefix) → is_fresh q ≡ false
+    all_false given q = on (eq_by_cmp prefix_cmp q a.prefix) refl
+      where
+      on : (t : Bool) → eq_by_cmp prefix_cmp q a.prefix ≡ t → is_fresh q ≡ false
+      on true t = ap is_fresh (same_from_tie prefix_cmp prefix_cmp-IsAntisymmetric q a.prefix t) ∙ fresh_new ∙ given
+      on false t = fresh_other q t
+
+    only : (q : Prefix) → is_fresh q ≡ true → eq_by_cmp prefix_cmp q a.prefix ≡ true
+    only q fresh = on (eq_by_cmp prefix_cmp q a.prefix) refl
+      where
+      on : (t : Bool) → eq_by_cmp prefix_cmp q a.prefix ≡ t → t ≡ true
+      on true t = refl
+      on false t = absurd (clash (is_fresh q) fresh (fresh_other q t))
+
+    by : (given : Bool) → is_given_on ms a ≡ given → filter is_fresh (keys listed) ≡ cond given (a.prefix ∷ []) []
+    by true given = filter_keys_one prefix_cmp prefixes_total prefix_cmp-IsAntisymmetric is_fresh (λ x y t. ap is_fresh (sym (prefix_cmp-IsAntisymmetric x y t))) listed a.prefix a.prefix there (fresh_new ∙ given) only
+    by false given = filter_nothing is_fresh (keys listed) (all_false given)
