@@ -209,3 +209,83 @@ module _ (phase : Phase) (base : Ip) (size capacity : ℕ) (ms : List Participan
     by : (given : Bool) → is_given_on ms a ≡ given → filter is_fresh (keys listed) ≡ cond given (a.prefix ∷ []) []
     by true given = filter_keys_one prefix_cmp prefixes_total prefix_cmp-IsAntisymmetric is_fresh (λ x y t. ap is_fresh (sym (prefix_cmp-IsAntisymmetric x y t))) listed a.prefix a.prefix there (fresh_new ∙ given) only
     by false given = filter_nothing is_fresh (keys listed) (all_false given)
+
+  -- ---- the group, and its tag
+
+  abbrev group : Group
+  group = group_of before routing a.prefix
+
+  one_group : (given : Bool) → each_once same_group (map (group_of before routing) (cond given (a.prefix ∷ []) [])) ≡ cond given (group ∷ []) []
+  one_group true = refl
+  one_group false = refl
+
+  pub groups_are : groups before routing ≡ cond (is_given_on ms a) (group ∷ []) []
+  groups_are = ap (λ ps. each_once same_group (map (group_of before routing) ps)) changed_are ∙ one_group (is_given_on ms a)
+
+  -- no tag is free for the group where all tags of the pool are taken
+  pub full_pool : nat_lt (length (free_tags before)) (length (groups before routing)) ≡ (is_given_on ms a && nat_le size (tag_count anns))
+  full_pool = ap (λ gs. nat_lt (length (free_tags before)) (length gs)) groups_are ∙ by (is_given_on ms a) (cases_lt (tag_count anns) size)
+    where
+    by : (given : Bool) → (tag_count anns < size) ⊎ (size ≤ tag_count anns) → nat_lt (length (free_tags before)) (length (cond given (group ∷ []) [])) ≡ (given && nat_le size (tag_count anns))
+    by false c = le-ltb (length (free_tags before)) 0 (omega arith)
+    by true (inl room) =
+        let some : 1 ≤ length (free_tags before) = nonempty (free_tags before) (tag_of (tag_count anns + 1)) (first_free_tag phase base size capacity ms qs anns ns kept.apart kept.tagged room) in
+        le-ltb (length (free_tags before)) 1 some ∙ sym (lt-leb size (tag_count anns) room)
+    by true (inr full) = ap (λ ts. nat_lt (length ts) 1) (no_free_tag phase base size capacity ms qs anns ns kept.apart kept.tagged full) ∙ sym (le-leb size (tag_count anns) full)
+
+  fresh_is : is_given_on ms a ≡ true → tag_count anns < size → fresh_tag before routing group ≡ Some (tag_of (tag_count anns + 1))
+  fresh_is given room =
+      ap (λ gs. option_and_then (slice_get (free_tags before)) (position_from (same_group group) 0 gs)) (groups_are ∙ ap (λ b. cond b (group ∷ []) []) given)
+      ∙ ap (λ b. option_and_then (slice_get (free_tags before)) (cond b (Some 0) None)) (same_itself group)
+      ∙ first_free_tag phase base size capacity ms qs anns ns kept.apart kept.tagged room
+
+  module _ (free : is_given_on ms a ≡ true → tag_count anns < size) where
+    abbrev tag_at : Option Announcement → Option Tag
+    tag_at o = option_and_then (λ (b : Announcement). b.tag) o
+
+    new_tag_new : new_tag before routing a.prefix ≡ a.tag
+    new_tag_new =
+        ap (λ c. cond c (cond (is_changed before routing a.prefix) (fresh_tag before routing group) (get before.tag a.prefix)) None) (carried_at a.prefix (Some a) in_new)
+        ∙ ap (λ c. cond (is_given_on ms a) (cond c (fresh_tag before routing group) (get before.tag a.prefix)) None) changed_new
+        ∙ by (is_given_on ms a) refl ∙ sym tag
+      where
+      by : (given : Bool) → is_given_on ms a ≡ given → cond given (fresh_tag before routing group) None ≡ tag_at_place given (tag_count anns)
+      by true given = fresh_is given (free given)
+      by false given = refl
+
+    new_tag_old : (q : Prefix) (b : Announcement) → announced_in anns q ≡ Some b → new_tag before routing q ≡ b.tag
+    new_tag_old q b there =
+        ap (λ c. cond c (cond (is_changed before routing q) (fresh_tag before routing (group_of before routing q)) (get before.tag q)) None) (carried_at q (Some b) (in_old q b there))
+        ∙ by (is_given_on ms b) refl
+      where
+      by : (given : Bool) → is_given_on ms b ≡ given → cond given (cond (is_changed before routing q) (fresh_tag before routing (group_of before routing q)) (get before.tag q)) None ≡ b.tag
+      by true given =
+          ap (λ c. cond c (fresh_tag before routing (group_of before routing q)) (get before.tag q)) (changed_old q b there given)
+          ∙ tag_kept anns kept.apart q ∙ ap tag_at there
+      by false given = sym (none_there b.tag (tagged_where_given ms 0 anns b kept.tagged (announced_Member anns q b there) ∙ given))
+
+    new_tag_none : (q : Prefix) → announced_in (anns ++ a ∷ []) q ≡ None → new_tag before routing q ≡ None
+    new_tag_none q none = ap (λ c. cond c (cond (is_changed before routing q) (fresh_tag before routing (group_of before routing q)) (get before.tag q)) None) (carried_at q None none)
+
+    -- each prefix has the tag of its announcement
+    new_tag_is : (q : Prefix) → new_tag before routing q ≡ tag_at (announced_in (anns ++ a ∷ []) q)
+    new_tag_is q = by (announced_in anns q) refl (eq_by_cmp prefix_cmp q a.prefix) refl
+      where
+      absent : announced_in anns q ≡ None → is_announced q anns ≡ false
+      absent none = sym (is_some-any (λ (x : Announcement). eq_by_cmp prefix_cmp q x.prefix) anns) ∙ ap is_some none
+
+      by : (o : Option Announcement) → announced_in anns q ≡ o → (t : Bool) → eq_by_cmp prefix_cmp q a.prefix ≡ t → new_tag before routing q ≡ tag_at (announced_in (anns ++ a ∷ []) q)
+      by (Some b) there t is = new_tag_old q b there ∙ sym (ap tag_at (in_old q b there))
+      by None none true is =
+          let same : q ≡ a.prefix = same_from_tie prefix_cmp prefix_cmp-IsAntisymmetric q a.prefix is in
+          ap (new_tag before routing) same ∙ new_tag_new ∙ sym (ap tag_at (ap (announced_in (anns ++ a ∷ [])) same ∙ in_new))
+      by None none false is =
+          let there : announced_in (anns ++ a ∷ []) q ≡ None = in_none q (absent none) is in
+          new_tag_none q there ∙ sym (ap tag_at there)
+
+    -- the tags are those of the longer list
+    pub tags_are : tags_after before routing ≡ from_entries (filter_map tag_entry (anns ++ a ∷ []))
+    tags_are = same_map prefixes_total prefix_cmp-IsAntisymmetric (tags_after before routing) (from_entries (filter_map tag_entry (anns ++ a ∷ []))) (λ q.
+        get-tabulate prefix_cmp prefixes_total (new_tag before routing) (λ x y e. ap (new_tag before routing) (sym (same_from_tie prefix_cmp prefix_cmp-IsAntisymmetric x y e))) (announced routing) q
+        ∙ where_listed (λ (b : Announcement). b.tag) (list_any (eq_by_cmp prefix_cmp q) (announced routing)) (announced_in (anns ++ a ∷ []) q) (new_tag before routing q) (new_tag_is q) (announced_listed ms qs (anns ++ a ∷ []) more_apart q)
+        ∙ sym (tag_kept (anns ++ a ∷ []) more_apart q))
