@@ -1,28 +1,29 @@
 -- The prefixes that one announcement more changes: its own alone, where it is given on.
 use Rattle.std.proofs.Common.{◌≡◌, ℕ, zero, suc, ◌+◌, ◌≤◌, ◌<◌, Bool, true, false, cond, ◌&&◌, ◌||◌, not, nat_eq, nat_lt, nat_le, List, [], ◌∷◌, ◌++◌, length, map, filter, take, sym, ap, subst, ◌∙◌, refl, arith, inl, inr}
-use Rattle.std.specs.Prelude.{Option, Some, None, is_some, slice_get, ◌⊎◌}
+use Rattle.std.specs.Prelude.{Option, Some, None, is_some, slice_get, find, ◌⊎◌}
 use Rattle.std.specs.Cmp.Lexicographic.{pointwise}
 use Rattle.std.specs.List.{list_any, filter_map, position_from}
 use Rattle.std.specs.Option.{option_map, option_map_or, option_and_then}
 use Rattle.std.specs.Ordering.{eq_by_cmp}
-use Rattle.std.specs.FinMap.{FinMap, get, insert, keys, from_entries, get-from_entries, from_entries_push, same_map}
+use Rattle.std.specs.FinMap.{FinMap, get, insert, keys, values, from_entries, get-from_entries, from_entries_push, same_map}
 use Rattle.std.specs.FinMap as maps
-use Rattle.std.proofs.lemmas.Bool.{and_from, and_parts, and_left, and_right, or_parts, eq-eqb, le-ltb, lt-ltb, le-leb, lt-leb, cases_lt, not_from_true, not_from_false, false_from_ne_true}
-use Rattle.std.proofs.lemmas.List.{map-append}
+use Rattle.std.proofs.lemmas.Bool.{and_from, and_parts, and_left, and_right, or_parts, eq-eqb, le-ltb, lt-ltb, le-leb, lt-leb, cases_lt, cases_eq, or_left, or_right, not_from_true, not_from_false, false_from_ne_true}
+use Rattle.std.proofs.lemmas.List.{map-append, take-append-le}
 use Rattle.events.specs.After.{with_route}
-use Rattle.events.specs.State.{State}
-use Rattle.events.specs.Tags.{is_carried, carried, is_changed, Group, same_group, group_of, groups, each_once, fresh_tag, new_tag, tags_after, free_tags, same_tag}
+use Rattle.events.specs.State.{State, Entry}
+use Rattle.events.specs.Tags.{is_carried, carried, is_changed, Group, same_group, group_of, groups, each_once, fresh_tag, new_tag, tags_after, free_tags, same_tag, tags, is_live, tells, kept_signature, retagged}
 use Rattle.events.specs.declared.Phase.{Phase}
 use Rattle.events.specs.declared.Phase.TheVariants.{Running}
 use Rattle.net_types.proofs.KeyLemmas.{filter_keys_one}
 use Rattle.net_types.proofs.MapLemmas.{get-tabulate}
-use Rattle.net_types.proofs.OrderLemmas.{prefixes_total, routes_total}
-use Rattle.net_types.proofs.TieLemmas.{prefix_cmp-IsAntisymmetric, route_cmp-IsAntisymmetric, same_from_tie, ties_itself}
+use Rattle.net_types.proofs.OrderLemmas.{prefixes_total, routes_total, tags_total}
+use Rattle.net_types.proofs.SetLemmas.{Member-append_right}
+use Rattle.net_types.proofs.TieLemmas.{prefix_cmp-IsAntisymmetric, route_cmp-IsAntisymmetric, tag_cmp-IsAntisymmetric, same_from_tie, ties_itself, nat_ties}
 use Rattle.net_types.specs.Attributes.{same_option, same_signature, same_part, same_offer}
 use Rattle.net_types.specs.Exports.{Routing, route}
 use Rattle.net_types.specs.Keys.{prefix_cmp, tag_cmp, route_cmp}
 use Rattle.net_types.specs.Maps.{tabulate}
-use Rattle.net_types.specs.Routes.{announced}
+use Rattle.net_types.specs.Routes.{announced, numbers}
 use Rattle.net_types.specs.Sets.{Member}
 use Rattle.net_types.specs.Signatures.{signature}
 use Rattle.net_types.specs.declared.address.Ip.{Ip}
@@ -33,9 +34,9 @@ use Rattle.net_types.specs.declared.route.Offer.{Offer}
 use Rattle.net_types.specs.declared.route.Part.{Part}
 use Rattle.net_types.specs.declared.route.Participant.{Participant}
 use Rattle.net_types.specs.declared.route.PortInfo.{PortInfo}
-use Rattle.sdx_core.specs.View.{attrs_of, route_entry, tag_entry, parts_from, state_of, routing_of, is_announced, announced_in, AreApart, ForEach, AreTagged, IsOwn, IsKept, is_given_on, tag_at_place, tag_count}
-use Rattle.sdx_core.proofs.AnnounceLists.{any_more, find_more, find_last, is_some-any, each_more, apart_more}
-use Rattle.sdx_core.proofs.AnnounceTags.{tag_of, first_free_tag, no_free_tag}
+use Rattle.sdx_core.specs.View.{attrs_of, route_entry, tag_entry, kept_entry, told_entry, told_maps, parts_from, state_of, routing_of, is_announced, announced_in, AreApart, ForEach, AreTagged, IsOwn, IsKept, is_given_on, tag_at_place, tag_count}
+use Rattle.sdx_core.proofs.AnnounceLists.{any_more, find_more, find_last, find_none, find_skips, is_some-any, each_more, apart_more, tagged_more, count_more, one_of, one_if}
+use Rattle.sdx_core.proofs.AnnounceTags.{has_tag, tag_of, first_free_tag, no_free_tag, live_kept, taken_range}
 use Rattle.sdx_core.proofs.Kept.{key_of, route_from, route_kept, announced_none, announced_prefix, announced_Member, carried_kept, signature_kept}
 use Rattle.sdx_core.proofs.KeptMaps.{tag_kept, tagged_in, signature_of_tag, announced_listed}
 use Rattle.sdx_core.proofs.KeptTable.{tagged_member}
@@ -86,6 +87,24 @@ none_there (Some x) e = cc
 
 clash : (b : Bool) → b ≡ true → b ≡ false → ⊥
 clash b t f = cc
+
+-- what was told is a front of the announcements, also where one more stands behind
+told_same : (ms : List Participant) (ns : List ℕ) (anns : List Announcement) (a : Announcement) → ForEach (λ n. n ≤ length anns) ns → told_maps ms ns (anns ++ a ∷ []) ≡ told_maps ms ns anns
+told_same [] ns anns a fronts = refl
+told_same (m ∷ ms) [] anns a fronts = refl
+told_same (m ∷ ms) (n ∷ ns) anns a fronts =
+    let front : take n (anns ++ a ∷ []) ≡ take n anns = take-append-le n anns (a ∷ []) fronts.0 in
+    let rest : told_maps ms ns (anns ++ a ∷ []) ≡ told_maps ms ns anns = told_same ms ns anns a fronts.1 in
+    λ i. from_entries (filter_map (told_entry m) (front i)) ∷ rest i
+
+-- a tag of the pool is listed
+tag_listed : (t : Tag) (low count : ℕ) → low ≤ t.0 → t.0 < low + count → list_any (eq_by_cmp tag_cmp t) (map tag_of (numbers low count)) ≡ true
+tag_listed t low zero le lt = absurd (omega arith)
+tag_listed t low (suc count) le lt = by (λ other. tag_listed t (low + 1) count (omega arith) (omega arith)) (cases_eq low t.0)
+  where
+  by : ((low ≡ t.0 → ⊥) → list_any (eq_by_cmp tag_cmp t) (map tag_of (numbers (low + 1) count)) ≡ true) → (low ≡ t.0) ⊎ (low ≡ t.0 → ⊥) → (eq_by_cmp tag_cmp t (tag_of low) || list_any (eq_by_cmp tag_cmp t) (map tag_of (numbers (low + 1) count))) ≡ true
+  by later (inl e) = or_left (eq_by_cmp tag_cmp t (tag_of low)) (list_any (eq_by_cmp tag_cmp t) (map tag_of (numbers (low + 1) count))) (nat_ties t.0 low ∙ eq-eqb low t.0 e)
+  by later (inr other) = or_right (eq_by_cmp tag_cmp t (tag_of low)) (list_any (eq_by_cmp tag_cmp t) (map tag_of (numbers (low + 1) count))) (later other)
 
 -- where an entry is there, the prefix is listed
 where_listed : {X : Type 0} (f : Announcement → Option X) (listed : Bool) (o : Option Announcement) (x : Option X) → x ≡ option_and_then f o → ((b : Announcement) → o ≡ Some b → listed ≡ true) → cond listed x None ≡ option_and_then f o
@@ -289,3 +308,84 @@ module _ (phase : Phase) (base : Ip) (size capacity : ℕ) (ms : List Participan
         get-tabulate prefix_cmp prefixes_total (new_tag before routing) (λ x y e. ap (new_tag before routing) (sym (same_from_tie prefix_cmp prefix_cmp-IsAntisymmetric x y e))) (announced routing) q
         ∙ where_listed (λ (b : Announcement). b.tag) (list_any (eq_by_cmp prefix_cmp q) (announced routing)) (announced_in (anns ++ a ∷ []) q) (new_tag before routing q) (new_tag_is q) (announced_listed ms qs (anns ++ a ∷ []) more_apart q)
         ∙ sym (tag_kept (anns ++ a ∷ []) more_apart q))
+
+    -- ---- the signatures that are kept
+
+    abbrev after_tags : State
+    after_tags = record before { routing = routing; tag = tags_after before routing; phase = Running }
+
+    live_after : (t : Tag) → is_live after_tags t ≡ list_any (has_tag t) (anns ++ a ∷ [])
+    live_after t =
+        ap (λ m. list_any (same_tag t) (values m) || list_any (λ (entries : FinMap prefix_cmp Entry). tells entries t) before.told) tags_are
+        ∙ ap (λ ms. list_any (same_tag t) (values (from_entries {R = prefix_cmp} (filter_map tag_entry (anns ++ a ∷ [])))) || list_any (λ (entries : FinMap prefix_cmp Entry). tells entries t) ms) (sym (told_same ms ns anns a kept.fronts))
+        ∙ live_kept Running base size capacity ms qs (anns ++ a ∷ []) ns t more_apart
+
+    more_tagged : AreTagged ms 0 (anns ++ a ∷ [])
+    more_tagged = tagged_more ms 0 anns a kept.tagged (tag ∙ ap (tag_at_place (is_given_on ms a)) (let e : tag_count anns ≡ 0 + tag_count anns = omega arith in e))
+
+    -- a tag in use is one of the pool's
+    in_pool : (t : Tag) → list_any (has_tag t) (anns ++ a ∷ []) ≡ true → list_any (eq_by_cmp tag_cmp t) (tags before) ≡ true
+    in_pool t there =
+        let range : (0 < t.0) × (t.0 ≤ 0 + tag_count (anns ++ a ∷ [])) = taken_range ms 0 (anns ++ a ∷ []) t more_tagged there in
+        let count : tag_count (anns ++ a ∷ []) ≡ tag_count anns + one_if (is_given_on ms a) = count_more anns a ∙ ap (λ n. tag_count anns + n) (one_of ms (tag_count anns) a tag) in
+        let room : tag_count anns + one_if (is_given_on ms a) ≤ size = by (is_given_on ms a) refl in
+        tag_listed t 1 size (omega arith) (omega arith)
+      where
+      by : (given : Bool) → is_given_on ms a ≡ given → tag_count anns + one_if given ≤ size
+      by true given = let less : tag_count anns < size = free given in omega arith
+      by false given = let le : tag_count anns ≤ size = kept.pool in omega arith
+
+    abbrev parts : Option Announcement → Option (List Part)
+    parts o = option_map (λ (b : Announcement). parts_from 0 ms b) o
+
+    sig_new : signature routing a.prefix ≡ parts_from 0 ms a
+    sig_new = signature_kept ms qs (anns ++ a ∷ []) more_apart more_own a.prefix a in_new
+
+    -- the signature of a tag is that of its announcement
+    signature_is : (t : Tag) → kept_signature before routing t ≡ parts (tagged_in (anns ++ a ∷ []) t)
+    signature_is t =
+        ap (λ gs. option_map_or (λ (g : Group). Some g.after) (find (λ g. same_option same_tag (fresh_tag before routing g) (Some t)) gs) (get before.kept t)) groups_are
+        ∙ by (is_given_on ms a) refl
+      where
+      old : has_tag t a ≡ false → get before.kept t ≡ parts (tagged_in (anns ++ a ∷ []) t)
+      old other = signature_of_tag ms anns t ∙ sym (ap parts (find_skips (has_tag t) anns a other))
+
+      on : (same : Bool) → has_tag t a ≡ same → option_map_or (λ (g : Group). Some g.after) (cond same (Some group) None) (get before.kept t) ≡ parts (tagged_in (anns ++ a ∷ []) t)
+      on true same = ap Some sig_new ∙ sym (ap parts (tagged_member ms 0 (anns ++ a ∷ []) a t more_tagged (Member-append_right anns (a ∷ []) a (inl refl)) same))
+      on false other = old other
+
+      by : (given : Bool) → is_given_on ms a ≡ given → option_map_or (λ (g : Group). Some g.after) (find (λ g. same_option same_tag (fresh_tag before routing g) (Some t)) (cond given (group ∷ []) [])) (get before.kept t) ≡ parts (tagged_in (anns ++ a ∷ []) t)
+      by true given =
+          let fresh : fresh_tag before routing group ≡ a.tag = fresh_is given (free given) ∙ sym (tag ∙ ap (λ b. tag_at_place b (tag_count anns)) given) in
+          ap (λ o. option_map_or (λ (g : Group). Some g.after) (cond (same_option same_tag o (Some t)) (Some group) None) (get before.kept t)) fresh
+          ∙ on (has_tag t a) refl
+      by false given = old (ap (λ o. same_option same_tag o (Some t)) (tag ∙ ap (λ b. tag_at_place b (tag_count anns)) given))
+
+    pub kept_are : tabulate tag_cmp (tags before) (λ t. cond (is_live after_tags t) (kept_signature before routing t) None) ≡ from_entries (filter_map (kept_entry ms) (anns ++ a ∷ []))
+    kept_are = same_map tags_total tag_cmp-IsAntisymmetric (tabulate tag_cmp (tags before) of) (from_entries (filter_map (kept_entry ms) (anns ++ a ∷ []))) (λ t.
+        get-tabulate tag_cmp tags_total of (λ x y e. ap of (sym (same_from_tie tag_cmp tag_cmp-IsAntisymmetric x y e))) (tags before) t
+        ∙ by t (list_any (has_tag t) (anns ++ a ∷ [])) refl
+        ∙ sym (signature_of_tag ms (anns ++ a ∷ []) t))
+      where
+      of : Tag → Option (List Part)
+      of t = cond (is_live after_tags t) (kept_signature before routing t) None
+
+      same_none : {A : Type 0} (b : Bool) → let none : Option A = None in cond b none none ≡ none
+      same_none true = refl
+      same_none false = refl
+
+      by : (t : Tag) (b : Bool) → list_any (has_tag t) (anns ++ a ∷ []) ≡ b → cond (list_any (eq_by_cmp tag_cmp t) (tags before)) (of t) None ≡ parts (tagged_in (anns ++ a ∷ []) t)
+      by t true there =
+          ap (λ b. cond b (of t) None) (in_pool t there)
+          ∙ ap (λ b. cond b (kept_signature before routing t) None) (live_after t ∙ there)
+          ∙ signature_is t
+      by t false none =
+          ap (λ b. cond (list_any (eq_by_cmp tag_cmp t) (tags before)) (cond b (kept_signature before routing t) None) None) (live_after t ∙ none)
+          ∙ same_none (list_any (eq_by_cmp tag_cmp t) (tags before))
+          ∙ sym (ap parts (find_none (has_tag t) (anns ++ a ∷ []) none))
+
+    -- the state of the longer list, with the table that was
+    pub retagged_is : retagged before (with_route before.routing a.from a.prefix (attrs_of a)) ≡ record (state_of Running base size capacity ms qs (anns ++ a ∷ []) ns) { table = before.table }
+    retagged_is =
+        ap (retagged before) new_routing
+        ∙ (λ i. record before { phase = Running; routing = routing; tag = tags_are i; kept = kept_are i; told = sym (told_same ms ns anns a kept.fronts) i })
