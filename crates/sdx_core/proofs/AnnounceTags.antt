@@ -150,7 +150,7 @@ true_then_false : (b : Bool) (P : Type 0) → (b ≡ true → P) → (P → ⊥)
 true_then_false true P h none = absurd (none (h refl))
 true_then_false false P h none = refl
 
-free_above : (ms : List Participant) (anns : List Announcement) (t : Tag) → AreTagged ms 0 anns → tag_count anns < t.0 → list_any (has_tag t) anns ≡ false
+pub free_above : (ms : List Participant) (anns : List Announcement) (t : Tag) → AreTagged ms 0 anns → tag_count anns < t.0 → list_any (has_tag t) anns ≡ false
 free_above ms anns t tagged above = true_then_false (list_any (has_tag t) anns) ((0 < t.0) × (t.0 ≤ 0 + tag_count anns)) (taken_range ms 0 anns t tagged) (λ h. omega arith)
 
 pub unlive : (phase : Phase) (base : Ip) (size capacity : ℕ) (ms : List Participant) (qs : List PortInfo) (anns : List Announcement) (ns : List ℕ) (t : Tag) → AreApart anns → AreTagged ms 0 anns → tag_count anns < t.0 → is_live (state_of phase base size capacity ms qs anns ns) t ≡ false
