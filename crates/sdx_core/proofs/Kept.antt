@@ -1,18 +1,18 @@
 -- The routes that the kept announcements stand for, and the best routes and signatures that come of them.
 use Rattle.std.proofs.Common.{◌≡◌, ℕ, zero, suc, ◌+◌, ◌<◌, Bool, true, false, cond, ◌&&◌, ◌||◌, not, nat_eq, List, [], ◌∷◌, length, map, sym, ap, subst, ◌∙◌, refl, arith, inl, inr}
 use Rattle.std.specs.Prelude.{Option, Some, None, is_some, option_to_list, slice_get, unwrap_or}
-use Rattle.std.specs.FinMap.{get, from_entries, find, get-from_entries}
-use Rattle.std.specs.List.{filter_map, cons_option, list_any}
+use Rattle.std.specs.FinMap.{find, get-from_entries}
+use Rattle.std.specs.List.{filter_map, cons_option}
 use Rattle.std.specs.Option.{option_map, option_map_or, option_and_then}
 use Rattle.std.specs.Ordering.{nat_cmp, eq_by_cmp, is_eq}
 use Rattle.std.proofs.lemmas.Bool.{or_parts, eqb-true, eq-eqb, ne_eqb}
 use Rattle.std.proofs.lemmas.Option.{slice_get_within}
 use Rattle.events.specs.Tags.{is_carried}
-use Rattle.net_types.specs.Exports.{Routing, ExportRule, route, is_given, allows, asn_of}
+use Rattle.net_types.specs.Exports.{Routing, ExportRule, route, is_given, allows}
 use Rattle.net_types.specs.Keys.{prefix_cmp, RouteKey, route_cmp}
 use Rattle.net_types.specs.Routes.{Candidate, given, candidates, candidate, best, best_of, pids, numbers}
 use Rattle.net_types.specs.Sets.{Member}
-use Rattle.net_types.specs.Signatures.{part, offer, signature, port_with}
+use Rattle.net_types.specs.Signatures.{part, offer, signature}
 use Rattle.net_types.specs.declared.address.Pid.{Pid}
 use Rattle.net_types.specs.declared.address.PortNo.{PortNo}
 use Rattle.net_types.specs.declared.prefix.Prefix.{Prefix}
@@ -20,7 +20,7 @@ use Rattle.net_types.specs.declared.route.Attrs.{Attrs}
 use Rattle.net_types.specs.declared.route.Part.{Part}
 use Rattle.net_types.specs.declared.route.Participant.{Participant}
 use Rattle.net_types.specs.declared.route.PortInfo.{PortInfo}
-use Rattle.net_types.proofs.FindLemmas.{find-IsFound, any_place, any_false, filter_map_none, slice_get_some}
+use Rattle.net_types.proofs.FindLemmas.{find-IsFound, not_there, is_some-cond, any_place, any_false, filter_map_none, slice_get_some}
 use Rattle.net_types.proofs.OrderLemmas.{prefixes_total, routes_total}
 use Rattle.net_types.proofs.RouteLemmas.{one_candidate, best_one}
 use Rattle.net_types.proofs.TieLemmas.{prefix_cmp-IsAntisymmetric, same_from_tie, ties_itself, then_ties, nat_ties}
@@ -53,9 +53,6 @@ announced_prefix anns p a there =
 pub announced_Member : (anns : List Announcement) (p : Prefix) (a : Announcement) → announced_in anns p ≡ Some a → Member a anns
 announced_Member anns p a there = (find-IsFound (λ (b : Announcement). eq_by_cmp prefix_cmp p b.prefix) anns a there).stands
 
-not_both : {A : Type 0} (o : Option A) (x : A) → o ≡ None → o ≡ Some x → ⊥
-not_both o x none some = cc
-
 -- an announcement's own prefix finds it
 pub announced_own : (anns : List Announcement) (a : Announcement) → AreApart anns → Member a anns → announced_in anns a.prefix ≡ Some a
 announced_own [] a apart m = elim m [ ]
@@ -64,7 +61,7 @@ announced_own (b ∷ anns) a apart (inl same) =
 announced_own (b ∷ anns) a apart (inr m) =
     let later : announced_in anns a.prefix ≡ Some a = announced_own anns a apart.1 m in
     elim (eq_by_cmp prefix_cmp a.prefix b.prefix) as (λ c. eq_by_cmp prefix_cmp a.prefix b.prefix ≡ c → cond c (Some b) (announced_in anns a.prefix) ≡ Some a) [
-      | true ↦ λ t. absurd (not_both (announced_in anns a.prefix) a (announced_once b anns a.prefix apart t) later)
+      | true ↦ λ t. absurd (not_there (announced_in anns a.prefix) a (announced_once b anns a.prefix apart t) later)
       | false ↦ λ t. later
     ] refl
 
@@ -181,12 +178,8 @@ carried_by ms qs anns apart own p (Some a) there =
     let r : Routing = routing_of ms qs anns in
     any_place (λ to. is_some (best r to p)) (λ n. record { 0 = n }) (is_receiver a) 0 ms (λ k j m e is.
     ap is_some (best_kept ms qs anns apart own (record { 0 = j }) (let less : k < length ms = slice_get_within ms k m is in omega arith) p ∙ ap (option_and_then (candidate_of ms qs anns (record { 0 = j }))) there)
-    ∙ some_cond (receives ms a (record { 0 = j })) (candidate r a.from (attrs_of a))
+    ∙ is_some-cond (receives ms a (record { 0 = j })) (candidate r a.from (attrs_of a))
     ∙ receives_at ms a (record { 0 = j }) m (let same : j ≡ k = omega arith in ap (slice_get ms) same ∙ is))
-  where
-    some_cond : (b : Bool) (c : Candidate) → is_some (cond b (Some c) None) ≡ b
-    some_cond true c = refl
-    some_cond false c = refl
 
 pub carried_kept : (ms : List Participant) (qs : List PortInfo) (anns : List Announcement) → AreApart anns → ForEach (IsOwn ms qs) anns → (p : Prefix) → is_carried (routing_of ms qs anns) p ≡ option_map_or (is_given_on ms) (announced_in anns p) false
 carried_kept ms qs anns apart own p = carried_by ms qs anns apart own p (announced_in anns p) refl

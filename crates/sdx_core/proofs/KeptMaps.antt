@@ -1,7 +1,7 @@
 -- The tags, kept signatures, present and told entries of the state that the kept lists stand for, read off the lists.
 use Rattle.std.proofs.Common.{◌≡◌, ℕ, zero, suc, ◌<◌, Bool, true, false, cond, ◌&&◌, ◌||◌, nat_eq, List, [], ◌∷◌, length, map, take, sym, ap, ◌∙◌, refl, arith}
 use Rattle.std.specs.Prelude.{Option, Some, None, find, slice_get, unwrap_or, is_some}
-use Rattle.std.specs.FinMap.{FinMap, empty, get, keys, from_entries, get-from_entries, contains_key-keys, find as find_key}
+use Rattle.std.specs.FinMap.{empty, get, keys, from_entries, get-from_entries, contains_key-keys, find as find_key}
 use Rattle.std.specs.List.{filter_map, cons_option, list_any}
 use Rattle.std.specs.Option.{option_map, option_and_then}
 use Rattle.std.specs.Ordering.{nat_cmp, eq_by_cmp, is_eq}
@@ -13,7 +13,7 @@ use Rattle.events.specs.declared.Phase.{Phase}
 use Rattle.net_types.specs.Attributes.{same_option}
 use Rattle.net_types.specs.Exports.{Routing, route}
 use Rattle.net_types.specs.Keys.{prefix_cmp, tag_cmp, RouteKey, route_cmp}
-use Rattle.net_types.specs.Routes.{Candidate, candidate, best, announced}
+use Rattle.net_types.specs.Routes.{Candidate, candidate, announced}
 use Rattle.net_types.specs.declared.address.Ip.{Ip}
 use Rattle.net_types.specs.declared.address.Pid.{Pid}
 use Rattle.net_types.specs.declared.address.Tag.{Tag}
@@ -21,11 +21,11 @@ use Rattle.net_types.specs.declared.prefix.Prefix.{Prefix}
 use Rattle.net_types.specs.declared.route.Part.{Part}
 use Rattle.net_types.specs.declared.route.Participant.{Participant}
 use Rattle.net_types.specs.declared.route.PortInfo.{PortInfo}
-use Rattle.net_types.proofs.FindLemmas.{slice_get_some}
+use Rattle.net_types.proofs.FindLemmas.{cond_same, slice_get_some}
 use Rattle.net_types.proofs.MapLemmas.{get-tabulate}
 use Rattle.net_types.proofs.OrderLemmas.{prefixes_total, tags_total}
 use Rattle.net_types.proofs.TieLemmas.{prefix_cmp-IsAntisymmetric, same_from_tie, then_ties, nat_ties}
-use Rattle.sdx_core.specs.View.{attrs_of, route_entry, is_receiver, tag_entry, kept_entry, told_entry, told_maps, parts_from, routing_of, state_of, announced_in, is_announced, receives, AreApart, IsOwn, ForEach}
+use Rattle.sdx_core.specs.View.{attrs_of, tag_entry, kept_entry, told_entry, told_maps, parts_from, routing_of, state_of, announced_in, is_announced, receives, AreApart, IsOwn, ForEach}
 use Rattle.sdx_core.specs.declared.announcement.Announcement.{Announcement}
 use Rattle.sdx_core.proofs.Kept.{key_of, route_from, route_kept, candidate_of, best_kept, announced_once, receives_at}
 
@@ -124,9 +124,6 @@ told_kept phase base size capacity ms qs anns ns even apart who n took p =
 
 -- ---- what is present
 
-some_of : {A : Type 0} (o : Option A) (x : A) → o ≡ Some x → is_some o ≡ true
-some_of o x e = ap is_some e
-
 listed_prefix : (ks : List RouteKey) (k : RouteKey) → list_any (eq_by_cmp route_cmp k) ks ≡ true → list_any (eq_by_cmp prefix_cmp k.prefix) (map (λ (x : RouteKey). x.prefix) ks) ≡ true
 listed_prefix [] k e = e
 listed_prefix (x ∷ ks) k e =
@@ -141,7 +138,7 @@ pub announced_listed : (ms : List Participant) (qs : List PortInfo) (anns : List
 announced_listed ms qs anns apart p a there =
     let r : Routing = routing_of ms qs anns in
     let has : route r a.from p ≡ Some (attrs_of a) = route_kept ms qs anns apart a.from p ∙ ap (option_and_then (route_from a.from)) there ∙ ap (λ b. cond b (Some (attrs_of a)) None) (eq-eqb a.from.0 a.from.0 refl) in
-    listed_prefix (keys r.routes) (key_of a.from p) (sym (contains_key-keys r.routes (key_of a.from p)) ∙ some_of (route r a.from p) (attrs_of a) has)
+    listed_prefix (keys r.routes) (key_of a.from p) (sym (contains_key-keys r.routes (key_of a.from p)) ∙ ap is_some has)
 
 present_cond : (ms : List Participant) (qs : List PortInfo) (anns : List Announcement) (who : Pid) (o : Option Announcement)
     → option_and_then (λ (c : Candidate). option_map (λ t. let e : Entry = record { attrs = c.attrs; tag = t } in e) (option_and_then (λ (a : Announcement). a.tag) o)) (option_and_then (candidate_of ms qs anns who) o) ≡ option_and_then (entry_of ms who) o
@@ -157,13 +154,9 @@ present_entry_kept phase base size capacity ms qs anns ns apart own who declared
     ∙ ap (λ o. option_and_then (λ (c : Candidate). option_map (λ t. let e : Entry = record { attrs = c.attrs; tag = t } in e) o) (option_and_then (candidate_of ms qs anns who) (announced_in anns p))) (tag_kept anns apart p)
     ∙ present_cond ms qs anns who (announced_in anns p)
 
-same_both : {A : Type 0} (b : Bool) (x : A) → cond b x x ≡ x
-same_both true x = refl
-same_both false x = refl
-
 -- where an entry is there, the prefix is listed
 where_listed : {X : Type 0} (f : Announcement → Option X) (listed : Bool) (o : Option Announcement) (x : Option X) → x ≡ option_and_then f o → ((a : Announcement) → o ≡ Some a → listed ≡ true) → cond listed x None ≡ option_and_then f o
-where_listed f listed None x is h = ap (λ y. cond listed y None) is ∙ same_both listed None
+where_listed f listed None x is h = ap (λ y. cond listed y None) is ∙ cond_same listed None
 where_listed f listed (Some a) x is h = ap (λ b. cond b x None) (h a refl) ∙ is
 
 pub present_kept : (phase : Phase) (base : Ip) (size capacity : ℕ) (ms : List Participant) (qs : List PortInfo) (anns : List Announcement) (ns : List ℕ) → AreApart anns → ForEach (IsOwn ms qs) anns → (who : Pid) → who.0 < length ms → (p : Prefix)
