@@ -59,7 +59,7 @@ any_append : {A : Type 0} (f : A → Bool) (xs ys : List A) → list_any f ys �
 any_append f [] ys there = there
 any_append f (x ∷ xs) ys there = or_right (f x) (list_any f (xs ++ ys)) (any_append f xs ys there)
 
-find_append : {X : Type 0} (q : Pair) (xs ys : List (Pair × X)) → find pair_cmp q (xs ++ ys) ≡ option_map_or (λ x. Some x) (find pair_cmp q xs) (find pair_cmp q ys)
+pub find_append : {X : Type 0} (q : Pair) (xs ys : List (Pair × X)) → find pair_cmp q (xs ++ ys) ≡ option_map_or (λ x. Some x) (find pair_cmp q xs) (find pair_cmp q ys)
 find_append q [] ys = refl
 find_append {X} q (e ∷ xs) ys = by (eq_by_cmp pair_cmp q e.0) (find_append q xs ys)
   where
