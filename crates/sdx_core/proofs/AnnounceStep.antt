@@ -9,7 +9,7 @@ use Rattle.std.specs.Ordering.{eq_by_cmp}
 use Rattle.net_types.specs.Keys.{prefix_cmp}
 use Rattle.std.proofs.lemmas.Bool.{or_left, or_right, or_parts, or_cases, or_from, and_from, and_parts, eq-eqb, eqb-true, ne_eqb, lt-ltb, le-ltb, not-true, not-false, cases_Bool, cases_eq, leb-false}
 use Rattle.std.proofs.lemmas.List.Sorted.{length_permutation}
-use Rattle.events.specs.After.{next, after, with_known, with_route}
+use Rattle.events.specs.After.{next, after, with_known, with_route, put_flows}
 use Rattle.events.specs.Fits.{IsStep, IsBuilt, bare, none_rebuilt}
 use Rattle.events.specs.Refusals.{refusal, refusal_in_place, is_placed, if_known, unless, cannot_announce, has_route, has_next_hop, live_pairs}
 use Rattle.events.specs.Restricted.{announced_attrs, announced_prefix}
@@ -42,7 +42,7 @@ use Rattle.net_types.specs.declared.route.Segment.TheVariants.{Sequence}
 use Rattle.sdx_core.specs.Building.{is_at, kept_of, has_others, is_inadmissible, IsAdmitted, flow_to, announced_reply}
 use Rattle.sdx_core.specs.View.{attrs_of, state_of, routing_of, is_announced, announced_in, table_entries, numbers_of, addresses_of, receives, ForEach, IsOwn, IsKept, is_given_on, tag_at_place, tag_count, AreApart}
 use Rattle.sdx_core.proofs.AnnounceGroups.{new_routing, full_pool, retagged_is}
-use Rattle.sdx_core.proofs.AnnounceLists.{is_some-any, new_entries, receiving, kept_more, one_if}
+use Rattle.sdx_core.proofs.AnnounceLists.{is_some-any, entry_for, new_entries, receiving, kept_more, one_if}
 use Rattle.sdx_core.proofs.AnnounceLive.{live_count}
 use Rattle.sdx_core.proofs.AnnounceMaps.{any_map, same_any, length-map}
 use Rattle.sdx_core.proofs.AnnouncePorts.{Rises, ports_rise}
@@ -214,3 +214,119 @@ module _ (phase : Phase) (base : Ip) (size capacity : ℕ) (ms : List Participan
       where
       later : IsKept Running size (rules + length (new_entries ms qs a)) ms qs (anns ++ a ∷ []) ns (rules + length (new_entries ms qs a)) base
       later = more_kept (rules + length (new_entries ms qs a)) (omega arith)
+
+    -- ---- the step
+
+    module _ (ports : List PortNo) (those : IsPermutation (map (λ (q : PortInfo). q.number) (receiving ms qs a)) ports) (ascending : IsNonDecreasingBy (λ (n : PortNo). n.0) ports) where
+      up : Rises ports
+      up = ports_rise (λ (q : PortInfo). receives ms a q.owner) qs ports kept.numbers those ascending
+
+      abbrev fresh : Tag
+      fresh = tag_of (tag_count anns + 1)
+
+      -- as many rules come as there are ports
+      pub as_many : length (new_entries ms qs a) ≡ length ports
+      as_many =
+          ap length (brings phase base size capacity ms qs anns ns rules kept a a_own passed.2 refl)
+          ∙ length-map (entry_for fresh a) (receiving ms qs a)
+          ∙ sym (length-map (λ (q : PortInfo). q.number) (receiving ms qs a))
+          ∙ sym (length_permutation (map (λ (q : PortInfo). q.number) (receiving ms qs a)) ports those)
+
+      abbrev told : List TagChange
+      told = cond (is_some a.tag) (record { prefix = a.prefix; tag = a.tag } ∷ []) []
+
+      abbrev reply : Reply
+      reply = record (bare Fine) { tags = told; adds = map (flow_to fresh b.port) ports }
+
+      no_ports : is_given_on ms a ≡ false → ports ≡ []
+      no_ports given = empty ports (length_permutation (map (λ (q : PortInfo). q.number) (receiving ms qs a)) ports those ∙ ap (λ ps. length (map (λ (q : PortInfo). q.number) ps)) (none_receiving ms qs a given))
+        where
+        empty : {A : Type 0} (xs : List A) → length xs ≡ 0 → xs ≡ []
+        empty [] e = refl
+        empty (x ∷ xs) e = absurd (omega arith)
+
+      -- the reply that the code makes
+      reply_is : announced_reply a ports a.tag ≡ reply
+      reply_is = by (is_given_on ms a) no_ports
+        where
+        by : (given : Bool) → (given ≡ false → ports ≡ []) → announced_reply a ports (tag_at_place given (tag_count anns)) ≡ record (bare Fine) { tags = cond (is_some (tag_at_place given (tag_count anns))) (record { prefix = a.prefix; tag = tag_at_place given (tag_count anns) } ∷ []) []; adds = map (flow_to fresh b.port) ports }
+        by true none = refl
+        by false none = ap (λ ns. let r : Reply = record (bare Fine) { adds = map (flow_to fresh b.port) ns } in r) (sym (none refl))
+
+      abbrev later : State
+      later = state_of Running base size capacity ms qs (anns ++ a ∷ []) ns
+
+      table_then : retagged before (with_route before.routing who u.prefix (attrs_in u)) ≡ record later { table = before.table }
+      table_then = retagged_is phase base size capacity ms qs anns ns rules kept a a_own passed.2 refl room
+
+      built : IsBuilt before later none_rebuilt reply
+      built = record {
+        head = refl;
+        tags = sym (tags_told phase base size capacity ms qs anns ns rules kept a a_own passed.2 refl);
+        drops = sym (dropped_is phase base size capacity ms qs anns ns rules kept a a_own passed.2 refl ports those up);
+        adds = sym (added_is phase base size capacity ms qs anns ns rules kept a a_own passed.2 refl ports those up);
+        adverts = refl;
+        frames = refl;
+      }
+
+      pub taken_step : (name bytes : List ℕ) → is_placed phase (Update name bytes) ≡ true → pid_of before.routing name ≡ Some who → announced_prefix bytes ≡ u.prefix → announced_attrs bytes ≡ attrs_in u → rules + length ports ≤ capacity → IsStep before (Update name bytes) (announced_reply a ports a.tag) later
+      taken_step name bytes placed known prefix attrs fits =
+          subst (λ r. IsStep before (Update name bytes) r later) (sym reply_is)
+          (accepted before (Update name bytes) reply later none (sym next_is) built (kept_sound Running base size capacity ms qs (anns ++ a ∷ []) ns (rules + length (new_entries ms qs a)) (more_kept capacity enough)))
+        where
+        enough : rules + length (new_entries ms qs a) ≤ capacity
+        enough = let e = as_many in omega arith
+
+        none : refusal before (Update name bytes) ≡ None
+        none =
+            ap (λ x. cond x (refusal_in_place before (Update name bytes)) (Some Misplaced)) placed
+            ∙ ap (λ o. if_known o (λ w. unless (cannot_announce before w (announced_prefix bytes) (announced_attrs bytes)) BadLine)) known
+            ∙ ap (λ p. unless (cannot_announce before who p (announced_attrs bytes)) BadLine) prefix
+            ∙ ap (λ x. unless (cannot_announce before who u.prefix x) BadLine) attrs
+            ∙ ap (λ x. unless x BadLine) (cannot_over ∙ le-ltb capacity (rules + length (new_entries ms qs a)) enough)
+
+        next_is : next before (Update name bytes) reply ≡ later
+        next_is =
+            ap (λ o. let x : State = with_known before o (λ w. retagged before (with_route before.routing w (announced_prefix bytes) (announced_attrs bytes))) in record x { table = put_flows before.table reply.adds }) known
+            ∙ ap (λ p. let x : State = retagged before (with_route before.routing who p (announced_attrs bytes)) in record x { table = put_flows before.table reply.adds }) prefix
+            ∙ ap (λ t. let x : State = retagged before (with_route before.routing who u.prefix t) in record x { table = put_flows before.table reply.adds }) attrs
+            ∙ ap (λ (x : State). record x { table = put_flows before.table reply.adds }) table_then
+            ∙ ap (λ t. record later { table = t }) (table_is phase base size capacity ms qs anns ns rules kept a a_own passed.2 refl ports those up)
+
+-- ---- the refusals
+
+unplaced : (s : State) (e : Event) → is_placed s.phase e ≡ true → refusal s e ≡ refusal_in_place s e
+unplaced s e placed = ap (λ x. cond x (refusal_in_place s e) (Some Misplaced)) placed
+
+pub unknown_step : (s st : State) (name bytes : List ℕ) (r : Reply) → s ≡ st → is_placed st.phase (Update name bytes) ≡ true → pid_of s.routing name ≡ None → r ≡ bare (Refused Unknown) → IsStep st (Update name bytes) r st
+unknown_step s st name bytes r is placed none reply =
+    refused_step st (Update name bytes) r Unknown
+    (unplaced st (Update name bytes) placed ∙ ap (λ o. if_known o (λ w. unless (cannot_announce st w (announced_prefix bytes) (announced_attrs bytes)) BadLine)) (ap (λ (x : State). pid_of x.routing name) (sym is) ∙ none)) reply
+
+pub bad_step : (s st : State) (name bytes : List ℕ) (r : Reply) (who : Pid) (u : ShortUpdate) → s ≡ st → is_placed st.phase (Update name bytes) ≡ true → pid_of s.routing name ≡ Some who → announced_prefix bytes ≡ u.prefix → announced_attrs bytes ≡ attrs_in u → cannot_announce s who u.prefix (attrs_in u) ≡ true → r ≡ bare (Refused BadLine) → IsStep st (Update name bytes) r st
+bad_step s st name bytes r who u is placed known prefix attrs cannot reply =
+    refused_step st (Update name bytes) r BadLine
+    (unplaced st (Update name bytes) placed
+      ∙ ap (λ o. if_known o (λ w. unless (cannot_announce st w (announced_prefix bytes) (announced_attrs bytes)) BadLine)) (ap (λ (x : State). pid_of x.routing name) (sym is) ∙ known)
+      ∙ ap (λ (x : State). unless (cannot_announce x who (announced_prefix bytes) (announced_attrs bytes)) BadLine) (sym is)
+      ∙ ap (λ p. unless (cannot_announce s who p (announced_attrs bytes)) BadLine) prefix
+      ∙ ap (λ x. unless (cannot_announce s who u.prefix x) BadLine) attrs
+      ∙ ap (λ x. unless x BadLine) cannot) reply
+
+-- what the octets say
+pub attrs_read : (u : ShortUpdate) (bytes : List ℕ) → u.origin ≡ slice_index bytes 26 → u.asn ≡ word_at 32 bytes → u.next_hop ≡ address_at 37 bytes → announced_attrs bytes ≡ attrs_in u
+attrs_read u bytes origin asn next_hop = λ i. record {
+  origin = sym origin i;
+  path = Sequence (sym asn i ∷ []) ∷ [];
+  next_hop = sym next_hop i;
+  med = None;
+  atomic = false;
+  aggregator = None;
+  communities = [];
+  communities_partial = false;
+  unknown = [];
+}
+
+-- the participant of a name that is found
+pub pid_known : (ms : List Participant) (name : List ℕ) (o : Option ℕ) → position_from (λ (m : Participant). same_octets m.name name) 0 ms ≡ o → option_map (λ n. let who : Pid = record { 0 = n } in who) (position_from (λ (m : Participant). same_octets m.name name) 0 ms) ≡ option_map (λ n. let who : Pid = record { 0 = n } in who) o
+pid_known ms name o e = ap (option_map (λ n. let who : Pid = record { 0 = n } in who)) e
