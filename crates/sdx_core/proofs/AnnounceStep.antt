@@ -330,3 +330,35 @@ attrs_read u bytes origin asn next_hop = λ i. record {
 -- the participant of a name that is found
 pub pid_known : (ms : List Participant) (name : List ℕ) (o : Option ℕ) → position_from (λ (m : Participant). same_octets m.name name) 0 ms ≡ o → option_map (λ n. let who : Pid = record { 0 = n } in who) (position_from (λ (m : Participant). same_octets m.name name) 0 ms) ≡ option_map (λ n. let who : Pid = record { 0 = n } in who) o
 pid_known ms name o e = ap (option_map (λ n. let who : Pid = record { 0 = n } in who)) e
+
+-- ---- as the code has it
+
+module _ (phase : Phase) (base : Ip) (size capacity : ℕ) (ms : List Participant) (qs : List PortInfo) (anns : List Announcement) (ns : List ℕ) (rules : ℕ) (kept : IsKept phase size capacity ms qs anns ns rules base) (who : Pid) (u : ShortUpdate) (declared : who.0 < length ms) (b : Announcement) (admitted : IsAdmitted ms qs anns size who u b) (ports : List PortNo) (those : IsPermutation (map (λ (q : PortInfo). q.number) (receiving ms qs b)) ports) (ascending : IsNonDecreasingBy (λ (n : PortNo). n.0) ports) where
+  same_those : IsPermutation (map (λ (q : PortInfo). q.number) (receiving ms qs (ann_of ms anns who u b.port))) ports
+  same_those = subst (λ x. IsPermutation (map (λ (q : PortInfo). q.number) (receiving ms qs x)) ports) admitted.is those
+
+  many : length (new_entries ms qs (ann_of ms anns who u b.port)) ≡ length ports
+  many = as_many phase base size capacity ms qs anns ns rules kept who u declared b admitted ports same_those ascending
+
+  -- the table has no room for the rules
+  pub over_at : capacity - rules < length ports → cannot_announce (state_of phase base size capacity ms qs anns ns) who u.prefix (attrs_in u) ≡ true
+  over_at over =
+      cannot_over phase base size capacity ms qs anns ns rules kept who u declared b admitted
+      ∙ lt-ltb capacity (rules + length (new_entries ms qs (ann_of ms anns who u b.port))) (let e = many in let le = kept.room in omega arith)
+
+  -- the longer list is kept
+  pub kept_at : (more : List Announcement) → more ≡ anns ++ b ∷ [] → length ports ≤ capacity - rules → IsKept Running size capacity ms qs more ns (rules + length ports) base
+  kept_at more is fits =
+      subst (λ l. IsKept Running size capacity ms qs l ns (rules + length ports) base) (sym (is ∙ ap (λ x. anns ++ x ∷ []) admitted.is))
+      (subst (λ n. IsKept Running size capacity ms qs (anns ++ ann_of ms anns who u b.port ∷ []) ns (rules + n) base) many
+      (more_kept phase base size capacity ms qs anns ns rules kept who u declared b admitted capacity (let e = many in let le = kept.room in omega arith)))
+
+  -- the line is taken
+  pub taken_at : (st : State) (name bytes : List ℕ) (more : List Announcement) (r : Reply) → state_of phase base size capacity ms qs anns ns ≡ st → is_placed st.phase (Update name bytes) ≡ true → pid_of (routing_of ms qs anns) name ≡ Some who → announced_prefix bytes ≡ u.prefix → announced_attrs bytes ≡ attrs_in u
+      → more ≡ anns ++ b ∷ [] → r ≡ announced_reply b ports b.tag → length ports ≤ capacity - rules → IsStep st (Update name bytes) r (state_of Running base size capacity ms qs more ns)
+  taken_at st name bytes more r is placed known prefix attrs pushed reply fits =
+      step_at (state_of phase base size capacity ms qs anns ns) st (state_of Running base size capacity ms qs (anns ++ ann_of ms anns who u b.port ∷ []) ns) (state_of Running base size capacity ms qs more ns) (Update name bytes)
+      (announced_reply (ann_of ms anns who u b.port) ports (ann_of ms anns who u b.port).tag) r is
+      (reply ∙ ap (λ (x : Announcement). announced_reply x ports x.tag) admitted.is)
+      (ap (λ l. state_of Running base size capacity ms qs l ns) (pushed ∙ ap (λ x. anns ++ x ∷ []) admitted.is))
+      (taken_step phase base size capacity ms qs anns ns rules kept who u declared b admitted ports same_those ascending name bytes (ap (λ (x : State). is_placed x.phase (Update name bytes)) is ∙ placed) known prefix attrs (let le = kept.room in omega arith))
