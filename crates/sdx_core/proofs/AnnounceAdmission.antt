@@ -1,10 +1,9 @@
 -- When an UPDATE is taken, by the tests that the code makes.
-use Rattle.std.proofs.Common.{◌≡◌, ℕ, zero, suc, ◌+◌, ◌≤◌, ◌<◌, Bool, true, false, cond, ◌&&◌, ◌||◌, not, nat_eq, nat_lt, nat_le, List, [], ◌∷◌, length, sym, ap, subst, ◌∙◌, refl, arith, slice_index_or}
+use Rattle.std.proofs.Common.{◌≡◌, ℕ, zero, suc, ◌+◌, ◌<◌, Bool, true, false, cond, ◌&&◌, ◌||◌, not, nat_eq, nat_lt, nat_le, List, [], ◌∷◌, length, sym, ap, ◌∙◌, refl, arith, slice_index_or}
 use Rattle.std.specs.Prelude.{Option, Some, None, is_some, find, slice_get}
 use Rattle.std.specs.List.{list_any}
 use Rattle.std.specs.Option.{option_map, option_map_or}
-use Rattle.std.proofs.lemmas.Bool.{or_from, or_left, or_right, eq-eqb, ltb-true, ltb-false, le-leb, lt-leb, not_from_true, not_from_false}
-use Rattle.net_types.specs.declared.address.Ip.{Ip}
+use Rattle.std.proofs.lemmas.Bool.{or_from, or_left, or_right, eq-eqb, ltb-true, lt-leb, not_from_true, not_from_false}
 use Rattle.net_types.specs.declared.address.Pid.{Pid}
 use Rattle.net_types.specs.declared.address.PortNo.{PortNo}
 use Rattle.net_types.specs.declared.address.Tag.{Tag}

@@ -1,5 +1,5 @@
 -- The kept lists with one announcement more.
-use Rattle.std.proofs.Common.{◌≡◌, ℕ, zero, suc, ◌+◌, ◌≤◌, ◌<◌, Bool, true, false, cond, ◌&&◌, ◌||◌, not, nat_eq, List, [], ◌∷◌, ◌++◌, length, map, filter, sym, ap, subst, ◌∙◌, refl, arith, sum_by, flat_map, length-append}
+use Rattle.std.proofs.Common.{◌≡◌, ℕ, ◌+◌, ◌≤◌, Bool, true, false, cond, ◌||◌, List, [], ◌∷◌, ◌++◌, length, map, filter, ap, ◌∙◌, refl, arith, length-append}
 use Rattle.std.specs.Prelude.{Option, Some, None, is_some, find}
 use Rattle.std.specs.List.{list_any, filter_map, cons_option}
 use Rattle.std.specs.Option.{option_map, option_map_or, option_and_then}
@@ -16,7 +16,6 @@ use Rattle.net_types.specs.declared.address.Ip.{Ip}
 use Rattle.net_types.specs.declared.address.Tag.{Tag}
 use Rattle.net_types.specs.declared.route.Participant.{Participant}
 use Rattle.net_types.specs.declared.route.PortInfo.{PortInfo}
-use Rattle.net_types.specs.declared.prefix.Prefix.{Prefix}
 use Rattle.net_types.specs.declared.rule.Pair.{Pair}
 use Rattle.net_types.specs.declared.rule.Rule.{Rule}
 use Rattle.sdx_core.specs.View.{is_announced, AreApart, ForEach, AreTagged, tag_at_place, is_given_on, tag_count, table_entry, table_entries, receives, is_receiver, owner_of, rule_to, IsOwn, IsKept}
@@ -78,10 +77,11 @@ each_mono P Q (x ∷ xs) h all = (h x all.0, each_mono P Q xs h all.1)
 pub apart_more : (anns : List Announcement) (a : Announcement) → AreApart anns → is_announced a.prefix anns ≡ false → AreApart (anns ++ a ∷ [])
 apart_more [] a apart new = (refl, tt)
 apart_more (b ∷ anns) a apart new =
-    let parts = or_parts (eq_by_cmp prefix_cmp a.prefix b.prefix) (is_announced a.prefix anns) new in
-    (any_more (λ (c : Announcement). eq_by_cmp prefix_cmp b.prefix c.prefix) anns a
-      ∙ or_from (is_announced b.prefix anns) (eq_by_cmp prefix_cmp b.prefix a.prefix) apart.0 ((eq_by_cmp_equiv prefixes_total).symm b.prefix a.prefix ∙ parts.0),
-      apart_more anns a apart.1 parts.1)
+    let parts = or_parts (eq_by_cmp prefix_cmp a.prefix b.prefix) (is_announced a.prefix anns) new in (
+      any_more (λ (c : Announcement). eq_by_cmp prefix_cmp b.prefix c.prefix) anns a
+          ∙ or_from (is_announced b.prefix anns) (eq_by_cmp prefix_cmp b.prefix a.prefix) apart.0 ((eq_by_cmp_equiv prefixes_total).symm b.prefix a.prefix ∙ parts.0),
+      apart_more anns a apart.1 parts.1,
+    )
 
 abbrev pub one_if : Bool → ℕ
 one_if b = cond b 1 0
@@ -174,7 +174,7 @@ kept_more phase size capacity ms qs anns ns rules base a more room kept own new 
   tagged = tagged_more ms 0 anns a kept.tagged (tag ∙ ap (tag_at_place (is_given_on ms a)) (let e : tag_count anns ≡ 0 + tag_count anns = omega arith in e));
   pool = (let one : one_tag a ≡ one_if (is_given_on ms a) = one_of ms (tag_count anns) a tag in let all : tag_count (anns ++ a ∷ []) ≡ tag_count anns + one_tag a = count_more anns a in omega arith);
   rules_are = (let before = kept.rules_are in let all : length (table_entries ms qs anns ++ new_entries ms qs a) ≡ length (table_entries ms qs anns) + length (new_entries ms qs a) = length-append (table_entries ms qs anns) (new_entries ms qs a) in
-    let whole : length (table_entries ms qs (anns ++ a ∷ [])) ≡ length (table_entries ms qs anns ++ new_entries ms qs a) = ap length (entries_more ms qs anns a) in omega arith);
+      let whole : length (table_entries ms qs (anns ++ a ∷ [])) ≡ length (table_entries ms qs anns ++ new_entries ms qs a) = ap length (entries_more ms qs anns a) in omega arith);
   room = fits;
   addresses = kept.addresses;
   small = kept.small;

@@ -1,12 +1,11 @@
 -- How many pairs are live after one announcement more.
-use Rattle.std.proofs.Common.{◌≡◌, ℕ, zero, suc, ◌+◌, ◌≤◌, ◌<◌, Bool, true, false, cond, ◌&&◌, ◌||◌, not, nat_eq, List, [], ◌∷◌, ◌++◌, length, map, filter, sym, ap, subst, ◌∙◌, refl, arith, inl, inr}
-use Rattle.std.specs.Prelude.{Option, Some, None, is_some, slice_get, ◌⊎◌}
-use Rattle.std.specs.Prelude as lists
+use Rattle.std.proofs.Common.{◌≡◌, ℕ, zero, suc, ◌+◌, ◌≤◌, ◌<◌, Bool, true, false, cond, ◌&&◌, ◌||◌, nat_eq, List, [], ◌∷◌, ◌++◌, length, map, filter, sym, ap, subst, ◌∙◌, refl, arith, inl, inr}
+use Rattle.std.specs.Prelude.{Option, Some, None, is_some, ◌⊎◌}
 use Rattle.std.specs.List.{list_any}
-use Rattle.std.specs.Option.{option_map, option_map_or, option_and_then}
+use Rattle.std.specs.Option.{option_map_or, option_and_then}
 use Rattle.std.specs.Ordering.{eq_by_cmp, is_eq, nat_cmp}
-use Rattle.std.specs.FinMap.{FinMap, get, keys, from_entries, find}
-use Rattle.std.proofs.lemmas.Bool.{or_left, or_right, cases_eq, eq-eqb, eqb-true, ne_eqb, and_left, and_right, and_parts}
+use Rattle.std.specs.FinMap.{get, find}
+use Rattle.std.proofs.lemmas.Bool.{or_left, or_right, cases_eq, eq-eqb, eqb-true, ne_eqb, and_left, and_right}
 use Rattle.events.specs.Refusals.{pairs, live_pairs}
 use Rattle.events.specs.Sound.{HasNoRepeats}
 use Rattle.events.specs.State.{State, port_of}
@@ -15,9 +14,9 @@ use Rattle.events.specs.declared.Phase.{Phase}
 use Rattle.net_types.proofs.FindLemmas.{find-IsFound}
 use Rattle.net_types.proofs.MapLemmas.{get-tabulate}
 use Rattle.net_types.proofs.OrderLemmas.{pairs_total}
-use Rattle.net_types.proofs.TieLemmas.{pair_cmp-IsAntisymmetric, same_from_tie, ties_itself, then_ties, nat_ties}
+use Rattle.net_types.proofs.TieLemmas.{pair_cmp-IsAntisymmetric, same_from_tie, then_ties, nat_ties}
 use Rattle.net_types.specs.Keys.{pair_cmp}
-use Rattle.net_types.specs.Maps.{tabulate, ordered}
+use Rattle.net_types.specs.Maps.{tabulate}
 use Rattle.net_types.specs.Routes.{numbers}
 use Rattle.net_types.specs.Sets.{Member, union_over}
 use Rattle.net_types.specs.declared.address.Ip.{Ip}
@@ -29,9 +28,9 @@ use Rattle.net_types.specs.declared.rule.Pair.{Pair}
 use Rattle.net_types.specs.declared.rule.Rule.{Rule}
 use Rattle.sdx_core.specs.View.{state_of, table_entries, rule_to, receives, AreTagged, IsKept, numbers_of, is_given_on, tag_at_place, tag_count}
 use Rattle.sdx_core.proofs.AnnounceLists.{is_some-any, new_entries, receiving, entry_for, new_entries_are, no_new_entries}
-use Rattle.sdx_core.proofs.AnnounceMaps.{AreFresh, any_map, any_filter, same_keys, length-keys, len_fresh}
+use Rattle.sdx_core.proofs.AnnounceMaps.{AreFresh, any_filter, same_keys, length-keys, len_fresh}
 use Rattle.sdx_core.proofs.AnnounceTable.{find_append}
-use Rattle.sdx_core.proofs.AnnounceTags.{has_tag, tag_of, taken_range, free_above}
+use Rattle.sdx_core.proofs.AnnounceTags.{has_tag, tag_of, taken_range}
 use Rattle.sdx_core.proofs.KeptLive.{kept_pairs}
 use Rattle.sdx_core.proofs.KeptMaps.{tagged_in}
 use Rattle.sdx_core.proofs.KeptTable.{table_kept}
@@ -50,17 +49,17 @@ number_absent : (t : Tag) (b : Announcement) (g : PortInfo → Bool) (p : PortIn
 number_absent t b g p [] away = refl
 number_absent t b g p (q ∷ qs) away = by (g q) (number_absent t b g p qs (λ m. away (inr m)))
   where
-  by : (c : Bool) → find pair_cmp (record { port = p.number; tag = t }) (map (entry_for t b) (filter g qs)) ≡ None → find pair_cmp (record { port = p.number; tag = t }) (map (entry_for t b) (cond c (q ∷ filter g qs) (filter g qs))) ≡ None
-  by true rest = ap (λ c. cond c (Some (rule_to b.port ∷ [])) (find pair_cmp (record { port = p.number; tag = t }) (map (entry_for t b) (filter g qs)))) (other_number t t p q (λ e. away (inl e))) ∙ rest
-  by false rest = rest
+    by : (c : Bool) → find pair_cmp (record { port = p.number; tag = t }) (map (entry_for t b) (filter g qs)) ≡ None → find pair_cmp (record { port = p.number; tag = t }) (map (entry_for t b) (cond c (q ∷ filter g qs) (filter g qs))) ≡ None
+    by true rest = ap (λ c. cond c (Some (rule_to b.port ∷ [])) (find pair_cmp (record { port = p.number; tag = t }) (map (entry_for t b) (filter g qs)))) (other_number t t p q (λ e. away (inl e))) ∙ rest
+    by false rest = rest
 
 fresh_ports : (t : Tag) (b : Announcement) (g : PortInfo → Bool) (qs : List PortInfo) → HasNoRepeats (numbers_of qs) → AreFresh pair_cmp (map (entry_for t b) (filter g qs))
 fresh_ports t b g [] apart = tt
 fresh_ports t b g (q ∷ qs) apart = by (g q) (fresh_ports t b g qs apart.1)
   where
-  by : (c : Bool) → AreFresh pair_cmp (map (entry_for t b) (filter g qs)) → AreFresh pair_cmp (map (entry_for t b) (cond c (q ∷ filter g qs) (filter g qs)))
-  by true rest = (number_absent t b g q qs apart.0, rest)
-  by false rest = rest
+    by : (c : Bool) → AreFresh pair_cmp (map (entry_for t b) (filter g qs)) → AreFresh pair_cmp (map (entry_for t b) (cond c (q ∷ filter g qs) (filter g qs)))
+    by true rest = (number_absent t b g q qs apart.0, rest)
+    by false rest = rest
 
 -- the entries of one announcement have its tag
 tag_absent_here : (t u : Tag) (n : PortNo) (b : Announcement) (ps : List PortInfo) → (t.0 ≡ u.0 → ⊥) → find pair_cmp (record { port = n; tag = t }) (map (entry_for u b) ps) ≡ None
@@ -74,30 +73,31 @@ early_tag ms qs n (b ∷ anns) t port tagged le =
     ∙ ap (λ o. option_map_or (λ x. Some x) o (find pair_cmp (record { port = port; tag = t }) (table_entries ms qs anns))) (here (is_given_on ms b) tagged.0)
     ∙ early_tag ms qs (cond (is_given_on ms b) (n + 1) n) anns t port tagged.1 (above (is_given_on ms b))
   where
-  here : (given : Bool) → b.tag ≡ tag_at_place given n → find pair_cmp (record { port = port; tag = t }) (new_entries ms qs b) ≡ None
-  here true is = ap (find pair_cmp (record { port = port; tag = t })) (new_entries_are ms qs b (tag_of (n + 1)) is) ∙ tag_absent_here t (tag_of (n + 1)) port b (receiving ms qs b) (λ e. omega arith)
-  here false is = ap (find pair_cmp (record { port = port; tag = t })) (no_new_entries ms qs b is)
+    here : (given : Bool) → b.tag ≡ tag_at_place given n → find pair_cmp (record { port = port; tag = t }) (new_entries ms qs b) ≡ None
+    here true is = ap (find pair_cmp (record { port = port; tag = t })) (new_entries_are ms qs b (tag_of (n + 1)) is) ∙ tag_absent_here t (tag_of (n + 1)) port b (receiving ms qs b) (λ e. omega arith)
+    here false is = ap (find pair_cmp (record { port = port; tag = t })) (no_new_entries ms qs b is)
 
-  above : (given : Bool) → t.0 ≤ cond given (n + 1) n
-  above true = omega arith
-  above false = le
+    above : (given : Bool) → t.0 ≤ cond given (n + 1) n
+    above true = omega arith
+    above false = le
 
 fresh_append : (t : Tag) (b : Announcement) (ps : List PortInfo) (es : List (Pair × List Rule)) → AreFresh pair_cmp (map (entry_for t b) ps) → ((n : PortNo) → find pair_cmp (record { port = n; tag = t }) es ≡ None) → AreFresh pair_cmp es → AreFresh pair_cmp (map (entry_for t b) ps ++ es)
 fresh_append t b [] es fresh none rest = rest
-fresh_append t b (p ∷ ps) es fresh none rest =
-    (find_append (record { port = p.number; tag = t }) (map (entry_for t b) ps) es ∙ ap (λ o. option_map_or (λ x. Some x) o (find pair_cmp (record { port = p.number; tag = t }) es)) fresh.0 ∙ none p.number,
-     fresh_append t b ps es fresh.1 none rest)
+fresh_append t b (p ∷ ps) es fresh none rest = (
+  find_append (record { port = p.number; tag = t }) (map (entry_for t b) ps) es ∙ ap (λ o. option_map_or (λ x. Some x) o (find pair_cmp (record { port = p.number; tag = t }) es)) fresh.0 ∙ none p.number,
+  fresh_append t b ps es fresh.1 none rest,
+)
 
 pub fresh_entries : (ms : List Participant) (qs : List PortInfo) (n : ℕ) (anns : List Announcement) → HasNoRepeats (numbers_of qs) → AreTagged ms n anns → AreFresh pair_cmp (table_entries ms qs anns)
 fresh_entries ms qs n [] apart tagged = tt
 fresh_entries ms qs n (b ∷ anns) apart tagged = by (is_given_on ms b) tagged.0 tagged.1 (fresh_entries ms qs (cond (is_given_on ms b) (n + 1) n) anns apart tagged.1)
   where
-  by : (given : Bool) → b.tag ≡ tag_at_place given n → AreTagged ms (cond given (n + 1) n) anns → AreFresh pair_cmp (table_entries ms qs anns) → AreFresh pair_cmp (new_entries ms qs b ++ table_entries ms qs anns)
-  by true is later rest =
-      subst (λ es. AreFresh pair_cmp (es ++ table_entries ms qs anns)) (sym (new_entries_are ms qs b (tag_of (n + 1)) is))
-      (fresh_append (tag_of (n + 1)) b (receiving ms qs b) (table_entries ms qs anns) (fresh_ports (tag_of (n + 1)) b (λ (q : PortInfo). receives ms b q.owner) qs apart)
-      (λ port. early_tag ms qs (n + 1) anns (tag_of (n + 1)) port later (omega arith)) rest)
-  by false is later rest = subst (λ es. AreFresh pair_cmp (es ++ table_entries ms qs anns)) (sym (no_new_entries ms qs b is)) rest
+    by : (given : Bool) → b.tag ≡ tag_at_place given n → AreTagged ms (cond given (n + 1) n) anns → AreFresh pair_cmp (table_entries ms qs anns) → AreFresh pair_cmp (new_entries ms qs b ++ table_entries ms qs anns)
+    by true is later rest =
+        subst (λ es. AreFresh pair_cmp (es ++ table_entries ms qs anns)) (sym (new_entries_are ms qs b (tag_of (n + 1)) is))
+        (fresh_append (tag_of (n + 1)) b (receiving ms qs b) (table_entries ms qs anns) (fresh_ports (tag_of (n + 1)) b (λ (q : PortInfo). receives ms b q.owner) qs apart)
+        (λ port. early_tag ms qs (n + 1) anns (tag_of (n + 1)) port later (omega arith)) rest)
+    by false is later rest = subst (λ es. AreFresh pair_cmp (es ++ table_entries ms qs anns)) (sym (no_new_entries ms qs b is)) rest
 
 -- ---- each live pair is one of a declared port and a tag of the pool
 
@@ -105,9 +105,9 @@ any_append_left : {A : Type 0} (f : A → Bool) (xs ys : List A) → list_any f 
 any_append_left f [] ys e = absurd (cc)
 any_append_left f (x ∷ xs) ys e = by (f x) e (any_append_left f xs ys)
   where
-  by : (b : Bool) → (b || list_any f xs) ≡ true → (list_any f xs ≡ true → list_any f (xs ++ ys) ≡ true) → (b || list_any f (xs ++ ys)) ≡ true
-  by true e rest = refl
-  by false e rest = rest e
+    by : (b : Bool) → (b || list_any f xs) ≡ true → (list_any f xs ≡ true → list_any f (xs ++ ys) ≡ true) → (b || list_any f (xs ++ ys)) ≡ true
+    by true e rest = refl
+    by false e rest = rest e
 
 any_append_right : {A : Type 0} (f : A → Bool) (xs ys : List A) → list_any f ys ≡ true → list_any f (xs ++ ys) ≡ true
 any_append_right f [] ys e = e
@@ -134,9 +134,9 @@ pool_member : (low count k : ℕ) → low ≤ k → k < low + count → Member (
 pool_member low zero k le lt = absurd (omega arith)
 pool_member low (suc count) k le lt = by (cases_eq k low) (λ other. pool_member (low + 1) count k (omega arith) (omega arith))
   where
-  by : (k ≡ low) ⊎ (k ≡ low → ⊥) → ((k ≡ low → ⊥) → Member (tag_of k) (map tag_of (numbers (low + 1) count))) → Member (tag_of k) (map tag_of (numbers low (suc count)))
-  by (inl e) later = inl (ap tag_of e)
-  by (inr other) later = inr (later other)
+    by : (k ≡ low) ⊎ (k ≡ low → ⊥) → ((k ≡ low → ⊥) → Member (tag_of k) (map tag_of (numbers (low + 1) count))) → Member (tag_of k) (map tag_of (numbers low (suc count)))
+    by (inl e) later = inl (ap tag_of e)
+    by (inr other) later = inr (later other)
 
 where_some : {A B : Type 0} (f : A → Option B) (o : Option A) → is_some (option_and_then f o) ≡ true → (x : A) × (o ≡ Some x) × (is_some (f x) ≡ true)
 where_some f None e = absurd (cc)
@@ -164,13 +164,13 @@ module _ (phase : Phase) (base : Ip) (size capacity : ℕ) (ms : List Participan
       ∙ ap (λ b. b && list_any (eq_by_cmp pair_cmp q) (pairs s)) (sym (kept_pairs phase base size capacity ms qs anns ns rules kept q))
       ∙ by (is_some (get s.table q)) (table_pair q)
     where
-    some_if : (b : Bool) → is_some (cond b (Some q) None) ≡ b
-    some_if true = refl
-    some_if false = refl
+      some_if : (b : Bool) → is_some (cond b (Some q) None) ≡ b
+      some_if true = refl
+      some_if false = refl
 
-    by : (b : Bool) → (b ≡ true → list_any (eq_by_cmp pair_cmp q) (pairs s) ≡ true) → (b && list_any (eq_by_cmp pair_cmp q) (pairs s)) ≡ b
-    by true h = h refl
-    by false h = refl
+      by : (b : Bool) → (b ≡ true → list_any (eq_by_cmp pair_cmp q) (pairs s) ≡ true) → (b && list_any (eq_by_cmp pair_cmp q) (pairs s)) ≡ b
+      by true h = h refl
+      by false h = refl
 
   -- as many pairs are live as the table has entries
   pub live_count : length (live_pairs s) ≡ length (table_entries ms qs anns)

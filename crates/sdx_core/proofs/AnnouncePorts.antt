@@ -1,17 +1,16 @@
 -- Ports that are sorted by number, and the rules that they get.
-use Rattle.std.proofs.Common.{◌≡◌, ℕ, zero, suc, ◌+◌, ◌≤◌, ◌<◌, Bool, true, false, cond, ◌&&◌, ◌||◌, not, nat_eq, nat_lt, nat_le, List, [], ◌∷◌, ◌++◌, length, map, filter, sym, ap, subst, ◌∙◌, refl, arith, inl, inr, sum_by, slice_index_or, T}
-use Rattle.std.specs.Prelude.{Option, Some, None, unwrap_or, ◌⊎◌}
+use Rattle.std.proofs.Common.{◌≡◌, ℕ, suc, ◌+◌, ◌≤◌, ◌<◌, Bool, true, false, cond, ◌||◌, nat_eq, nat_le, List, [], ◌∷◌, ◌++◌, length, map, filter, sym, ap, subst, ◌∙◌, refl, arith, inl, inr, sum_by, slice_index_or}
+use Rattle.std.specs.Prelude.{Some, None, unwrap_or, ◌⊎◌}
 use Rattle.std.specs.List.{list_any}
 use Rattle.std.specs.List.Sorted.{IsPermutation, IsNonDecreasingBy}
 use Rattle.std.specs.Ordering.{eq_by_cmp, is_eq, is_lt, nat_cmp, ordering_then}
 use Rattle.std.specs.FinMap.{FinMap, get, insert, get-insert, find, is_sorted}
 use Rattle.std.specs.FinMap.Entries.{below_all}
-use Rattle.std.specs.declared.cmp.Ordering.{Ordering}
-use Rattle.std.specs.declared.cmp.Ordering.TheVariants.{Less, Equal, Greater}
-use Rattle.std.proofs.lemmas.Bool.{cases_eq, eq-eqb, eqb-true, ne_eqb, le-leb, and_from, and_left}
+use Rattle.std.specs.declared.cmp.Ordering.TheVariants.{Less}
+use Rattle.std.proofs.lemmas.Bool.{cases_eq, eq-eqb, ne_eqb, le-leb, and_from, and_left}
 use Rattle.std.proofs.lemmas.List.Sorted.{sum_by-IsPermutation}
 use Rattle.std.proofs.lemmas.List.Sums.{sum_by-cons}
-use Rattle.events.specs.After.{put_flow, put_flows}
+use Rattle.events.specs.After.{put_flows}
 use Rattle.events.specs.Sound.{HasNoRepeats}
 use Rattle.net_types.proofs.OrderLemmas.{pairs_total}
 use Rattle.net_types.proofs.TieLemmas.{then_ties, nat_ties}
@@ -35,9 +34,9 @@ any_count : {A : Type 0} (test : A → Bool) (xs : List A) → list_any test xs 
 any_count test [] = refl
 any_count test (x ∷ xs) = by (test x) (any_count test xs) ∙ ap (nat_le 1) (sym (sum_by-cons (λ y. one_if (test y)) x xs))
   where
-  by : (b : Bool) → list_any test xs ≡ nat_le 1 (count_of test xs) → (b || list_any test xs) ≡ nat_le 1 (one_if b + count_of test xs)
-  by true rest = sym (le-leb 1 (1 + count_of test xs) (omega arith))
-  by false rest = rest ∙ ap (nat_le 1) (let e : count_of test xs ≡ 0 + count_of test xs = omega arith in e)
+    by : (b : Bool) → list_any test xs ≡ nat_le 1 (count_of test xs) → (b || list_any test xs) ≡ nat_le 1 (one_if b + count_of test xs)
+    by true rest = sym (le-leb 1 (1 + count_of test xs) (omega arith))
+    by false rest = rest ∙ ap (nat_le 1) (let e : count_of test xs ≡ 0 + count_of test xs = omega arith in e)
 
 -- what one list has, the other has
 pub any_permuted : {A : Type 0} (test : A → Bool) (xs ys : List A) → IsPermutation xs ys → list_any test ys ≡ list_any test xs
@@ -54,9 +53,9 @@ has_number k n = nat_eq k n.0
 one_more : (k : ℕ) (g : PortInfo → Bool) (q : PortInfo) (qs : List PortInfo) → count_of (has_number k) (numbers_where g (q ∷ qs)) ≤ one_if (nat_eq k q.number.0) + count_of (has_number k) (numbers_where g qs)
 one_more k g q qs = by (g q)
   where
-  by : (b : Bool) → count_of (has_number k) (map (λ (x : PortInfo). x.number) (cond b (q ∷ filter g qs) (filter g qs))) ≤ one_if (nat_eq k q.number.0) + count_of (has_number k) (numbers_where g qs)
-  by true = let e : count_of (has_number k) (q.number ∷ numbers_where g qs) ≡ one_if (nat_eq k q.number.0) + count_of (has_number k) (numbers_where g qs) = sum_by-cons (λ n. one_if (has_number k n)) q.number (numbers_where g qs) in omega arith
-  by false = omega arith
+    by : (b : Bool) → count_of (has_number k) (map (λ (x : PortInfo). x.number) (cond b (q ∷ filter g qs) (filter g qs))) ≤ one_if (nat_eq k q.number.0) + count_of (has_number k) (numbers_where g qs)
+    by true = let e : count_of (has_number k) (q.number ∷ numbers_where g qs) ≡ one_if (nat_eq k q.number.0) + count_of (has_number k) (numbers_where g qs) = sum_by-cons (λ n. one_if (has_number k n)) q.number (numbers_where g qs) in omega arith
+    by false = omega arith
 
 absent : (k : ℕ) (g : PortInfo → Bool) (qs : List PortInfo) → (Member k (numbers_of qs) → ⊥) → count_of (has_number k) (numbers_where g qs) ≤ 0
 absent k g [] away = omega arith
@@ -70,16 +69,16 @@ once : (k : ℕ) (g : PortInfo → Bool) (qs : List PortInfo) → HasNoRepeats (
 once k g [] h = omega arith
 once k g (q ∷ qs) h = by (cases_eq k q.number.0) (once k g qs h.1)
   where
-  by : (k ≡ q.number.0) ⊎ (k ≡ q.number.0 → ⊥) → count_of (has_number k) (numbers_where g qs) ≤ 1 → count_of (has_number k) (numbers_where g (q ∷ qs)) ≤ 1
-  by (inl e) rest =
-      let none : count_of (has_number k) (numbers_where g qs) ≤ 0 = absent k g qs (λ m. h.0 (subst (λ n. Member n (numbers_of qs)) e m)) in
-      let here : one_if (nat_eq k q.number.0) ≡ 1 = ap one_if (eq-eqb k q.number.0 e) in
-      let all = one_more k g q qs in
-      omega arith
-  by (inr other) rest =
-      let here : one_if (nat_eq k q.number.0) ≡ 0 = ap one_if (ne_eqb k q.number.0 other) in
-      let all = one_more k g q qs in
-      omega arith
+    by : (k ≡ q.number.0) ⊎ (k ≡ q.number.0 → ⊥) → count_of (has_number k) (numbers_where g qs) ≤ 1 → count_of (has_number k) (numbers_where g (q ∷ qs)) ≤ 1
+    by (inl e) rest =
+        let none : count_of (has_number k) (numbers_where g qs) ≤ 0 = absent k g qs (λ m. h.0 (subst (λ n. Member n (numbers_of qs)) e m)) in
+        let here : one_if (nat_eq k q.number.0) ≡ 1 = ap one_if (eq-eqb k q.number.0 e) in
+        let all = one_more k g q qs in
+        omega arith
+    by (inr other) rest =
+        let here : one_if (nat_eq k q.number.0) ≡ 0 = ap one_if (ne_eqb k q.number.0 other) in
+        let all = one_more k g q qs in
+        omega arith
 
 -- ---- numbers that rise
 
@@ -95,27 +94,28 @@ above : (k : ℕ) (ns : List PortNo) → ((j : ℕ) (d : PortNo) → j < length 
 above k [] up none = tt
 above k (n ∷ ns) up none = by (cases_eq k n.0) (λ few. above k ns (λ j d lt. up (suc j) d (omega arith)) few)
   where
-  all : count_of (has_number k) (n ∷ ns) ≡ one_if (nat_eq k n.0) + count_of (has_number k) ns
-  all = sum_by-cons (λ m. one_if (has_number k m)) n ns
+    all : count_of (has_number k) (n ∷ ns) ≡ one_if (nat_eq k n.0) + count_of (has_number k) ns
+    all = sum_by-cons (λ m. one_if (has_number k m)) n ns
 
-  by : (k ≡ n.0) ⊎ (k ≡ n.0 → ⊥) → (count_of (has_number k) ns ≤ 0 → AllAbove k ns) → AllAbove k (n ∷ ns)
-  by (inl e) later = absurd (let here : one_if (nat_eq k n.0) ≡ 1 = ap one_if (eq-eqb k n.0 e) in let sums = all in omega arith)
-  by (inr other) later =
-      let least : k ≤ n.0 = up 0 n (omega arith) in
-      let sums = all in
-      (omega arith, later (omega arith))
+    by : (k ≡ n.0) ⊎ (k ≡ n.0 → ⊥) → (count_of (has_number k) ns ≤ 0 → AllAbove k ns) → AllAbove k (n ∷ ns)
+    by (inl e) later = absurd (let here : one_if (nat_eq k n.0) ≡ 1 = ap one_if (eq-eqb k n.0 e) in let sums = all in omega arith)
+    by (inr other) later =
+        let least : k ≤ n.0 = up 0 n (omega arith) in
+        let sums = all in
+        (omega arith, later (omega arith))
 
 pub rises : (ns : List PortNo) → IsNonDecreasingBy (λ (n : PortNo). n.0) ns → ((k : ℕ) → count_of (has_number k) ns ≤ 1) → Rises ns
 rises [] up few = tt
 rises (n ∷ ns) up few =
     let all : count_of (has_number n.0) (n ∷ ns) ≡ one_if (nat_eq n.0 n.0) + count_of (has_number n.0) ns = sum_by-cons (λ m. one_if (has_number n.0 m)) n ns in
     let here : one_if (nat_eq n.0 n.0) ≡ 1 = ap one_if (eq-eqb n.0 n.0 refl) in
-    let most = few n.0 in
-    (above n.0 ns (λ j d lt. up 0 (suc j) d (omega arith) (omega arith)) (omega arith),
-     rises ns (λ i j d le lt. up (suc i) (suc j) d (omega arith) (omega arith)) (λ k.
-      let sum : count_of (has_number k) (n ∷ ns) ≡ one_if (nat_eq k n.0) + count_of (has_number k) ns = sum_by-cons (λ m. one_if (has_number k m)) n ns in
-      let top = few k in
-      omega arith))
+    let most = few n.0 in (
+      above n.0 ns (λ j d lt. up 0 (suc j) d (omega arith) (omega arith)) (omega arith),
+      rises ns (λ i j d le lt. up (suc i) (suc j) d (omega arith) (omega arith)) (λ k.
+          let sum : count_of (has_number k) (n ∷ ns) ≡ one_if (nat_eq k n.0) + count_of (has_number k) ns = sum_by-cons (λ m. one_if (has_number k m)) n ns in
+          let top = few k in
+          omega arith),
+    )
 
 -- sorted, the numbers of some ports rise
 pub ports_rise : (g : PortInfo → Bool) (qs : List PortInfo) (ns : List PortNo) → HasNoRepeats (numbers_of qs) → IsPermutation (map (λ (q : PortInfo). q.number) (filter g qs)) ns → IsNonDecreasingBy (λ (n : PortNo). n.0) ns → Rises ns
@@ -141,9 +141,9 @@ pub find_entry : (t : Tag) (to : PortNo) (ns : List PortNo) (q : Pair) → find 
 find_entry t to [] q = refl
 find_entry t to (n ∷ ns) q = ap (cond (eq_by_cmp pair_cmp q (pair_of t n)) (Some (rule_to to ∷ []))) (find_entry t to ns q) ∙ by (eq_by_cmp pair_cmp q (pair_of t n)) (is_for t ns q)
   where
-  by : (b c : Bool) → cond b (Some (rule_to to ∷ [])) (cond c (Some (rule_to to ∷ [])) None) ≡ cond (b || c) (Some (rule_to to ∷ [])) None
-  by true c = refl
-  by false c = refl
+    by : (b c : Bool) → cond b (Some (rule_to to ∷ [])) (cond c (Some (rule_to to ∷ [])) None) ≡ cond (b || c) (Some (rule_to to ∷ [])) None
+    by true c = refl
+    by false c = refl
 
 less_cmp : (m n : ℕ) → m < n → nat_cmp m n ≡ Less
 less_cmp m n lt = grind (arith)
@@ -183,8 +183,8 @@ get-flows table t to (n ∷ ns) up new q =
     ∙ ap (cond (is_for t ns q) (Some (rule_to to ∷ []))) (get-insert pairs_total table (pair_of t n) block q ∙ ap (λ o. cond (eq_by_cmp pair_cmp q (pair_of t n)) (Some (unwrap_or o [] ++ rule_to to ∷ [])) (get table q)) new.0)
     ∙ by (is_for t ns q) (eq_by_cmp pair_cmp q (pair_of t n))
   where
-  by : (b c : Bool) → cond b (Some (rule_to to ∷ [])) (cond c (Some (rule_to to ∷ [])) (get table q)) ≡ cond (c || b) (Some (rule_to to ∷ [])) (get table q)
-  by true true = refl
-  by true false = refl
-  by false true = refl
-  by false false = refl
+    by : (b c : Bool) → cond b (Some (rule_to to ∷ [])) (cond c (Some (rule_to to ∷ [])) (get table q)) ≡ cond (c || b) (Some (rule_to to ∷ [])) (get table q)
+    by true true = refl
+    by true false = refl
+    by false true = refl
+    by false false = refl

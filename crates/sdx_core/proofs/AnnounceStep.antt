@@ -1,19 +1,18 @@
 -- When the line `update` is refused, and the step that it is where it is taken.
-use Rattle.std.proofs.Common.{◌≡◌, ℕ, zero, suc, ◌+◌, ◌-◌, ◌*◌, ◌≤◌, ◌<◌, Bool, true, false, cond, ◌&&◌, ◌||◌, not, nat_eq, nat_lt, nat_le, List, [], ◌∷◌, ◌++◌, length, map, filter, sym, ap, subst, ◌∙◌, refl, arith, inl, inr, slice_index_or}
+use Rattle.std.proofs.Common.{◌≡◌, ℕ, zero, suc, ◌+◌, ◌-◌, ◌≤◌, ◌<◌, Bool, true, false, cond, ◌&&◌, ◌||◌, not, nat_eq, nat_lt, nat_le, List, [], ◌∷◌, ◌++◌, length, map, sym, ap, subst, ◌∙◌, refl, arith, inl, inr}
 use Rattle.std.specs.Prelude.{Option, Some, None, is_some, slice_get, slice_index, find, ◌⊎◌}
 use Rattle.std.specs.List.{list_any, position_from}
 use Rattle.std.specs.List.Sorted.{IsPermutation, IsNonDecreasingBy}
 use Rattle.std.specs.Option.{option_map, option_map_or, option_and_then}
-use Rattle.std.specs.FinMap.{get}
 use Rattle.std.specs.Ordering.{eq_by_cmp}
 use Rattle.net_types.specs.Keys.{prefix_cmp}
-use Rattle.std.proofs.lemmas.Bool.{or_left, or_right, or_parts, or_cases, or_from, and_from, and_parts, eq-eqb, eqb-true, ne_eqb, lt-ltb, le-ltb, not-true, not-false, cases_Bool, cases_eq, leb-false}
+use Rattle.std.proofs.lemmas.Bool.{or_left, or_right, or_parts, and_parts, eq-eqb, eqb-true, ne_eqb, lt-ltb, le-ltb, not-false, cases_Bool, cases_eq, leb-false}
 use Rattle.std.proofs.lemmas.List.Sorted.{length_permutation}
-use Rattle.events.specs.After.{next, after, with_known, with_route, put_flows}
+use Rattle.events.specs.After.{next, with_known, with_route, put_flows}
 use Rattle.events.specs.Fits.{IsStep, IsBuilt, bare, none_rebuilt}
-use Rattle.events.specs.Refusals.{refusal, refusal_in_place, is_placed, if_known, unless, cannot_announce, has_route, has_next_hop, live_pairs}
+use Rattle.events.specs.Refusals.{refusal, refusal_in_place, is_placed, if_known, unless, cannot_announce, has_route, live_pairs}
 use Rattle.events.specs.Restricted.{announced_attrs, announced_prefix}
-use Rattle.events.specs.Sound.{HasNoRepeats, IsSound}
+use Rattle.events.specs.Sound.{HasNoRepeats}
 use Rattle.events.specs.State.{State}
 use Rattle.events.specs.Tags.{retagged, free_tags, groups}
 use Rattle.events.specs.declared.Event.{Event}
@@ -25,11 +24,10 @@ use Rattle.events.specs.declared.Refusal.TheVariants.{BadLine, Misplaced, Unknow
 use Rattle.events.specs.declared.Reply.{Reply}
 use Rattle.events.specs.declared.TagChange.{TagChange}
 use Rattle.net_types.proofs.FindLemmas.{any_at, any_false, find-IsFound, slice_get_some}
-use Rattle.net_types.specs.Exports.{Routing, pid_of, route}
+use Rattle.net_types.specs.Exports.{pid_of, route}
 use Rattle.net_types.specs.Octets.{same_octets, word_at, address_at}
 use Rattle.net_types.specs.Routes.{numbers, pids}
 use Rattle.net_types.specs.Sets.{Member}
-use Rattle.net_types.specs.Signatures.{port_with}
 use Rattle.net_types.specs.declared.address.Ip.{Ip}
 use Rattle.net_types.specs.declared.address.Pid.{Pid}
 use Rattle.net_types.specs.declared.address.PortNo.{PortNo}
@@ -40,15 +38,15 @@ use Rattle.net_types.specs.declared.route.Participant.{Participant}
 use Rattle.net_types.specs.declared.route.PortInfo.{PortInfo}
 use Rattle.net_types.specs.declared.route.Segment.TheVariants.{Sequence}
 use Rattle.sdx_core.specs.Building.{is_at, kept_of, has_others, is_inadmissible, IsAdmitted, flow_to, announced_reply}
-use Rattle.sdx_core.specs.View.{attrs_of, state_of, routing_of, is_announced, announced_in, table_entries, numbers_of, addresses_of, receives, ForEach, IsOwn, IsKept, is_given_on, tag_at_place, tag_count, AreApart}
+use Rattle.sdx_core.specs.View.{attrs_of, state_of, routing_of, is_announced, announced_in, numbers_of, addresses_of, receives, ForEach, IsOwn, IsKept, is_given_on, tag_at_place, tag_count, AreApart}
 use Rattle.sdx_core.proofs.AnnounceGroups.{new_routing, full_pool, retagged_is}
 use Rattle.sdx_core.proofs.AnnounceLists.{is_some-any, entry_for, new_entries, receiving, kept_more, one_if}
 use Rattle.sdx_core.proofs.AnnounceLive.{live_count}
-use Rattle.sdx_core.proofs.AnnounceMaps.{any_map, same_any, length-map}
+use Rattle.sdx_core.proofs.AnnounceMaps.{same_any, length-map}
 use Rattle.sdx_core.proofs.AnnouncePorts.{Rises, ports_rise}
 use Rattle.sdx_core.proofs.AnnounceTable.{brings, none_receiving, table_is, dropped_is, added_is, tags_told}
 use Rattle.sdx_core.proofs.AnnounceTags.{tag_of}
-use Rattle.sdx_core.proofs.Kept.{route_from, route_kept, announced_none, announced_Member, is_own, own_declared}
+use Rattle.sdx_core.proofs.Kept.{route_from, route_kept, is_own, own_declared}
 use Rattle.sdx_core.proofs.Soundness.{kept_sound}
 use Rattle.sdx_core.proofs.Steps.{accepted, refused_step, step_at}
 use Rattle.sdx_core.specs.declared.announcement.Announcement.{Announcement}
@@ -60,24 +58,24 @@ pid_member : (low count k : ℕ) → low ≤ k → k < low + count → Member (r
 pid_member low zero k le lt = absurd (omega arith)
 pid_member low (suc count) k le lt = by (cases_eq k low) (λ other. pid_member (low + 1) count k (omega arith) (omega arith))
   where
-  by : (k ≡ low) ⊎ (k ≡ low → ⊥) → ((k ≡ low → ⊥) → Member (record { 0 = k }) (map (λ n. let who : Pid = record { 0 = n } in who) (numbers (low + 1) count))) → Member (record { 0 = k }) (map (λ n. let who : Pid = record { 0 = n } in who) (numbers low (suc count)))
-  by (inl e) later = inl (ap (λ n. let who : Pid = record { 0 = n } in who) e)
-  by (inr other) later = inr (later other)
+    by : (k ≡ low) ⊎ (k ≡ low → ⊥) → ((k ≡ low → ⊥) → Member (record { 0 = k }) (map (λ n. let who : Pid = record { 0 = n } in who) (numbers (low + 1) count))) → Member (record { 0 = k }) (map (λ n. let who : Pid = record { 0 = n } in who) (numbers low (suc count)))
+    by (inl e) later = inl (ap (λ n. let who : Pid = record { 0 = n } in who) e)
+    by (inr other) later = inr (later other)
 
 -- somebody has a route exactly for what is announced
 pub has_route_kept : (phase : Phase) (base : Ip) (size capacity : ℕ) (ms : List Participant) (qs : List PortInfo) (anns : List Announcement) (ns : List ℕ) → AreApart anns → ForEach (IsOwn ms qs) anns → (p : Prefix) → has_route (state_of phase base size capacity ms qs anns ns) p ≡ is_announced p anns
 has_route_kept phase base size capacity ms qs anns ns apart own p = by (announced_in anns p) refl ∙ is_some-any (λ (a : Announcement). eq_by_cmp prefix_cmp p a.prefix) anns
   where
-  has : (o : Option Announcement) → announced_in anns p ≡ o → (who : Pid) → is_some (route (routing_of ms qs anns) who p) ≡ is_some (option_and_then (route_from who) o)
-  has o there who = ap is_some (route_kept ms qs anns apart who p ∙ ap (option_and_then (route_from who)) there)
+    has : (o : Option Announcement) → announced_in anns p ≡ o → (who : Pid) → is_some (route (routing_of ms qs anns) who p) ≡ is_some (option_and_then (route_from who) o)
+    has o there who = ap is_some (route_kept ms qs anns apart who p ∙ ap (option_and_then (route_from who)) there)
 
-  by : (o : Option Announcement) → announced_in anns p ≡ o → has_route (state_of phase base size capacity ms qs anns ns) p ≡ is_some (announced_in anns p)
-  by None none = same_any (λ who. is_some (route (routing_of ms qs anns) who p)) (λ who. false) (pids (routing_of ms qs anns)) (has None none) ∙ any_false (pids (routing_of ms qs anns)) ∙ sym (ap is_some none)
-  by (Some a) there =
-      let declared : a.from.0 < length ms = own_declared ms qs a (is_own ms qs anns own p a there) in
-      any_at (λ who. is_some (route (routing_of ms qs anns) who p)) (pids (routing_of ms qs anns)) a.from (pid_member 0 (length ms) a.from.0 (omega arith) (omega arith))
-      (has (Some a) there a.from ∙ ap (λ b. is_some (cond b (Some (attrs_of a)) None)) (eq-eqb a.from.0 a.from.0 refl))
-      ∙ sym (ap is_some there)
+    by : (o : Option Announcement) → announced_in anns p ≡ o → has_route (state_of phase base size capacity ms qs anns ns) p ≡ is_some (announced_in anns p)
+    by None none = same_any (λ who. is_some (route (routing_of ms qs anns) who p)) (λ who. false) (pids (routing_of ms qs anns)) (has None none) ∙ any_false (pids (routing_of ms qs anns)) ∙ sym (ap is_some none)
+    by (Some a) there =
+        let declared : a.from.0 < length ms = own_declared ms qs a (is_own ms qs anns own p a there) in
+        any_at (λ who. is_some (route (routing_of ms qs anns) who p)) (pids (routing_of ms qs anns)) a.from (pid_member 0 (length ms) a.from.0 (omega arith) (omega arith))
+        (has (Some a) there a.from ∙ ap (λ b. is_some (cond b (Some (attrs_of a)) None)) (eq-eqb a.from.0 a.from.0 refl))
+        ∙ sym (ap is_some there)
 
 -- ---- the port of a next hop
 
@@ -161,19 +159,19 @@ module _ (phase : Phase) (base : Ip) (size capacity : ℕ) (ms : List Participan
   pub inadmissible_cannot : is_inadmissible ms qs anns size who u ≡ true → cannot_announce before who u.prefix (attrs_in u) ≡ true
   inadmissible_cannot refused = cannot_is ∙ by (cases_Bool other_as) (cases_Bool no_next_hop) (cases_Bool (is_announced u.prefix anns))
     where
-    first : Bool
-    first = (other_as || no_next_hop) || is_announced u.prefix anns
+      first : Bool
+      first = (other_as || no_next_hop) || is_announced u.prefix anns
 
-    by : (other_as ≡ true) ⊎ (other_as ≡ false) → (no_next_hop ≡ true) ⊎ (no_next_hop ≡ false) → (is_announced u.prefix anns ≡ true) ⊎ (is_announced u.prefix anns ≡ false) → (((other_as || no_next_hop) || is_announced u.prefix anns) || is_full || is_over) ≡ true
-    by (inl other) b c = ap (λ x. ((x || no_next_hop) || is_announced u.prefix anns) || is_full || is_over) other
-    by (inr same) (inl away) c = ap (λ x. ((x || no_next_hop) || is_announced u.prefix anns) || is_full || is_over) same ∙ ap (λ x. (x || is_announced u.prefix anns) || is_full || is_over) away
-    by (inr same) (inr near) (inl old) = ap (λ x. ((x || no_next_hop) || is_announced u.prefix anns) || is_full || is_over) same ∙ ap (λ x. (x || is_announced u.prefix anns) || is_full || is_over) near ∙ ap (λ x. x || is_full || is_over) old
-    by (inr same) (inr near) (inr new) =
-        let q = there_is (find (is_at who u.next_hop) qs) (is_some-any (is_at who u.next_hop) qs ∙ not-false (list_any (is_at who u.next_hop) qs) near) in
-        let full : (has_others ms u.asn && nat_le size (tag_count anns)) ≡ true =
-        sym (ap (λ x. ((x || no_next_hop) || is_announced u.prefix anns) || (has_others ms u.asn && nat_le size (tag_count anns))) same ∙ ap (λ x. (x || is_announced u.prefix anns) || (has_others ms u.asn && nat_le size (tag_count anns))) near ∙ ap (λ x. x || (has_others ms u.asn && nat_le size (tag_count anns))) new) ∙ refused in
-        or_left (((other_as || no_next_hop) || is_announced u.prefix anns) || is_full) is_over
-        (or_right ((other_as || no_next_hop) || is_announced u.prefix anns) is_full (full_is q.0.number (ap (option_map (λ (x : PortInfo). x.number)) q.1) same new ∙ full))
+      by : (other_as ≡ true) ⊎ (other_as ≡ false) → (no_next_hop ≡ true) ⊎ (no_next_hop ≡ false) → (is_announced u.prefix anns ≡ true) ⊎ (is_announced u.prefix anns ≡ false) → (((other_as || no_next_hop) || is_announced u.prefix anns) || is_full || is_over) ≡ true
+      by (inl other) b c = ap (λ x. ((x || no_next_hop) || is_announced u.prefix anns) || is_full || is_over) other
+      by (inr same) (inl away) c = ap (λ x. ((x || no_next_hop) || is_announced u.prefix anns) || is_full || is_over) same ∙ ap (λ x. (x || is_announced u.prefix anns) || is_full || is_over) away
+      by (inr same) (inr near) (inl old) = ap (λ x. ((x || no_next_hop) || is_announced u.prefix anns) || is_full || is_over) same ∙ ap (λ x. (x || is_announced u.prefix anns) || is_full || is_over) near ∙ ap (λ x. x || is_full || is_over) old
+      by (inr same) (inr near) (inr new) =
+          let q = there_is (find (is_at who u.next_hop) qs) (is_some-any (is_at who u.next_hop) qs ∙ not-false (list_any (is_at who u.next_hop) qs) near) in
+          let full : (has_others ms u.asn && nat_le size (tag_count anns)) ≡ true =
+          sym (ap (λ x. ((x || no_next_hop) || is_announced u.prefix anns) || (has_others ms u.asn && nat_le size (tag_count anns))) same ∙ ap (λ x. (x || is_announced u.prefix anns) || (has_others ms u.asn && nat_le size (tag_count anns))) near ∙ ap (λ x. x || (has_others ms u.asn && nat_le size (tag_count anns))) new) ∙ refused in
+          or_left (((other_as || no_next_hop) || is_announced u.prefix anns) || is_full) is_over
+          (or_right ((other_as || no_next_hop) || is_announced u.prefix anns) is_full (full_is q.0.number (ap (option_map (λ (x : PortInfo). x.number)) q.1) same new ∙ full))
 
   -- ---- what is admitted
 
@@ -197,9 +195,9 @@ module _ (phase : Phase) (base : Ip) (size capacity : ℕ) (ms : List Participan
     pub more_kept : (top : ℕ) → rules + length (new_entries ms qs a) ≤ top → IsKept Running size top ms qs (anns ++ a ∷ []) ns (rules + length (new_entries ms qs a)) base
     more_kept top fits = kept_more phase size capacity ms qs anns ns rules base a (length (new_entries ms qs a)) top kept a_own passed.2 refl (by (is_given_on ms a) room) refl fits
       where
-      by : (given : Bool) → (given ≡ true → tag_count anns < size) → tag_count anns + one_if given ≤ size
-      by true less = let lt = less refl in omega arith
-      by false less = let le = kept.pool in omega arith
+        by : (given : Bool) → (given ≡ true → tag_count anns < size) → tag_count anns + one_if given ≤ size
+        by true less = let lt = less refl in omega arith
+        by false less = let le = kept.pool in omega arith
 
     -- only want of room in the table is left
     pub cannot_over : cannot_announce before who u.prefix (attrs_in u) ≡ nat_lt capacity (rules + length (new_entries ms qs a))
@@ -212,8 +210,8 @@ module _ (phase : Phase) (base : Ip) (size capacity : ℕ) (ms : List Participan
         ∙ ap (λ s. nat_lt capacity (length (live_pairs s))) (retagged_is phase base size capacity ms qs anns ns rules kept a a_own passed.2 refl room)
         ∙ ap (nat_lt capacity) (live_count Running base size (rules + length (new_entries ms qs a)) ms qs (anns ++ a ∷ []) ns (rules + length (new_entries ms qs a)) later ∙ sym later.rules_are)
       where
-      later : IsKept Running size (rules + length (new_entries ms qs a)) ms qs (anns ++ a ∷ []) ns (rules + length (new_entries ms qs a)) base
-      later = more_kept (rules + length (new_entries ms qs a)) (omega arith)
+        later : IsKept Running size (rules + length (new_entries ms qs a)) ms qs (anns ++ a ∷ []) ns (rules + length (new_entries ms qs a)) base
+        later = more_kept (rules + length (new_entries ms qs a)) (omega arith)
 
     -- ---- the step
 
@@ -241,17 +239,17 @@ module _ (phase : Phase) (base : Ip) (size capacity : ℕ) (ms : List Participan
       no_ports : is_given_on ms a ≡ false → ports ≡ []
       no_ports given = empty ports (length_permutation (map (λ (q : PortInfo). q.number) (receiving ms qs a)) ports those ∙ ap (λ ps. length (map (λ (q : PortInfo). q.number) ps)) (none_receiving ms qs a given))
         where
-        empty : {A : Type 0} (xs : List A) → length xs ≡ 0 → xs ≡ []
-        empty [] e = refl
-        empty (x ∷ xs) e = absurd (omega arith)
+          empty : {A : Type 0} (xs : List A) → length xs ≡ 0 → xs ≡ []
+          empty [] e = refl
+          empty (x ∷ xs) e = absurd (omega arith)
 
       -- the reply that the code makes
       reply_is : announced_reply a ports a.tag ≡ reply
       reply_is = by (is_given_on ms a) no_ports
         where
-        by : (given : Bool) → (given ≡ false → ports ≡ []) → announced_reply a ports (tag_at_place given (tag_count anns)) ≡ record (bare Fine) { tags = cond (is_some (tag_at_place given (tag_count anns))) (record { prefix = a.prefix; tag = tag_at_place given (tag_count anns) } ∷ []) []; adds = map (flow_to fresh b.port) ports }
-        by true none = refl
-        by false none = ap (λ ns. let r : Reply = record (bare Fine) { adds = map (flow_to fresh b.port) ns } in r) (sym (none refl))
+          by : (given : Bool) → (given ≡ false → ports ≡ []) → announced_reply a ports (tag_at_place given (tag_count anns)) ≡ record (bare Fine) { tags = cond (is_some (tag_at_place given (tag_count anns))) (record { prefix = a.prefix; tag = tag_at_place given (tag_count anns) } ∷ []) []; adds = map (flow_to fresh b.port) ports }
+          by true none = refl
+          by false none = ap (λ ns. let r : Reply = record (bare Fine) { adds = map (flow_to fresh b.port) ns } in r) (sym (none refl))
 
       abbrev later : State
       later = state_of Running base size capacity ms qs (anns ++ a ∷ []) ns
@@ -274,24 +272,24 @@ module _ (phase : Phase) (base : Ip) (size capacity : ℕ) (ms : List Participan
           subst (λ r. IsStep before (Update name bytes) r later) (sym reply_is)
           (accepted before (Update name bytes) reply later none (sym next_is) built (kept_sound Running base size capacity ms qs (anns ++ a ∷ []) ns (rules + length (new_entries ms qs a)) (more_kept capacity enough)))
         where
-        enough : rules + length (new_entries ms qs a) ≤ capacity
-        enough = let e = as_many in omega arith
+          enough : rules + length (new_entries ms qs a) ≤ capacity
+          enough = let e = as_many in omega arith
 
-        none : refusal before (Update name bytes) ≡ None
-        none =
-            ap (λ x. cond x (refusal_in_place before (Update name bytes)) (Some Misplaced)) placed
-            ∙ ap (λ o. if_known o (λ w. unless (cannot_announce before w (announced_prefix bytes) (announced_attrs bytes)) BadLine)) known
-            ∙ ap (λ p. unless (cannot_announce before who p (announced_attrs bytes)) BadLine) prefix
-            ∙ ap (λ x. unless (cannot_announce before who u.prefix x) BadLine) attrs
-            ∙ ap (λ x. unless x BadLine) (cannot_over ∙ le-ltb capacity (rules + length (new_entries ms qs a)) enough)
+          none : refusal before (Update name bytes) ≡ None
+          none =
+              ap (λ x. cond x (refusal_in_place before (Update name bytes)) (Some Misplaced)) placed
+              ∙ ap (λ o. if_known o (λ w. unless (cannot_announce before w (announced_prefix bytes) (announced_attrs bytes)) BadLine)) known
+              ∙ ap (λ p. unless (cannot_announce before who p (announced_attrs bytes)) BadLine) prefix
+              ∙ ap (λ x. unless (cannot_announce before who u.prefix x) BadLine) attrs
+              ∙ ap (λ x. unless x BadLine) (cannot_over ∙ le-ltb capacity (rules + length (new_entries ms qs a)) enough)
 
-        next_is : next before (Update name bytes) reply ≡ later
-        next_is =
-            ap (λ o. let x : State = with_known before o (λ w. retagged before (with_route before.routing w (announced_prefix bytes) (announced_attrs bytes))) in record x { table = put_flows before.table reply.adds }) known
-            ∙ ap (λ p. let x : State = retagged before (with_route before.routing who p (announced_attrs bytes)) in record x { table = put_flows before.table reply.adds }) prefix
-            ∙ ap (λ t. let x : State = retagged before (with_route before.routing who u.prefix t) in record x { table = put_flows before.table reply.adds }) attrs
-            ∙ ap (λ (x : State). record x { table = put_flows before.table reply.adds }) table_then
-            ∙ ap (λ t. record later { table = t }) (table_is phase base size capacity ms qs anns ns rules kept a a_own passed.2 refl ports those up)
+          next_is : next before (Update name bytes) reply ≡ later
+          next_is =
+              ap (λ o. let x : State = with_known before o (λ w. retagged before (with_route before.routing w (announced_prefix bytes) (announced_attrs bytes))) in record x { table = put_flows before.table reply.adds }) known
+              ∙ ap (λ p. let x : State = retagged before (with_route before.routing who p (announced_attrs bytes)) in record x { table = put_flows before.table reply.adds }) prefix
+              ∙ ap (λ t. let x : State = retagged before (with_route before.routing who u.prefix t) in record x { table = put_flows before.table reply.adds }) attrs
+              ∙ ap (λ (x : State). record x { table = put_flows before.table reply.adds }) table_then
+              ∙ ap (λ t. record later { table = t }) (table_is phase base size capacity ms qs anns ns rules kept a a_own passed.2 refl ports those up)
 
 -- ---- the refusals
 
@@ -307,11 +305,11 @@ pub bad_step : (s st : State) (name bytes : List ℕ) (r : Reply) (who : Pid) (u
 bad_step s st name bytes r who u is placed known prefix attrs cannot reply =
     refused_step st (Update name bytes) r BadLine
     (unplaced st (Update name bytes) placed
-      ∙ ap (λ o. if_known o (λ w. unless (cannot_announce st w (announced_prefix bytes) (announced_attrs bytes)) BadLine)) (ap (λ (x : State). pid_of x.routing name) (sym is) ∙ known)
-      ∙ ap (λ (x : State). unless (cannot_announce x who (announced_prefix bytes) (announced_attrs bytes)) BadLine) (sym is)
-      ∙ ap (λ p. unless (cannot_announce s who p (announced_attrs bytes)) BadLine) prefix
-      ∙ ap (λ x. unless (cannot_announce s who u.prefix x) BadLine) attrs
-      ∙ ap (λ x. unless x BadLine) cannot) reply
+    ∙ ap (λ o. if_known o (λ w. unless (cannot_announce st w (announced_prefix bytes) (announced_attrs bytes)) BadLine)) (ap (λ (x : State). pid_of x.routing name) (sym is) ∙ known)
+    ∙ ap (λ (x : State). unless (cannot_announce x who (announced_prefix bytes) (announced_attrs bytes)) BadLine) (sym is)
+    ∙ ap (λ p. unless (cannot_announce s who p (announced_attrs bytes)) BadLine) prefix
+    ∙ ap (λ x. unless (cannot_announce s who u.prefix x) BadLine) attrs
+    ∙ ap (λ x. unless x BadLine) cannot) reply
 
 -- what the octets say
 pub attrs_read : (u : ShortUpdate) (bytes : List ℕ) → u.origin ≡ slice_index bytes 26 → u.asn ≡ word_at 32 bytes → u.next_hop ≡ address_at 37 bytes → announced_attrs bytes ≡ attrs_in u

@@ -1,22 +1,20 @@
 -- The table and the reply after one announcement more.
-use Rattle.std.proofs.Common.{◌≡◌, ℕ, zero, suc, ◌+◌, ◌≤◌, ◌<◌, Bool, true, false, cond, ◌&&◌, ◌||◌, not, nat_eq, List, [], ◌∷◌, ◌++◌, length, map, filter, sym, ap, subst, ◌∙◌, refl, arith, inl, inr, T}
+use Rattle.std.proofs.Common.{◌≡◌, ℕ, zero, suc, ◌+◌, Bool, true, false, cond, ◌||◌, not, nat_eq, List, [], ◌∷◌, ◌++◌, map, filter, sym, ap, subst, ◌∙◌, refl, arith, inl, inr, T}
 use Rattle.std.specs.Prelude.{Option, Some, None, is_some, is_none, slice_get, unwrap_or, ◌⊎◌}
 use Rattle.std.specs.Prelude as lists
 use Rattle.std.specs.List.{list_any}
-use Rattle.std.specs.List.Sorted.{IsPermutation, IsNonDecreasingBy}
-use Rattle.std.specs.Option.{option_map, option_map_or, option_and_then}
+use Rattle.std.specs.List.Sorted.{IsPermutation}
+use Rattle.std.specs.Option.{option_map_or, option_and_then}
 use Rattle.std.specs.Ordering.{eq_by_cmp}
-use Rattle.std.specs.FinMap.{FinMap, get, keys, entries, entries_sorted, from_entries, find, get-entries, get-from_entries, same_map, contains_key-keys, is_sorted}
+use Rattle.std.specs.FinMap.{FinMap, get, keys, entries, entries_sorted, find, get-entries, get-from_entries, same_map, contains_key-keys}
 use Rattle.std.specs.FinMap.Entries.{where_key, is_sorted-where_key, find-where_key, same_entries}
 use Rattle.std.specs.Cmp.{IsTotalOrder}
 use Rattle.std.specs.declared.cmp.Ordering.{Ordering}
 use Rattle.std.proofs.lemmas.Bool.{or_right, or_parts, or_cases, eq-eqb}
 use Rattle.events.specs.After.{put_flows}
 use Rattle.events.specs.Fits.{tag_changes, dropped, added, flows_of, none_rebuilt}
-use Rattle.events.specs.Sound.{HasNoRepeats}
 use Rattle.events.specs.State.{State}
 use Rattle.events.specs.Tags.{same_tag}
-use Rattle.events.specs.declared.Flow.{Flow}
 use Rattle.events.specs.declared.Phase.{Phase}
 use Rattle.events.specs.declared.Phase.TheVariants.{Running}
 use Rattle.events.specs.declared.TagChange.{TagChange}
@@ -27,7 +25,7 @@ use Rattle.net_types.proofs.OrderLemmas.{prefixes_total, pairs_total}
 use Rattle.net_types.proofs.TieLemmas.{prefix_cmp-IsAntisymmetric, pair_cmp-IsAntisymmetric, same_from_tie, ties_itself}
 use Rattle.net_types.specs.Attributes.{same_option}
 use Rattle.net_types.specs.Keys.{prefix_cmp, pair_cmp}
-use Rattle.net_types.specs.Maps.{tabulate, ordered}
+use Rattle.net_types.specs.Maps.{tabulate}
 use Rattle.net_types.specs.Sets.{Member, union_over}
 use Rattle.net_types.specs.declared.address.Ip.{Ip}
 use Rattle.net_types.specs.declared.address.PortNo.{PortNo}
@@ -41,11 +39,10 @@ use Rattle.sdx_core.specs.Building.{flow_to}
 use Rattle.sdx_core.specs.View.{state_of, is_announced, announced_in, table_entries, rule_to, receives, is_receiver, IsOwn, IsKept, is_given_on, tag_at_place, tag_count}
 use Rattle.sdx_core.proofs.AnnounceGroups.{in_new, in_old, in_none, more_apart, filter_nothing}
 use Rattle.sdx_core.proofs.AnnounceLists.{is_some-any, find_none, new_entries, receiving, entry_for, entries_more, new_entries_are, no_new_entries}
-use Rattle.sdx_core.proofs.AnnounceMaps.{any_map}
 use Rattle.sdx_core.proofs.AnnouncePorts.{Rises, AllNew, pair_of, entry_to, is_for, find_entry, entries_rise, get-flows, any_permuted}
 use Rattle.sdx_core.proofs.AnnounceTags.{has_tag, tag_of, free_above}
 use Rattle.sdx_core.proofs.Kept.{announced_none}
-use Rattle.sdx_core.proofs.KeptMaps.{tag_kept, tagged_in}
+use Rattle.sdx_core.proofs.KeptMaps.{tag_kept}
 use Rattle.sdx_core.proofs.KeptTable.{table_kept}
 use Rattle.sdx_core.specs.declared.announcement.Announcement.{Announcement}
 
@@ -63,9 +60,9 @@ pub find_append : {X : Type 0} (q : Pair) (xs ys : List (Pair × X)) → find pa
 find_append q [] ys = refl
 find_append {X} q (e ∷ xs) ys = by (eq_by_cmp pair_cmp q e.0) (find_append q xs ys)
   where
-  by : (b : Bool) → find pair_cmp q (xs ++ ys) ≡ option_map_or (λ x. Some x) (find pair_cmp q xs) (find pair_cmp q ys) → cond b (Some e.1) (find pair_cmp q (xs ++ ys)) ≡ option_map_or (λ x. Some x) (cond b (Some e.1) (find pair_cmp q xs)) (find pair_cmp q ys)
-  by true rest = refl
-  by false rest = rest
+    by : (b : Bool) → find pair_cmp q (xs ++ ys) ≡ option_map_or (λ x. Some x) (find pair_cmp q xs) (find pair_cmp q ys) → cond b (Some e.1) (find pair_cmp q (xs ++ ys)) ≡ option_map_or (λ x. Some x) (cond b (Some e.1) (find pair_cmp q xs)) (find pair_cmp q ys)
+    by true rest = refl
+    by false rest = rest
 
 -- a key of a map has a value
 key_there : {K X : Type 0} (R : K → K → Ordering) → IsTotalOrder R → (m : FinMap R X) (k : K) → Member k (keys m) → is_some (get m k) ≡ true
@@ -102,9 +99,9 @@ module _ (phase : Phase) (base : Ip) (size capacity : ℕ) (ms : List Participan
   pub brings : new_entries ms qs a ≡ map (entry_for fresh a) (receiving ms qs a)
   brings = by (is_given_on ms a) refl
     where
-    by : (given : Bool) → is_given_on ms a ≡ given → new_entries ms qs a ≡ map (entry_for fresh a) (receiving ms qs a)
-    by true given = new_entries_are ms qs a fresh (tag ∙ ap (λ b. tag_at_place b (tag_count anns)) given)
-    by false given = no_new_entries ms qs a (tag ∙ ap (λ b. tag_at_place b (tag_count anns)) given) ∙ sym (ap (map (entry_for fresh a)) (none_receiving ms qs a given))
+      by : (given : Bool) → is_given_on ms a ≡ given → new_entries ms qs a ≡ map (entry_for fresh a) (receiving ms qs a)
+      by true given = new_entries_are ms qs a fresh (tag ∙ ap (λ b. tag_at_place b (tag_count anns)) given)
+      by false given = no_new_entries ms qs a (tag ∙ ap (λ b. tag_at_place b (tag_count anns)) given) ∙ sym (ap (map (entry_for fresh a)) (none_receiving ms qs a given))
 
   -- no pair has the fresh tag yet
   none_yet : (n : PortNo) → get before.table (pair_of fresh n) ≡ None
@@ -113,9 +110,9 @@ module _ (phase : Phase) (base : Ip) (size capacity : ℕ) (ms : List Participan
       ∙ ap (λ o. option_and_then (λ (q : PortInfo). option_and_then (λ (b : Announcement). cond (receives ms b q.owner) (Some (rule_to b.port ∷ [])) None) o) (lists.find (λ (q : PortInfo). nat_eq q.number.0 n.0) qs)) (find_none (has_tag fresh) anns (free_above ms anns fresh kept.tagged (omega arith)))
       ∙ nothing (lists.find (λ (q : PortInfo). nat_eq q.number.0 n.0) qs)
     where
-    nothing : (o : Option PortInfo) → let none : Option (List Rule) = None in option_and_then (λ (q : PortInfo). none) o ≡ none
-    nothing None = refl
-    nothing (Some q) = refl
+      nothing : (o : Option PortInfo) → let none : Option (List Rule) = None in option_and_then (λ (q : PortInfo). none) o ≡ none
+      nothing None = refl
+      nothing (Some q) = refl
 
   pub all_new : (ports : List PortNo) → AllNew before.table fresh ports
   all_new [] = tt
@@ -137,13 +134,13 @@ module _ (phase : Phase) (base : Ip) (size capacity : ℕ) (ms : List Participan
     new_pair : (q : Pair) → is_for fresh ports q ≡ true → get before.table q ≡ None
     new_pair q there = by ports there
       where
-      by : (ps : List PortNo) → is_for fresh ps q ≡ true → get before.table q ≡ None
-      by [] e = cc
-      by (n ∷ ps) e = on (or_cases (eq_by_cmp pair_cmp q (pair_of fresh n)) (is_for fresh ps q) e) (by ps)
-        where
-        on : (eq_by_cmp pair_cmp q (pair_of fresh n) ≡ true) ⊎ (is_for fresh ps q ≡ true) → (is_for fresh ps q ≡ true → get before.table q ≡ None) → get before.table q ≡ None
-        on (inl t) later = ap (get before.table) (same_from_tie pair_cmp pair_cmp-IsAntisymmetric q (pair_of fresh n) t) ∙ none_yet n
-        on (inr t) later = later t
+        by : (ps : List PortNo) → is_for fresh ps q ≡ true → get before.table q ≡ None
+        by [] e = cc
+        by (n ∷ ps) e = on (or_cases (eq_by_cmp pair_cmp q (pair_of fresh n)) (is_for fresh ps q) e) (by ps)
+          where
+            on : (eq_by_cmp pair_cmp q (pair_of fresh n) ≡ true) ⊎ (is_for fresh ps q ≡ true) → (is_for fresh ps q ≡ true → get before.table q ≡ None) → get before.table q ≡ None
+            on (inl t) later = ap (get before.table) (same_from_tie pair_cmp pair_cmp-IsAntisymmetric q (pair_of fresh n) t) ∙ none_yet n
+            on (inr t) later = later t
 
     -- the table of the longer list
     pub table_after : (q : Pair) → get after.table q ≡ cond (is_for fresh ports q) (Some (rule_to a.port ∷ [])) (get before.table q)
@@ -155,11 +152,11 @@ module _ (phase : Phase) (base : Ip) (size capacity : ℕ) (ms : List Participan
         ∙ ap (λ o. option_map_or (λ x. Some x) o (cond (is_for fresh ports q) (Some (rule_to a.port ∷ [])) None)) (sym (get-from_entries pairs_total (table_entries ms qs anns) q))
         ∙ by (is_for fresh ports q) (get before.table q) (new_pair q)
       where
-      by : (b : Bool) (o : Option (List Rule)) → (b ≡ true → o ≡ None) → option_map_or (λ x. Some x) o (cond b (Some (rule_to a.port ∷ [])) None) ≡ cond b (Some (rule_to a.port ∷ [])) o
-      by true None h = refl
-      by true (Some x) h = absurd (let e = h refl in cc)
-      by false None h = refl
-      by false (Some x) h = refl
+        by : (b : Bool) (o : Option (List Rule)) → (b ≡ true → o ≡ None) → option_map_or (λ x. Some x) o (cond b (Some (rule_to a.port ∷ [])) None) ≡ cond b (Some (rule_to a.port ∷ [])) o
+        by true None h = refl
+        by true (Some x) h = absurd (let e = h refl in cc)
+        by false None h = refl
+        by false (Some x) h = refl
 
     pub table_is : put_flows before.table (map (flow_to fresh a.port) ports) ≡ after.table
     table_is = same_map pairs_total pair_cmp-IsAntisymmetric (put_flows before.table (map (flow_to fresh a.port) ports)) after.table (λ q.
@@ -171,10 +168,10 @@ module _ (phase : Phase) (base : Ip) (size capacity : ℕ) (ms : List Participan
     dropped_is = filter_none_in (λ q. is_none (get after.table q) || none_rebuilt q) (keys before.table) (λ q there.
         ap (λ o. is_none o || false) (table_after q) ∙ by (is_for fresh ports q) (get before.table q) (key_there pair_cmp pairs_total before.table q there))
       where
-      by : (b : Bool) (o : Option (List Rule)) → is_some o ≡ true → (is_none (cond b (Some (rule_to a.port ∷ [])) o) || false) ≡ false
-      by true o h = refl
-      by false None h = cc
-      by false (Some x) h = refl
+        by : (b : Bool) (o : Option (List Rule)) → is_some o ≡ true → (is_none (cond b (Some (rule_to a.port ∷ [])) o) || false) ≡ false
+        by true o h = refl
+        by false None h = cc
+        by false (Some x) h = refl
 
     -- a pair that had no rules
     abbrev is_added : Pair → Bool
@@ -188,11 +185,11 @@ module _ (phase : Phase) (base : Ip) (size capacity : ℕ) (ms : List Participan
         ∙ by (is_for fresh ports q) (get before.table q) (new_pair q)
         ∙ sym (find_entry fresh a.port ports q))
       where
-      by : (b : Bool) (o : Option (List Rule)) → (b ≡ true → o ≡ None) → cond (is_none o || false) (cond b (Some (rule_to a.port ∷ [])) o) None ≡ cond b (Some (rule_to a.port ∷ [])) None
-      by true None h = refl
-      by true (Some x) h = absurd (let e = h refl in cc)
-      by false None h = refl
-      by false (Some x) h = refl
+        by : (b : Bool) (o : Option (List Rule)) → (b ≡ true → o ≡ None) → cond (is_none o || false) (cond b (Some (rule_to a.port ∷ [])) o) None ≡ cond b (Some (rule_to a.port ∷ [])) None
+        by true None h = refl
+        by true (Some x) h = absurd (let e = h refl in cc)
+        by false None h = refl
+        by false (Some x) h = refl
 
     pub added_is : added before after none_rebuilt ≡ map (flow_to fresh a.port) ports
     added_is = ap (union_over flows_of) entries_are ∙ flows_are fresh a.port ports
@@ -217,9 +214,9 @@ module _ (phase : Phase) (base : Ip) (size capacity : ℕ) (ms : List Participan
       ∙ ap (λ o. not (same_option same_tag (tag_in (announced_in anns p)) o)) (tag_after p ∙ ap tag_in (by (announced_in anns p) refl))
       ∙ ap not (same_tags (tag_in (announced_in anns p)))
     where
-    by : (o : Option Announcement) → announced_in anns p ≡ o → announced_in (anns ++ a ∷ []) p ≡ announced_in anns p
-    by (Some b) there = in_old phase base size capacity ms qs anns ns rules kept a own new tag p b there ∙ sym there
-    by None none = in_none phase base size capacity ms qs anns ns rules kept a own new tag p (sym (is_some-any (λ (x : Announcement). eq_by_cmp prefix_cmp p x.prefix) anns) ∙ ap is_some none) other ∙ sym none
+      by : (o : Option Announcement) → announced_in anns p ≡ o → announced_in (anns ++ a ∷ []) p ≡ announced_in anns p
+      by (Some b) there = in_old phase base size capacity ms qs anns ns rules kept a own new tag p b there ∙ sym there
+      by None none = in_none phase base size capacity ms qs anns ns rules kept a own new tag p (sym (is_some-any (λ (x : Announcement). eq_by_cmp prefix_cmp p x.prefix) anns) ∙ ap is_some none) other ∙ sym none
 
   new_there : get after.tag a.prefix ≡ a.tag
   new_there = tag_after a.prefix ∙ ap tag_in (in_new phase base size capacity ms qs anns ns rules kept a own new tag)
@@ -230,9 +227,9 @@ module _ (phase : Phase) (base : Ip) (size capacity : ℕ) (ms : List Participan
       ∙ ap (λ o. not (same_option same_tag None o)) new_there
       ∙ by a.tag
     where
-    by : (o : Option Tag) → not (same_option same_tag None o) ≡ is_some o
-    by None = refl
-    by (Some t) = refl
+      by : (o : Option Tag) → not (same_option same_tag None o) ≡ is_some o
+      by None = refl
+      by (Some t) = refl
 
   abbrev listed : FinMap prefix_cmp Prefix
   listed = tabulate prefix_cmp (keys before.tag ++ keys after.tag) (λ p. Some p)
@@ -240,36 +237,36 @@ module _ (phase : Phase) (base : Ip) (size capacity : ℕ) (ms : List Participan
   only_new : (p : Prefix) → is_retagged p ≡ true → eq_by_cmp prefix_cmp p a.prefix ≡ true
   only_new p changed = by (eq_by_cmp prefix_cmp p a.prefix) refl
     where
-    by : (b : Bool) → eq_by_cmp prefix_cmp p a.prefix ≡ b → b ≡ true
-    by true e = refl
-    by false e = absurd (let h : true ≡ false = sym changed ∙ same_elsewhere p e in cc)
+      by : (b : Bool) → eq_by_cmp prefix_cmp p a.prefix ≡ b → b ≡ true
+      by true e = refl
+      by false e = absurd (let h : true ≡ false = sym changed ∙ same_elsewhere p e in cc)
 
   retagged_are : filter is_retagged (keys listed) ≡ cond (is_some a.tag) (a.prefix ∷ []) []
   retagged_are = by a.tag refl
     where
-    there : (t : Tag) → a.tag ≡ Some t → get listed a.prefix ≡ Some a.prefix
-    there t is =
-        get-tabulate prefix_cmp prefixes_total (λ k. Some k) (λ q k e. ap Some (sym (same_from_tie prefix_cmp prefix_cmp-IsAntisymmetric q k e))) (keys before.tag ++ keys after.tag) a.prefix
-        ∙ ap (λ b. cond b (Some a.prefix) None) (any_append (eq_by_cmp prefix_cmp a.prefix) (keys before.tag) (keys after.tag) (sym (contains_key-keys after.tag a.prefix) ∙ ap is_some (new_there ∙ is)))
+      there : (t : Tag) → a.tag ≡ Some t → get listed a.prefix ≡ Some a.prefix
+      there t is =
+          get-tabulate prefix_cmp prefixes_total (λ k. Some k) (λ q k e. ap Some (sym (same_from_tie prefix_cmp prefix_cmp-IsAntisymmetric q k e))) (keys before.tag ++ keys after.tag) a.prefix
+          ∙ ap (λ b. cond b (Some a.prefix) None) (any_append (eq_by_cmp prefix_cmp a.prefix) (keys before.tag) (keys after.tag) (sym (contains_key-keys after.tag a.prefix) ∙ ap is_some (new_there ∙ is)))
 
-    nowhere : a.tag ≡ None → (p : Prefix) → is_retagged p ≡ false
-    nowhere is p = on (eq_by_cmp prefix_cmp p a.prefix) refl
-      where
-      on : (b : Bool) → eq_by_cmp prefix_cmp p a.prefix ≡ b → is_retagged p ≡ false
-      on true e = ap is_retagged (same_from_tie prefix_cmp prefix_cmp-IsAntisymmetric p a.prefix e) ∙ new_changes ∙ ap is_some is
-      on false e = same_elsewhere p e
+      nowhere : a.tag ≡ None → (p : Prefix) → is_retagged p ≡ false
+      nowhere is p = on (eq_by_cmp prefix_cmp p a.prefix) refl
+        where
+          on : (b : Bool) → eq_by_cmp prefix_cmp p a.prefix ≡ b → is_retagged p ≡ false
+          on true e = ap is_retagged (same_from_tie prefix_cmp prefix_cmp-IsAntisymmetric p a.prefix e) ∙ new_changes ∙ ap is_some is
+          on false e = same_elsewhere p e
 
-    by : (o : Option Tag) → a.tag ≡ o → filter is_retagged (keys listed) ≡ cond (is_some o) (a.prefix ∷ []) []
-    by (Some t) is = filter_keys_one prefix_cmp prefixes_total prefix_cmp-IsAntisymmetric is_retagged (λ x y t. ap is_retagged (sym (prefix_cmp-IsAntisymmetric x y t))) listed a.prefix a.prefix (there t is) (new_changes ∙ ap is_some is) only_new
-    by None is = filter_nothing is_retagged (keys listed) (nowhere is)
+      by : (o : Option Tag) → a.tag ≡ o → filter is_retagged (keys listed) ≡ cond (is_some o) (a.prefix ∷ []) []
+      by (Some t) is = filter_keys_one prefix_cmp prefixes_total prefix_cmp-IsAntisymmetric is_retagged (λ x y t. ap is_retagged (sym (prefix_cmp-IsAntisymmetric x y t))) listed a.prefix a.prefix (there t is) (new_changes ∙ ap is_some is) only_new
+      by None is = filter_nothing is_retagged (keys listed) (nowhere is)
 
   -- one tag alone is told, where there is one
   pub tags_told : tag_changes before.tag after.tag ≡ cond (is_some a.tag) (record { prefix = a.prefix; tag = a.tag } ∷ []) []
   tags_told = ap (map change) retagged_are ∙ by (is_some a.tag)
     where
-    change : Prefix → TagChange
-    change p = record { prefix = p; tag = get after.tag p }
+      change : Prefix → TagChange
+      change p = record { prefix = p; tag = get after.tag p }
 
-    by : (b : Bool) → map change (cond b (a.prefix ∷ []) []) ≡ cond b (record { prefix = a.prefix; tag = a.tag } ∷ []) []
-    by true = ap (λ o. let c : TagChange = record { prefix = a.prefix; tag = o } in c ∷ []) new_there
-    by false = refl
+      by : (b : Bool) → map change (cond b (a.prefix ∷ []) []) ≡ cond b (record { prefix = a.prefix; tag = a.tag } ∷ []) []
+      by true = ap (λ o. let c : TagChange = record { prefix = a.prefix; tag = o } in c ∷ []) new_there
+      by false = refl

@@ -1,13 +1,13 @@
 -- Which tags are live and which are free, by the kept announcements.
-use Rattle.std.proofs.Common.{◌≡◌, ℕ, zero, suc, ◌+◌, ◌≤◌, ◌<◌, Bool, true, false, cond, ◌&&◌, ◌||◌, not, nat_eq, nat_lt, nat_le, List, [], ◌∷◌, ◌++◌, length, map, filter, take, sym, ap, subst, ◌∙◌, refl, arith, inl, inr}
-use Rattle.std.specs.Prelude.{Option, Some, None, is_some, slice_get, ◌⊎◌}
+use Rattle.std.proofs.Common.{◌≡◌, ℕ, zero, suc, ◌+◌, ◌≤◌, ◌<◌, Bool, true, false, cond, ◌||◌, not, nat_eq, List, [], ◌∷◌, map, filter, take, sym, ap, subst, ◌∙◌, refl, arith, inl, inr}
+use Rattle.std.specs.Prelude.{Option, Some, None, slice_get, ◌⊎◌}
 use Rattle.std.specs.List.{list_any, filter_map, cons_option}
 use Rattle.std.specs.Option.{option_map}
 use Rattle.std.specs.Ordering.{eq_by_cmp}
-use Rattle.std.specs.FinMap.{FinMap, values, from_entries, find}
-use Rattle.std.proofs.lemmas.Bool.{or_parts, or_from, or_left, or_right, or_cases, eq-eqb, eqb-true, cases_lt, cases_eq, le-ltb, lt-ltb, le-leb, lt-leb, not_from_true, not_from_false, ne_eqb}
-use Rattle.events.specs.State.{State, Entry}
-use Rattle.events.specs.Tags.{same_tag, tells, is_live, tags, free_tags}
+use Rattle.std.specs.FinMap.{FinMap, from_entries, find}
+use Rattle.std.proofs.lemmas.Bool.{or_parts, or_from, or_left, or_right, or_cases, eq-eqb, eqb-true, cases_lt, cases_eq, not_from_true, not_from_false, ne_eqb}
+use Rattle.events.specs.State.{Entry}
+use Rattle.events.specs.Tags.{same_tag, tells, is_live, free_tags}
 use Rattle.events.specs.declared.Phase.{Phase}
 use Rattle.net_types.proofs.OrderLemmas.{prefixes_total}
 use Rattle.net_types.specs.Attributes.{same_option}
@@ -18,7 +18,7 @@ use Rattle.net_types.specs.declared.address.Tag.{Tag}
 use Rattle.net_types.specs.declared.prefix.Prefix.{Prefix}
 use Rattle.net_types.specs.declared.route.Participant.{Participant}
 use Rattle.net_types.specs.declared.route.PortInfo.{PortInfo}
-use Rattle.sdx_core.proofs.AnnounceLists.{one_if, one_tag, one_of, count_first}
+use Rattle.sdx_core.proofs.AnnounceLists.{one_if, one_of, count_first}
 use Rattle.sdx_core.proofs.AnnounceMaps.{AreFresh, any_values, no_values}
 use Rattle.sdx_core.specs.View.{attrs_of, is_announced, AreApart, AreTagged, tag_at_place, is_given_on, is_receiver, tag_count, tag_entry, told_entry, told_maps, state_of}
 use Rattle.sdx_core.specs.declared.announcement.Announcement.{Announcement}

@@ -1,20 +1,18 @@
 -- The rules that an announcement brings, and when it is taken.
-use Rattle.std.specs.Prelude.{◌≡◌, ℕ, ◌+◌, ◌≤◌, Bool, true, false, not, ◌&&◌, ◌||◌, nat_eq, nat_le, List, length, map, find, slice_get, Option, Some, None, is_some, [], ◌∷◌, if◌then◌else◌}
+use Rattle.std.specs.Prelude.{◌≡◌, ℕ, Bool, false, not, ◌&&◌, ◌||◌, nat_eq, nat_le, List, map, find, slice_get, Option, Some, None, [], ◌∷◌}
 use Rattle.std.specs.List.{list_any}
 use Rattle.std.specs.Option.{option_map, option_map_or}
-use Rattle.events.specs.Restricted.{announced_attrs, announced_prefix}
 use Rattle.events.specs.Fits.{bare}
 use Rattle.events.specs.declared.Flow.{Flow}
 use Rattle.events.specs.declared.Head.TheVariants.{Fine}
 use Rattle.events.specs.declared.Reply.{Reply}
-use Rattle.net_types.specs.Octets.{word_at, address_at}
 use Rattle.net_types.specs.declared.address.Ip.{Ip}
 use Rattle.net_types.specs.declared.address.Pid.{Pid}
 use Rattle.net_types.specs.declared.address.PortNo.{PortNo}
 use Rattle.net_types.specs.declared.address.Tag.{Tag}
 use Rattle.net_types.specs.declared.route.Participant.{Participant}
 use Rattle.net_types.specs.declared.route.PortInfo.{PortInfo}
-use Rattle.sdx_core.specs.View.{attrs_of, rule_to, is_announced, is_given_on, tag_at_place, tag_count}
+use Rattle.sdx_core.specs.View.{rule_to, is_announced, tag_at_place, tag_count}
 use Rattle.sdx_core.specs.declared.bgp_update.ShortUpdate.{ShortUpdate}
 use Rattle.sdx_core.specs.declared.announcement.Announcement.{Announcement}
 

@@ -1,9 +1,7 @@
 //! Whether an UPDATE is taken, and what is kept of it.
 
-ghost use Rattle.std.specs.Prelude.{◌≡◌, ◌<◌, ◌≤◌, length, IfSome, IfNone, nat_eq, nat_lt, ◌&&◌, find, true, false};
-ghost use Rattle.std.specs.Option.{option_map};
+ghost use Rattle.std.specs.Prelude.{◌≡◌, ◌<◌, length, IfSome, IfNone, true};
 ghost use Rattle.sdx_core.specs.Building.{IsAdmitted, is_inadmissible};
-ghost use Rattle.sdx_core.specs.View.{is_given_on, tag_at_place, tag_count};
 
 use crate::announcement::Announcement;
 use crate::bgp_update::ShortUpdate;

@@ -1,6 +1,6 @@
 //! The rules that the table gets.
 
-ghost use Rattle.std.specs.Prelude.{◌≡◌, IfOk, map, filter, ◌≤◌, length};
+ghost use Rattle.std.specs.Prelude.{◌≡◌, IfOk, map, filter};
 ghost use Rattle.std.specs.List.Sorted.{IsPermutation, IsNonDecreasingBy};
 ghost use Rattle.sdx_core.specs.View.{receives, rule_to};
 ghost use Rattle.sdx_core.specs.Building.{flow_to};
@@ -8,7 +8,9 @@ ghost use Rattle.sdx_core.specs.Building.{flow_to};
 use crate::announcement::Announcement;
 use crate::route_server::receives;
 use events::{Flow, Flows};
-use net_types::{Action, Assign, Cube, Items, Memory, Pair, Participant, PortInfo, PortNo, Rule, Tag};
+use net_types::{
+    Action, Assign, Cube, Items, Memory, Pair, Participant, PortInfo, PortNo, Rule, Tag,
+};
 use std::alloc::Global;
 
 /// The ports whose owner is given the route, ascending by number.

@@ -1,7 +1,7 @@
 //! Whether a prefix is announced, and whom its route is given to.
 
 ghost use Rattle.std.specs.Prelude.{◌≡◌};
-ghost use Rattle.sdx_core.specs.View.{is_announced, is_given_on, is_receiver, receives};
+ghost use Rattle.sdx_core.specs.View.{is_announced, is_given_on, receives};
 
 use crate::announcement::Announcement;
 use net_types::{Participant, Pid, Prefix};

@@ -1,6 +1,6 @@
 //! The line that brings an UPDATE of a participant's session.
 
-ghost use Rattle.std.specs.Prelude.{◌≡◌, IfOk, ◌∷◌, [], map, Option, Some, None, true};
+ghost use Rattle.std.specs.Prelude.{◌≡◌, IfOk, true};
 ghost use Rattle.events.specs.Fits.{IsStep, IsWellFormed};
 ghost use Rattle.events.specs.Refusals.{is_placed};
 ghost use Rattle.events.specs.declared.Event.TheVariants as lines;
@@ -65,11 +65,7 @@ impl Sdx {
 }
 
 /// The reply to an announcement that is taken: its tag, and a rule for each of the ports.
-fn announced(
-    alloc: Global,
-    announcement: &Announcement,
-    ports: &[PortNo],
-) -> Result<Reply, Memory>
+fn announced(alloc: Global, announcement: &Announcement, ports: &[PortNo]) -> Result<Reply, Memory>
     ensures { IfOk result (λ reply. reply ≡ announced_reply announcement.now ports.now announcement.now.tag) }
 {
     let mut reply = bare_reply(alloc, Head::Fine);

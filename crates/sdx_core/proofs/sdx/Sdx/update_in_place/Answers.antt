@@ -20,7 +20,7 @@ returns-in_default-admit c =
     (sym (rw c.items-5.ensures at c.read_update.ensures.prefix))
     (attrs_read c.read_update.result c.args.bytes.now (rw c.items-5.ensures at c.read_update.ensures.origin) (rw c.items-5.ensures at c.read_update.ensures.asn) (rw c.items-5.ensures at c.read_update.ensures.next_hop))
     (inadmissible_cannot a.phase a.base a.size a.capacity a.participants a.ports a.announcements.items a.told.items a.rules c.self.invariant (record { 0 = c.in-Some.place }) c.read_update.result (rw c.items.ensures at c.in-Some.ensures.within)
-      (rw (c.items-3.ensures, c.items-4.ensures, c.as_slice.ensures.value) at c.in_default-admit.ensures.refused))
+    (rw (c.items-3.ensures, c.items-4.ensures, c.as_slice.ensures.value) at c.in_default-admit.ensures.refused))
     c.refused-in_default-admit.ensures
 
 pub returns-then-self-len : goal.returns-then-self-len
@@ -31,9 +31,9 @@ returns-then-self-len c =
     (sym (rw c.items-5.ensures at c.read_update.ensures.prefix))
     (attrs_read c.read_update.result c.args.bytes.now (rw c.items-5.ensures at c.read_update.ensures.origin) (rw c.items-5.ensures at c.read_update.ensures.asn) (rw c.items-5.ensures at c.read_update.ensures.next_hop))
     (over_at a.phase a.base a.size a.capacity a.participants a.ports a.announcements.items a.told.items a.rules c.self.invariant (record { 0 = c.in-Some.place }) c.read_update.result (rw c.items.ensures at c.in-Some.ensures.within)
-      c.in-Some-admit.announcement (rw (c.items-3.ensures, c.items-4.ensures, c.as_slice.ensures.value) at c.in-Some-admit.ensures.taken)
-      c.in_ok-ports.ports.items (rw (c.items-6.ensures, c.items-7.ensures) at c.in_ok-ports.ensures.those) c.in_ok-ports.ensures.ascending
-      (omega (arith, c.if-self-len.true, c.len.ensures)))
+    c.in-Some-admit.announcement (rw (c.items-3.ensures, c.items-4.ensures, c.as_slice.ensures.value) at c.in-Some-admit.ensures.taken)
+    c.in_ok-ports.ports.items (rw (c.items-6.ensures, c.items-7.ensures) at c.in_ok-ports.ensures.those) c.in_ok-ports.ensures.ascending
+    (omega (arith, c.if-self-len.true, c.len.ensures)))
     c.refused-then-self-len.ensures
 
 pub invariant_of-self-2 : goal.invariant_of-self-2
@@ -42,9 +42,9 @@ invariant_of-self-2 c =
     let long : length c.in_ok-ports.ports.items ≡ c.len-2.result = omega (arith, c.len-2.ensures) in
     subst (λ n. IsKept Running a.size a.capacity a.participants a.ports c.push.new.self.items a.told.items (a.rules + n) a.base) long
     (kept_at a.phase a.base a.size a.capacity a.participants a.ports a.announcements.items a.told.items a.rules c.self.invariant (record { 0 = c.in-Some.place }) c.read_update.result (rw c.items.ensures at c.in-Some.ensures.within)
-      c.in-Some-admit.announcement (rw (c.items-3.ensures, c.items-4.ensures, c.as_slice.ensures.value) at c.in-Some-admit.ensures.taken)
-      c.in_ok-ports.ports.items (rw (c.items-6.ensures, c.items-7.ensures) at c.in_ok-ports.ensures.those) c.in_ok-ports.ensures.ascending
-      c.push.new.self.items c.in_ok-push.ensures.items (omega (arith, c.if-self-len.false, c.len.ensures)))
+    c.in-Some-admit.announcement (rw (c.items-3.ensures, c.items-4.ensures, c.as_slice.ensures.value) at c.in-Some-admit.ensures.taken)
+    c.in_ok-ports.ports.items (rw (c.items-6.ensures, c.items-7.ensures) at c.in_ok-ports.ensures.those) c.in_ok-ports.ensures.ascending
+    c.push.new.self.items c.in_ok-push.ensures.items (omega (arith, c.if-self-len.false, c.len.ensures)))
 
 pub returns : goal.returns
 returns c =
