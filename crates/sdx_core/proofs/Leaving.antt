@@ -1,4 +1,4 @@
--- How a frame leaves: by the table, and by policies that drop, it goes to the port of the next hop as it is.
+-- How a frame leaves by the table: to the port of the next hop, as it is.
 use Rattle.std.proofs.Common.{◌≡◌, ℕ, zero, suc, Bool, true, cond, nat_eq, List, [], ◌∷◌, ◌++◌, map, drop, ap, ◌∙◌, refl, sym}
 use Rattle.std.specs.Prelude.{Option, Some, None, unwrap_or, slice_get, codes}
 use Rattle.std.specs.Cmp.{IsTotalOrder, nat_cmp_total}
@@ -67,26 +67,3 @@ out-same ports t from datagram h q read =
     let frame : List ℕ = framed (record { 0 = tag_mac t }) from datagram in
     ordered_one frame_cmp frames_total (frame_of ports frame (record { headers = h; port = q }))
     ∙ ap (λ bytes. (let f : Frame = record { port = q; bytes = bytes } in f) ∷ []) (written-same frame h (mac_of ports q) read ∙ readdressed t (mac_of ports q) from datagram)
-
--- ---- by policies that drop
-
-drops : (ms : List Participant) (k : ℕ) → unwrap_or (slice_get (map (λ m. Drop) ms) k) Drop ≡ Drop
-drops [] k = refl
-drops (m ∷ ms) zero = refl
-drops (m ∷ ms) (suc k) = drops ms k
-
--- the packet goes to the chosen participant, and leaves by its port as it is
-answer_by-dropping : (r : Routing) (sender : Pid) (exporter : Pid → Bool) (chosen : Pid) (port : Pid → PortNo) (h : Headers) → answer_by (dropping r) sender exporter chosen port h ≡ record { headers = h; port = port chosen } ∷ []
-answer_by-dropping r sender exporter chosen port h =
-    ap (λ (p : Policy). union_over (received_at (dropping r) port h) (sent (pid_of r) p exporter chosen h)) (drops r.participants sender.0)
-    ∙ ap (λ (p : Policy). received (pid_of r) p (port chosen) h ++ []) (drops r.participants chosen.0)
-
-pub answer-dropping : (r : Routing) (sender : Pid) (p : Prefix) (h : Headers) (c : Candidate) → best r sender p ≡ Some c → answer (dropping r) r sender p h ≡ record { headers = h; port = next_port r p c.from } ∷ []
-answer-dropping r sender p h c e = ap (answer_for (dropping r) r sender p h) e ∙ answer_by-dropping r sender (λ who. exports r who sender p) c.from (next_port r p) h
-
-read_drops : (ms : List Participant) → AreRead (map (λ m. codes "drop") ms) (map (λ m. Drop) ms)
-read_drops [] = tt
-read_drops (m ∷ ms) = ((refl, refl), read_drops ms)
-
-pub kept_dropping : (phase : Phase) (base : Ip) (size capacity : ℕ) (ms : List Participant) (qs : List PortInfo) (anns : List Announcement) (ns : List ℕ) → ArePolicies (state_of phase base size capacity ms qs anns ns) (dropping (state_of phase base size capacity ms qs anns ns).routing)
-kept_dropping phase base size capacity ms qs anns ns = record { names = refl; outbound = read_drops ms; inbound = read_drops ms }
