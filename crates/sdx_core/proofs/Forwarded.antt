@@ -21,6 +21,7 @@ use Rattle.events.specs.declared.Head.TheVariants.{Fine, Unrouted}
 use Rattle.events.specs.declared.Phase.{Phase}
 use Rattle.events.specs.declared.Phase.TheVariants.{Start, Declaring, Running}
 use Rattle.events.specs.declared.Refusal.{Refusal}
+use Rattle.events.specs.declared.Refusal.TheVariants.{Misplaced}
 use Rattle.events.specs.declared.Reply.{Reply}
 use Rattle.net_types.specs.Answers.{Policies, Leaving, answer, next_port}
 use Rattle.net_types.specs.Exports.{Routing, exports, route, is_given}
@@ -42,7 +43,7 @@ use Rattle.net_types.proofs.FindLemmas.{Member-take, find-IsFound}
 use Rattle.sdx_core.specs.Given.{given_prefix, all_given, given_prefixes}
 use Rattle.sdx_core.specs.Placed.{is_declared}
 use Rattle.sdx_core.specs.Sent.{reply_by}
-use Rattle.sdx_core.specs.View.{attrs_of, rule_to, routing_of, state_of, announced_in, receives, is_receiver, table_entries, IsOwn, IsKept}
+use Rattle.sdx_core.specs.View.{attrs_of, rule_to, routing_of, state_of, announced_in, receives, is_receiver, IsOwn, IsKept}
 use Rattle.sdx_core.specs.declared.announcement.Announcement.{Announcement}
 use Rattle.sdx_core.specs.declared.given.Given.{Given}
 use Rattle.sdx_core.proofs.Dropping.{answer-dropping, are_dropping}
@@ -180,3 +181,46 @@ module _ (phase : Phase) (b : Ip) (s c : ℕ) (ms : List Participant) (qs : List
 
   longest : longest_of (keys (told_to st q.owner)) (destination bytes) ≡ longest_of (given_prefixes m.asn (take n anns)) (destination bytes)
   longest = ap (λ (x : FinMap prefix_cmp Entry). longest_of (keys x) (destination bytes)) (told_is phase b s c ms qs anns ns q.owner m n declared took) ∙ told_longest m (take n anns) (destination bytes)
+
+  placed : (x : Phase) → is_declared x ≡ true → is_placed x (Packet port bytes) ≡ true
+  placed Start e = absurd (cc)
+  placed Declaring e = refl
+  placed Running e = refl
+
+  not_refused : is_declared phase ≡ true → refusal st (Packet port bytes) ≡ None
+  not_refused ready =
+      let why : Option PortInfo → Option Refusal = λ o. if_known o (λ x. None) in
+      ap (λ x. cond x (refusal_in_place st (Packet port bytes)) (Some Misplaced)) (placed phase ready) ∙ ap why found
+
+  after : (g : Option Given) → state_of Running b s c ms qs anns ns ≡ next st (Packet port bytes) (reply_by qs q bytes g)
+  after None = refl
+  after (Some g) = refl
+
+  -- what is found by the longest match is right
+  pub packet_step : is_declared phase ≡ true → (g : Option Given) → option_map given_prefix g ≡ longest_of (given_prefixes m.asn (take n anns)) (destination bytes) → IfSome g (λ x. Member x (all_given m.asn (take n anns)))
+      → IsStep st (Packet port bytes) (reply_by qs q bytes g) (state_of Running b s c ms qs anns ns)
+  packet_step ready g longer given = record {
+    fits = subst (λ o. FitsBy o st (Packet port bytes) (reply_by qs q bytes g)) (sym (not_refused ready)) (record {
+      answer = subst (λ o. MatchOption o ⊥ (λ x. IsSent st x bytes (reply_by qs q bytes g) (longest_of (keys (told_to st x.owner)) (destination bytes)))) (sym found)
+      (subst (IsSent st q bytes (reply_by qs q bytes g)) (longer ∙ sym longest) (sent_right g given));
+      sound = subst IsSound (after g) sound;
+    });
+    next = after g;
+  }
+
+-- ---- the same, by the values that the code has
+
+pub packet_at : (phase : Phase) (b : Ip) (s c : ℕ) (ms : List Participant) (qs : List PortInfo) (anns : List Announcement) (ns : List ℕ) (rules : ℕ) → IsKept phase s c ms qs anns ns rules b
+    → (port : PortNo) (q : PortInfo) → find (λ (x : PortInfo). nat_eq x.number.0 port.0) qs ≡ Some q → (m : Participant) (n : ℕ) (bytes : List ℕ) → slice_get ms q.owner.0 ≡ Some m → slice_get ns q.owner.0 ≡ Some n → length q.mac.0 ≡ 6 → IsTrue (is_short_datagram bytes)
+    → IsSound (state_of Running b s c ms qs anns ns) → is_declared phase ≡ true → (g : Option Given) → option_map given_prefix g ≡ longest_of (given_prefixes m.asn (take n anns)) (destination bytes) → IfSome g (λ x. Member x (all_given m.asn (take n anns)))
+    → (r : Reply) → r ≡ reply_by qs q bytes g → (old : State) → state_of phase b s c ms qs anns ns ≡ old → IsStep old (Packet port bytes) r (state_of Running b s c ms qs anns ns)
+packet_at phase b s c ms qs anns ns rules kept port q found m n bytes declared took whole short sound ready g longer given r reply old is =
+    subst (λ x. IsStep x (Packet port bytes) r (state_of Running b s c ms qs anns ns)) is
+    (subst (λ x. IsStep (state_of phase b s c ms qs anns ns) (Packet port bytes) x (state_of Running b s c ms qs anns ns)) (sym reply)
+    (packet_step phase b s c ms qs anns ns rules kept port q found m n bytes declared took whole short sound ready g longer given))
+
+-- the lists stand for a running exchange as well
+pub kept_running : (phase : Phase) (s c : ℕ) (ms : List Participant) (qs : List PortInfo) (anns : List Announcement) (ns : List ℕ) (rules : ℕ) (b : Ip) → IsKept phase s c ms qs anns ns rules b → IsKept Running s c ms qs anns ns rules b
+kept_running phase s c ms qs anns ns rules b k = record {
+  told = k.told; few = k.few; early = tt; fronts = k.fronts; apart = k.apart; owners = k.owners; numbers = k.numbers; own = k.own; tagged = k.tagged; pool = k.pool; rules_are = k.rules_are; room = k.room; addresses = k.addresses; small = k.small; low = k.low;
+}

@@ -18,10 +18,12 @@ use Rattle.net_types.specs.declared.address.Tag.{Tag}
 use Rattle.net_types.specs.declared.prefix.Prefix.{Prefix}
 use Rattle.net_types.specs.declared.route.Participant.{Participant}
 use Rattle.net_types.specs.declared.route.PortInfo.{PortInfo}
+use Rattle.std.proofs.lemmas.List.Sums.{sum_by-cons}
+use Rattle.net_types.proofs.FindLemmas.{Member-take}
 use Rattle.net_types.proofs.LongestLemmas.{same_longest_by_tests}
 use Rattle.net_types.proofs.OrderLemmas.{prefixes_total}
 use Rattle.net_types.proofs.TieLemmas.{ties_itself, same_from_tie, prefix_cmp-IsAntisymmetric}
-use Rattle.sdx_core.specs.View.{attrs_of, told_entry, told_maps, is_receiver, state_of, announced_in, is_announced, receives, AreApart}
+use Rattle.sdx_core.specs.View.{attrs_of, told_entry, told_maps, is_receiver, state_of, announced_in, is_announced, receives, AreApart, AreTagged, tag_count, tag_at_place, is_given_on}
 use Rattle.sdx_core.specs.Given.{given_to, given_prefix, all_given, given_prefixes, HasSmallTag}
 use Rattle.sdx_core.specs.declared.announcement.Announcement.{Announcement}
 use Rattle.sdx_core.specs.declared.given.Given.{Given}
@@ -133,3 +135,37 @@ pub told_longest : (m : Participant) (anns : List Announcement) (d : Ip) → let
 told_longest m anns d =
     let told : FinMap prefix_cmp Entry = from_entries (filter_map (told_entry m) anns) in
     same_longest_by_tests (keys told) (given_prefixes m.asn anns) d (told_any m anns)
+
+-- ---- tags
+
+tag_of_place : (n : ℕ) (b : Bool) (o : Option Tag) (t : Tag) (rest : ℕ) → o ≡ tag_at_place b n → o ≡ Some t → t.0 ≤ n + (cond (is_some o) 1 0 + rest)
+tag_of_place n true o t rest e f =
+    let same : record { 0 = n + 1 } ≡ t = cc in
+    let count : Option Tag → ℕ = λ x. cond (is_some x) 1 0 in
+    let one : count o ≡ count (tag_at_place true n) = ap count e in
+    let number : n + 1 ≡ t.0 = ap (λ (x : Tag). x.0) same in
+    rw one (omega arith)
+tag_of_place n false o t rest e f = absurd (cc)
+
+later_tag : (n : ℕ) (b : Bool) (o : Option Tag) (t rest : ℕ) → o ≡ tag_at_place b n → t ≤ cond b (n + 1) n + rest → t ≤ n + (cond (is_some o) 1 0 + rest)
+later_tag n true o t rest e le =
+    let count : Option Tag → ℕ = λ x. cond (is_some x) 1 0 in
+    let one : count o ≡ count (tag_at_place true n) = ap count e in
+    rw one (omega arith)
+later_tag n false o t rest e le = omega arith
+
+tag_below : (ms : List Participant) (n : ℕ) (anns : List Announcement) (a : Announcement) (t : Tag) → AreTagged ms n anns → Member a anns → a.tag ≡ Some t → t.0 ≤ n + tag_count anns
+tag_below ms n [] a t tagged m e = elim m [ ]
+tag_below ms n (x ∷ anns) a t tagged (inl same) e =
+    rw (sum_by-cons (λ (y : Announcement). cond (is_some y.tag) 1 0) x anns)
+    (tag_of_place n (is_given_on ms x) x.tag t (tag_count anns) tagged.0 (ap (λ (y : Announcement). y.tag) (sym same) ∙ e))
+tag_below ms n (x ∷ anns) a t tagged (inr m) e =
+    rw (sum_by-cons (λ (y : Announcement). cond (is_some y.tag) 1 0) x anns)
+    (later_tag n (is_given_on ms x) x.tag t.0 (tag_count anns) tagged.0 (tag_below ms (cond (is_given_on ms x) (n + 1) n) anns a t tagged.1 m e))
+
+-- a tag that is given is one of the pool's
+pub given_tag : (ms : List Participant) (n size : ℕ) (anns : List Announcement) (asn : ℕ) (g : Given) → AreTagged ms 0 anns → tag_count anns ≤ size → Member g (all_given asn (take n anns)) → g.tag.0 ≤ size
+given_tag ms n size anns asn g tagged pool given =
+    let from = is_from asn (take n anns) g given in
+    let below : g.tag.0 ≤ 0 + tag_count anns = tag_below ms 0 anns g.announcement g.tag tagged (Member-take n anns g.announcement from.stands) from.tag in
+    omega arith
