@@ -39,17 +39,17 @@ use Rattle.net_types.specs.declared.route.Attrs.{Attrs}
 use Rattle.net_types.specs.declared.route.Participant.{Participant}
 use Rattle.net_types.specs.declared.route.PortInfo.{PortInfo}
 use Rattle.net_types.specs.declared.rule.Rule.{Rule}
-use Rattle.net_types.proofs.FindLemmas.{Member-take, find-IsFound}
+use Rattle.net_types.proofs.FindLemmas.{Member-take, find-IsFound, slice_get-Member}
 use Rattle.sdx_core.specs.Given.{given_prefix, all_given, given_prefixes}
 use Rattle.sdx_core.specs.Placed.{is_declared}
 use Rattle.sdx_core.specs.Sent.{reply_by}
-use Rattle.sdx_core.specs.View.{attrs_of, rule_to, routing_of, state_of, announced_in, receives, is_receiver, IsOwn, IsKept}
+use Rattle.sdx_core.specs.View.{attrs_of, rule_to, routing_of, state_of, announced_in, receives, is_receiver, ForEach, HasOwner, AreTagged, tag_count, IsOwn, IsKept}
 use Rattle.sdx_core.specs.declared.announcement.Announcement.{Announcement}
 use Rattle.sdx_core.specs.declared.given.Given.{Given}
 use Rattle.sdx_core.proofs.Dropping.{answer-dropping, are_dropping}
 use Rattle.sdx_core.proofs.Early.{dropping, refused_step}
 use Rattle.sdx_core.proofs.Framing.{read_headers, headers-framed, tag_at-framed}
-use Rattle.sdx_core.proofs.GivenLemmas.{IsFrom, is_from, announced_member, told_is, told_longest}
+use Rattle.sdx_core.proofs.GivenLemmas.{IsFrom, is_from, announced_member, told_is, told_longest, given_tag}
 use Rattle.sdx_core.proofs.Kept.{at_member, best_kept, route_kept, route_from, given_at, receives_at}
 use Rattle.sdx_core.proofs.KeptMaps.{entry_of, tagged_in, told_kept, take-AreApart}
 use Rattle.sdx_core.proofs.KeptTable.{table_kept, tagged_member}
@@ -224,3 +224,18 @@ pub kept_running : (phase : Phase) (s c : ℕ) (ms : List Participant) (qs : Lis
 kept_running phase s c ms qs anns ns rules b k = record {
   told = k.told; few = k.few; early = tt; fronts = k.fronts; apart = k.apart; owners = k.owners; numbers = k.numbers; own = k.own; tagged = k.tagged; pool = k.pool; rules_are = k.rules_are; room = k.room; addresses = k.addresses; small = k.small; low = k.low;
 }
+
+-- the owner of a declared port is declared
+pub owner_below : (ms : List Participant) (qs : List PortInfo) (port : PortNo) (q : PortInfo) → ForEach (HasOwner ms) qs → find (λ (x : PortInfo). nat_eq x.number.0 port.0) qs ≡ Some q → q.owner.0 < length ms
+owner_below ms qs port q owners found = at_member (HasOwner ms) qs q owners (find-IsFound (λ (x : PortInfo). nat_eq x.number.0 port.0) qs q found).stands
+
+-- what a participant took is a front of the announcements
+pub front_below : (anns : List Announcement) (ns : List ℕ) (k n : ℕ) → ForEach (λ x. x ≤ length anns) ns → slice_get ns k ≡ Some n → n ≤ length anns
+front_below anns ns k n fronts took = at_member (λ x. x ≤ length anns) ns n fronts (slice_get-Member ns k n took)
+
+-- the tag of the route that is found is one of the pool's
+pub small_tag : (ms : List Participant) (n size : ℕ) (anns : List Announcement) (asn : ℕ) (g : Option Given) → AreTagged ms 0 anns → tag_count anns ≤ size → size ≤ 65536 → IfSome g (λ x. Member x (all_given asn (take n anns))) → IfSome g (λ x. x.tag.0 ≤ 65536)
+small_tag ms n size anns asn None tagged pool small given = tt
+small_tag ms n size anns asn (Some g) tagged pool small given =
+    let below : g.tag.0 ≤ size = given_tag ms n size anns asn g tagged pool given in
+    omega arith

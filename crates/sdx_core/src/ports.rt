@@ -1,6 +1,6 @@
 //! The declared ports by their numbers.
 
-ghost use Rattle.std.specs.Prelude.{◌≡◌, nat_eq, find};
+ghost use Rattle.std.specs.Prelude.{◌≡◌, length, nat_eq, find};
 ghost use Rattle.events.specs.Table.{mac_of};
 
 use net_types::{Mac, PortInfo, PortNo};
@@ -26,3 +26,8 @@ pub fn mac_of(ports: &[PortInfo], number: PortNo) -> Mac
         None => Mac([0; 6]),
     }
 }
+
+/// A hardware address has six octets.
+pub fn known(mac: Mac)
+    ensures { length mac.0 ≡ 6 }
+{}

@@ -11,7 +11,7 @@ use crate::given::Given;
 use crate::ip_frame::{destination, framed};
 use crate::line_order::is_declared;
 use crate::match_switch_forward::leave;
-use crate::ports::find_port;
+use crate::ports::{find_port, known};
 use crate::replies::{bare_reply, refused};
 use events::{Head, Phase, Refusal, Reply};
 use net_types::{Bytes, Memory, PortInfo, PortNo};
@@ -28,9 +28,11 @@ impl Sdx {
         let Some(source) = find_port(self.ports.items(), port) else {
             return Ok(refused(self.alloc, Refusal::Unknown));
         };
+        known(source.mac);
         let owner = source.owner.0 as usize;
         let asn = self.participants.items()[owner].asn;
-        let told = &self.announcements.as_slice()[..self.told[owner]];
+        let taken = self.told.as_slice()[owner];
+        let told = &self.announcements.as_slice()[..taken];
         let route = longest_match(told, asn, destination(bytes.items()));
         let reply = sent(self.alloc, self.ports.items(), &source, bytes.items(), route)?;
         self.phase = Phase::Running;
