@@ -25,6 +25,13 @@ not_less Less h e = cc
 not_less Equal h e = h
 not_less Greater h e = h
 
+no_items : {A : Type 0} (xs : List A) → length xs ≡ 0 → xs ≡ []
+no_items [] e = refl
+no_items (x ∷ xs) e = absurd (omega arith)
+
+pub no_entries : (K X : Type 0) (R : K → K → Ordering) → entries (empty {K = K} {X = X} {R = R}) ≡ []
+no_entries K X R = no_items (entries (empty {K = K} {X = X} {R = R})) (sym (len-entries (empty {K = K} {X = X} {R = R})) ∙ len-empty R X)
+
 -- a key whose value passes a test
 pub record HasValue {K X : Type 0} (at : K → Option X) (test : X → Bool) : Type 0 where
   pub key : K
@@ -86,15 +93,8 @@ module _ {K X : Type 0} (R : K → K → Ordering) (o : IsTotalOrder R) where
         | Greater ↦ omega (arith, sum-put f k v es, sum_by-cons f e.1 (map (λ (e : K × X). e.1) (put R k v es)), sum_by-cons f e.1 (map (λ (e : K × X). e.1) es))
       ]
 
-  sum_empty : (f : X → ℕ) → sum_by f (values (empty {K = K} {X = X} {R = R})) ≡ 0
-  sum_empty f = none (entries (empty {K = K} {X = X} {R = R})) (sym (len-entries (empty {K = K} {X = X} {R = R})) ∙ len-empty R X)
-    where
-      none : (es : List (K × X)) → length es ≡ 0 → total f es ≡ 0
-      none [] e = refl
-      none (x ∷ es) e = absurd (omega arith)
-
   pub sum_values-le : (f : X → ℕ) (es : List (K × X)) → sum_by f (values (from_entries {R = R} es)) ≤ total f es
-  sum_values-le f [] = omega (arith, sum_empty f)
+  sum_values-le f [] = (let none : sum_by f (values (empty {K = K} {X = X} {R = R})) ≡ 0 = ap (total f) (no_entries K X R) in omega arith)
   sum_values-le f (e ∷ es) =
       let step : sum_by f (values (insert (from_entries {R = R} es) e.0 e.1)) ≡ total f (put R e.0 e.1 (entries (from_entries {R = R} es))) = ap (total f) (entries-insert o (from_entries es) e.0 e.1) in
       omega (arith, step, sum-put f e.0 e.1 (entries (from_entries {R = R} es)), sum_values-le f es, sum_by-cons f e.1 (map (λ (e : K × X). e.1) es))

@@ -20,10 +20,10 @@ use Rattle.net_types.specs.declared.route.Attrs.{Attrs}
 use Rattle.net_types.specs.declared.route.Part.{Part}
 use Rattle.net_types.specs.declared.route.Participant.{Participant}
 use Rattle.net_types.specs.declared.route.PortInfo.{PortInfo}
-use Rattle.net_types.proofs.FindLemmas.{find-IsFound, any_place, any_false, filter_map_none, slice_get_some}
-use Rattle.net_types.proofs.OrderLemmas.{routes_total}
+use Rattle.net_types.proofs.FindLemmas.{find-IsFound, not_there, is_some-cond, any_place, any_false, filter_map_none, slice_get_some}
+use Rattle.net_types.proofs.OrderLemmas.{prefixes_total, routes_total}
 use Rattle.net_types.proofs.RouteLemmas.{one_candidate, best_one}
-use Rattle.net_types.proofs.TieLemmas.{prefix_cmp-IsAntisymmetric, same_from_tie, then_ties, nat_ties}
+use Rattle.net_types.proofs.TieLemmas.{prefix_cmp-IsAntisymmetric, same_from_tie, ties_itself, then_ties, nat_ties}
 use Rattle.sdx_core.specs.View.{attrs_of, route_entry, is_receiver, parts_from, routing_of, announced_in, is_announced, receives, is_given_on, AreApart, IsOwn, ForEach}
 use Rattle.sdx_core.specs.declared.announcement.Announcement.{Announcement}
 
@@ -52,6 +52,18 @@ announced_prefix anns p a there =
 
 pub announced_Member : (anns : List Announcement) (p : Prefix) (a : Announcement) → announced_in anns p ≡ Some a → Member a anns
 announced_Member anns p a there = (find-IsFound (λ (b : Announcement). eq_by_cmp prefix_cmp p b.prefix) anns a there).stands
+
+-- an announcement's own prefix finds it
+pub announced_own : (anns : List Announcement) (a : Announcement) → AreApart anns → Member a anns → announced_in anns a.prefix ≡ Some a
+announced_own [] a apart m = elim m [ ]
+announced_own (b ∷ anns) a apart (inl same) =
+    ap (λ (x : Announcement). announced_in (b ∷ anns) x.prefix) same ∙ ap (λ c. cond c (Some b) (announced_in anns b.prefix)) (ties_itself prefixes_total b.prefix) ∙ ap Some (sym same)
+announced_own (b ∷ anns) a apart (inr m) =
+    let later : announced_in anns a.prefix ≡ Some a = announced_own anns a apart.1 m in
+    elim (eq_by_cmp prefix_cmp a.prefix b.prefix) as (λ c. eq_by_cmp prefix_cmp a.prefix b.prefix ≡ c → cond c (Some b) (announced_in anns a.prefix) ≡ Some a) [
+      | true ↦ λ t. absurd (not_there (announced_in anns a.prefix) a (announced_once b anns a.prefix apart t) later)
+      | false ↦ λ t. later
+    ] refl
 
 pub is_own : (ms : List Participant) (qs : List PortInfo) (anns : List Announcement) → ForEach (IsOwn ms qs) anns → (p : Prefix) (a : Announcement) → announced_in anns p ≡ Some a → IsOwn ms qs a
 is_own ms qs anns own p a there = at_member (IsOwn ms qs) anns a own (announced_Member anns p a there)
@@ -166,12 +178,8 @@ carried_by ms qs anns apart own p (Some a) there =
     let r : Routing = routing_of ms qs anns in
     any_place (λ to. is_some (best r to p)) (λ n. record { 0 = n }) (is_receiver a) 0 ms (λ k j m e is.
     ap is_some (best_kept ms qs anns apart own (record { 0 = j }) (let less : k < length ms = slice_get_within ms k m is in omega arith) p ∙ ap (option_and_then (candidate_of ms qs anns (record { 0 = j }))) there)
-    ∙ some_cond (receives ms a (record { 0 = j })) (candidate r a.from (attrs_of a))
+    ∙ is_some-cond (receives ms a (record { 0 = j })) (candidate r a.from (attrs_of a))
     ∙ receives_at ms a (record { 0 = j }) m (let same : j ≡ k = omega arith in ap (slice_get ms) same ∙ is))
-  where
-    some_cond : (b : Bool) (c : Candidate) → is_some (cond b (Some c) None) ≡ b
-    some_cond true c = refl
-    some_cond false c = refl
 
 pub carried_kept : (ms : List Participant) (qs : List PortInfo) (anns : List Announcement) → AreApart anns → ForEach (IsOwn ms qs) anns → (p : Prefix) → is_carried (routing_of ms qs anns) p ≡ option_map_or (is_given_on ms) (announced_in anns p) false
 carried_kept ms qs anns apart own p = carried_by ms qs anns apart own p (announced_in anns p) refl

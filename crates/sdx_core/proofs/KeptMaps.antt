@@ -21,7 +21,7 @@ use Rattle.net_types.specs.declared.prefix.Prefix.{Prefix}
 use Rattle.net_types.specs.declared.route.Part.{Part}
 use Rattle.net_types.specs.declared.route.Participant.{Participant}
 use Rattle.net_types.specs.declared.route.PortInfo.{PortInfo}
-use Rattle.net_types.proofs.FindLemmas.{slice_get_some}
+use Rattle.net_types.proofs.FindLemmas.{cond_same, slice_get_some}
 use Rattle.net_types.proofs.MapLemmas.{get-tabulate}
 use Rattle.net_types.proofs.OrderLemmas.{prefixes_total, tags_total}
 use Rattle.net_types.proofs.TieLemmas.{prefix_cmp-IsAntisymmetric, same_from_tie, then_ties, nat_ties}
@@ -124,9 +124,6 @@ told_kept phase base size capacity ms qs anns ns even apart who n took p =
 
 -- ---- what is present
 
-some_of : {A : Type 0} (o : Option A) (x : A) → o ≡ Some x → is_some o ≡ true
-some_of o x e = ap is_some e
-
 listed_prefix : (ks : List RouteKey) (k : RouteKey) → list_any (eq_by_cmp route_cmp k) ks ≡ true → list_any (eq_by_cmp prefix_cmp k.prefix) (map (λ (x : RouteKey). x.prefix) ks) ≡ true
 listed_prefix [] k e = e
 listed_prefix (x ∷ ks) k e =
@@ -141,7 +138,7 @@ pub announced_listed : (ms : List Participant) (qs : List PortInfo) (anns : List
 announced_listed ms qs anns apart p a there =
     let r : Routing = routing_of ms qs anns in
     let has : route r a.from p ≡ Some (attrs_of a) = route_kept ms qs anns apart a.from p ∙ ap (option_and_then (route_from a.from)) there ∙ ap (λ b. cond b (Some (attrs_of a)) None) (eq-eqb a.from.0 a.from.0 refl) in
-    listed_prefix (keys r.routes) (key_of a.from p) (sym (contains_key-keys r.routes (key_of a.from p)) ∙ some_of (route r a.from p) (attrs_of a) has)
+    listed_prefix (keys r.routes) (key_of a.from p) (sym (contains_key-keys r.routes (key_of a.from p)) ∙ ap is_some has)
 
 present_cond : (ms : List Participant) (qs : List PortInfo) (anns : List Announcement) (who : Pid) (o : Option Announcement)
     → option_and_then (λ (c : Candidate). option_map (λ t. let e : Entry = record { attrs = c.attrs; tag = t } in e) (option_and_then (λ (a : Announcement). a.tag) o)) (option_and_then (candidate_of ms qs anns who) o) ≡ option_and_then (entry_of ms who) o
@@ -157,13 +154,9 @@ present_entry_kept phase base size capacity ms qs anns ns apart own who declared
     ∙ ap (λ o. option_and_then (λ (c : Candidate). option_map (λ t. let e : Entry = record { attrs = c.attrs; tag = t } in e) o) (option_and_then (candidate_of ms qs anns who) (announced_in anns p))) (tag_kept anns apart p)
     ∙ present_cond ms qs anns who (announced_in anns p)
 
-same_both : {A : Type 0} (b : Bool) (x : A) → cond b x x ≡ x
-same_both true x = refl
-same_both false x = refl
-
 -- where an entry is there, the prefix is listed
 where_listed : {X : Type 0} (f : Announcement → Option X) (listed : Bool) (o : Option Announcement) (x : Option X) → x ≡ option_and_then f o → ((a : Announcement) → o ≡ Some a → listed ≡ true) → cond listed x None ≡ option_and_then f o
-where_listed f listed None x is h = ap (λ y. cond listed y None) is ∙ same_both listed None
+where_listed f listed None x is h = ap (λ y. cond listed y None) is ∙ cond_same listed None
 where_listed f listed (Some a) x is h = ap (λ b. cond b x None) (h a refl) ∙ is
 
 pub present_kept : (phase : Phase) (base : Ip) (size capacity : ℕ) (ms : List Participant) (qs : List PortInfo) (anns : List Announcement) (ns : List ℕ) → AreApart anns → ForEach (IsOwn ms qs) anns → (who : Pid) → who.0 < length ms → (p : Prefix)

@@ -17,7 +17,7 @@ use Rattle.net_types.specs.declared.route.Participant.{Participant}
 use Rattle.net_types.specs.declared.route.PortInfo.{PortInfo}
 use Rattle.net_types.specs.declared.rule.Pair.{Pair}
 use Rattle.net_types.specs.declared.rule.Rule.{Rule}
-use Rattle.net_types.proofs.FindLemmas.{find-IsFound, find_none}
+use Rattle.net_types.proofs.FindLemmas.{cond_same, find_none, not_there}
 use Rattle.net_types.proofs.OrderLemmas.{pairs_total}
 use Rattle.net_types.proofs.SetLemmas.{Member-map}
 use Rattle.net_types.proofs.TieLemmas.{then_ties, nat_ties}
@@ -63,12 +63,9 @@ tagged_member ms n (b ∷ anns) a t tagged (inl same) e =
 tagged_member ms n (b ∷ anns) a t tagged (inr m) e =
     let later : tagged_in anns t ≡ Some a = tagged_member ms (cond (is_given_on ms b) (n + 1) n) anns a t tagged.1 m e in
     elim (has_tag t b) as (λ c. has_tag t b ≡ c → cond c (Some b) (tagged_in anns t) ≡ Some a) [
-      | true ↦ λ is. absurd (not_both (tagged_in anns t) a (tagged_once ms n b anns t tagged is) later)
+      | true ↦ λ is. absurd (not_there (tagged_in anns t) a (tagged_once ms n b anns t tagged is) later)
       | false ↦ λ is. later
     ] refl
-  where
-    not_both : (o : Option Announcement) (x : Announcement) → o ≡ None → o ≡ Some x → ⊥
-    not_both o x none some = cc
 
 -- ---- the rules of one announcement
 
@@ -87,10 +84,10 @@ number_once q qs n apart e =
     apart.0 (subst (λ k. Member k (numbers_of qs)) alike (Member-map (λ (y : PortInfo). y.number.0) qs x m))))
 
 -- an entry of the port and the tag, where there is one
-abbrev entry_at : PortInfo → Option Tag → Bool → List Rule → Option (Pair × List Rule)
+abbrev pub entry_at : PortInfo → Option Tag → Bool → List Rule → Option (Pair × List Rule)
 entry_at q tag given rules = cond given (option_map (λ t. (record { port = q.number; tag = t }, rules)) tag) None
 
-owner_cond : (o : Option Participant) (a : Announcement) (q : PortInfo) → option_and_then (λ m. cond (is_receiver a m) (option_map {U = Pair × List Rule} (λ t. (record { port = q.number; tag = t }, rule_to a.port ∷ [])) a.tag) None) o ≡ entry_at q a.tag (option_map_or (is_receiver a) o false) (rule_to a.port ∷ [])
+pub owner_cond : (o : Option Participant) (a : Announcement) (q : PortInfo) → option_and_then (λ m. cond (is_receiver a m) (option_map {U = Pair × List Rule} (λ t. (record { port = q.number; tag = t }, rule_to a.port ∷ [])) a.tag) None) o ≡ entry_at q a.tag (option_map_or (is_receiver a) o false) (rule_to a.port ∷ [])
 owner_cond None a q = refl
 owner_cond (Some m) a q = refl
 
@@ -111,29 +108,21 @@ entry_here : (pair : Pair) (q : PortInfo) (tag : Option Tag) (given : Bool) (rul
     → find_key pair_cmp pair (cons_option (entry_at q tag given rules) later) ≡ cond (same_option same_tag tag (Some pair.tag)) (cond given (Some rules) None) None
 entry_here pair q None true rules later here none = none
 entry_here pair q None false rules later here none = none
-entry_here pair q (Some t) false rules later here none = none ∙ sym (same_both (nat_eq t.0 pair.tag.0) None)
-  where
-    same_both : {A : Type 0} (b : Bool) (x : A) → cond b x x ≡ x
-    same_both true x = refl
-    same_both false x = refl
+entry_here pair q (Some t) false rules later here none = none ∙ sym (cond_same (nat_eq t.0 pair.tag.0) None)
 entry_here pair q (Some t) true rules later here none =
     ap (λ b. cond b (Some rules) (find_key pair_cmp pair later)) (pair_ties pair q t ∙ ap (λ b. b && nat_eq t.0 pair.tag.0) here)
     ∙ ap (cond (nat_eq t.0 pair.tag.0) (Some rules)) none
 
-same_both : {A : Type 0} (b : Bool) (x : A) → cond b x x ≡ x
-same_both true x = refl
-same_both false x = refl
-
 -- what the entries of one announcement give for a pair
 one_found : (ms : List Participant) (qs : List PortInfo) (a : Announcement) (pair : Pair) → HasNoRepeats (numbers_of qs) → find_key pair_cmp pair (filter_map (table_entry ms a) qs) ≡ cond (has_tag pair.tag a) (option_and_then (rules_for ms a) (find (with_number pair.port) qs)) None
-one_found ms [] a pair apart = sym (same_both (has_tag pair.tag a) None)
+one_found ms [] a pair apart = sym (cond_same (has_tag pair.tag a) None)
 one_found ms (q ∷ qs) a pair apart =
     let rules : List Rule = rule_to a.port ∷ [] in
     let later : List (Pair × List Rule) = filter_map (table_entry ms a) qs in
     ap (λ o. find_key pair_cmp pair (cons_option o later)) (owner_cond (owner_of ms q) a q)
     ∙ elim (with_number pair.port q) as (λ b. with_number pair.port q ≡ b → find_key pair_cmp pair (cons_option (entry_at q a.tag (receives ms a q.owner) rules) later) ≡ cond (has_tag pair.tag a) (option_and_then (rules_for ms a) (cond b (Some q) (find (with_number pair.port) qs))) None) [
       | true ↦ λ t. entry_here pair q a.tag (receives ms a q.owner) rules later t
-          (one_found ms qs a pair apart.1 ∙ ap (λ o. cond (has_tag pair.tag a) (option_and_then (rules_for ms a) o) None) (number_once q qs pair.port apart t) ∙ same_both (has_tag pair.tag a) None)
+          (one_found ms qs a pair apart.1 ∙ ap (λ o. cond (has_tag pair.tag a) (option_and_then (rules_for ms a) o) None) (number_once q qs pair.port apart t) ∙ cond_same (has_tag pair.tag a) None)
       | false ↦ λ t. entry_other pair q a.tag (receives ms a q.owner) rules later t ∙ one_found ms qs a pair apart.1
     ] refl
 
