@@ -46,8 +46,7 @@ use Rattle.sdx_core.specs.Sent.{reply_by}
 use Rattle.sdx_core.specs.View.{attrs_of, rule_to, routing_of, state_of, announced_in, receives, is_receiver, ForEach, HasOwner, AreTagged, tag_count, IsOwn, IsKept}
 use Rattle.sdx_core.specs.declared.announcement.Announcement.{Announcement}
 use Rattle.sdx_core.specs.declared.given.Given.{Given}
-use Rattle.sdx_core.proofs.Dropping.{answer-dropping, are_dropping}
-use Rattle.sdx_core.proofs.Early.{dropping, refused_step}
+use Rattle.sdx_core.proofs.Dropping.{answer-dropping, are_dropping, dropping}
 use Rattle.sdx_core.proofs.Framing.{read_headers, headers-framed, tag_at-framed}
 use Rattle.sdx_core.proofs.GivenLemmas.{IsFrom, is_from, announced_member, told_is, told_longest, given_tag}
 use Rattle.sdx_core.proofs.Kept.{at_member, best_kept, route_kept, route_from, given_at, receives_at}

@@ -36,7 +36,7 @@ use Rattle.net_types.proofs.CubeLemmas.{has-everything}
 use Rattle.net_types.proofs.FrameLemmas.{written-same}
 use Rattle.sdx_core.specs.View.{rule_to, state_of}
 use Rattle.sdx_core.specs.declared.announcement.Announcement.{Announcement}
-use Rattle.sdx_core.proofs.Early.{dropping, no_entries}
+use Rattle.net_types.proofs.ValueLemmas.{no_entries}
 
 -- ---- by the table
 
