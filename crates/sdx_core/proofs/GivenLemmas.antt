@@ -62,10 +62,10 @@ is_from asn (a ∷ anns) g m = from_option asn a anns g (given_to asn a) refl m 
 
 -- ---- the announcement of a prefix
 
-there_any : (anns : List Announcement) (a : Announcement) → Member a anns → is_announced a.prefix anns ≡ true
-there_any [] a m = elim m [ ]
-there_any (b ∷ anns) a (inl e) = ap (λ t. t || is_announced a.prefix anns) (ap (λ (x : Announcement). eq_by_cmp prefix_cmp a.prefix x.prefix) (sym e) ∙ ties_itself prefixes_total a.prefix)
-there_any (b ∷ anns) a (inr m) = or_true (eq_by_cmp prefix_cmp a.prefix b.prefix) (there_any anns a m)
+pub announced_any : (anns : List Announcement) (a : Announcement) → Member a anns → is_announced a.prefix anns ≡ true
+announced_any [] a m = elim m [ ]
+announced_any (b ∷ anns) a (inl e) = ap (λ t. t || is_announced a.prefix anns) (ap (λ (x : Announcement). eq_by_cmp prefix_cmp a.prefix x.prefix) (sym e) ∙ ties_itself prefixes_total a.prefix)
+announced_any (b ∷ anns) a (inr m) = or_true (eq_by_cmp prefix_cmp a.prefix b.prefix) (announced_any anns a m)
   where
     or_true : (x : Bool) {y : Bool} → y ≡ true → (x || y) ≡ true
     or_true true e = refl
@@ -77,7 +77,7 @@ announced_member [] apart a m = elim m [ ]
 announced_member (b ∷ anns) apart a (inl e) =
     ap (λ t. cond t (Some b) (announced_in anns a.prefix)) (ap (λ (x : Announcement). eq_by_cmp prefix_cmp a.prefix x.prefix) (sym e) ∙ ties_itself prefixes_total a.prefix) ∙ ap Some (sym e)
 announced_member (b ∷ anns) apart a (inr m) = elim (eq_by_cmp prefix_cmp a.prefix b.prefix) as (λ t. eq_by_cmp prefix_cmp a.prefix b.prefix ≡ t → cond t (Some b) (announced_in anns a.prefix) ≡ Some a) [
-  | true ↦ λ t. absurd (false≢true (sym apart.0 ∙ ap (λ p. is_announced p anns) (sym (same_from_tie prefix_cmp prefix_cmp-IsAntisymmetric a.prefix b.prefix t)) ∙ there_any anns a m))
+  | true ↦ λ t. absurd (false≢true (sym apart.0 ∙ ap (λ p. is_announced p anns) (sym (same_from_tie prefix_cmp prefix_cmp-IsAntisymmetric a.prefix b.prefix t)) ∙ announced_any anns a m))
   | false ↦ λ t. announced_member anns apart.1 a m
 ] refl
 
