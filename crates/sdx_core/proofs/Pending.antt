@@ -6,9 +6,9 @@ use Rattle.std.specs.List.Sorted.{IsPermutation, IsSortedBy}
 use Rattle.std.specs.Option.{option_map, option_and_then}
 use Rattle.std.specs.Ordering.{eq_by_cmp, is_lt}
 use Rattle.std.specs.FinMap.{FinMap, get, keys, contains_key-keys}
-use Rattle.std.proofs.lemmas.Bool.{eq-eqb, false≢true}
+use Rattle.std.proofs.lemmas.Bool.{eq-eqb, or_parts, false≢true}
 use Rattle.std.proofs.lemmas.List.{take-append-drop}
-use Rattle.std.proofs.lemmas.List.Sorted.{Contains-permutation, sum_by-IsPermutation}
+use Rattle.std.proofs.lemmas.List.Sorted.{Contains-permutation, IsPermutation-sym, sum_by-IsPermutation}
 use Rattle.std.proofs.lemmas.List.Sums.{sum_by-cons}
 use Rattle.events.specs.Fits.{pending, adverts, advert, same_entry}
 use Rattle.events.specs.State.{State, Entry, told_to, present}
@@ -97,6 +97,45 @@ halves_apart [] ys a apart m k = elim m [ ]
 halves_apart (x ∷ xs) ys a apart (inl e) k =
     false≢true (sym apart.0 ∙ ap (λ (z : Announcement). is_announced z.prefix (xs ++ ys)) (sym e) ∙ announced_any (xs ++ ys) a (Member-append_right xs ys a k))
 halves_apart (x ∷ xs) ys a apart (inr m) k = halves_apart xs ys a apart.1 m k
+
+drop-AreApart : (n : ℕ) (anns : List Announcement) → AreApart anns → AreApart (drop n anns)
+drop-AreApart zero [] apart = apart
+drop-AreApart zero (x ∷ anns) apart = apart
+drop-AreApart (suc n) [] apart = tt
+drop-AreApart (suc n) (x ∷ anns) apart = drop-AreApart n anns apart.1
+
+-- how many of what is given are of a prefix
+abbrev of_prefix : Prefix → Given → ℕ
+of_prefix q g = cond (eq_by_cmp prefix_cmp q (given_prefix g)) 1 0
+
+at_most : (b : Bool) → cond b 1 0 ≤ 1
+at_most true = omega arith
+at_most false = omega arith
+
+given_none : (q : Prefix) (asn : ℕ) (anns : List Announcement) → is_announced q anns ≡ false → sum_by (of_prefix q) (all_given asn anns) ≡ 0
+given_none q asn [] none = refl
+given_none q asn (a ∷ anns) none =
+    let parts = or_parts (eq_by_cmp prefix_cmp q a.prefix) (is_announced q anns) none in
+    none_case q a (not (nat_eq asn a.asn)) a.tag (all_given asn anns) parts.0 (given_none q asn anns parts.1)
+  where
+    none_case : (q : Prefix) (a : Announcement) (b : Bool) (o : Option Tag) (rest : List Given) → eq_by_cmp prefix_cmp q a.prefix ≡ false → sum_by (of_prefix q) rest ≡ 0 → sum_by (of_prefix q) (cons_option (cond b (option_map (λ t. let g : Given = record { announcement = a; tag = t } in g) o) None) rest) ≡ 0
+    none_case q a true None rest other e = e
+    none_case q a true (Some t) rest other e = rw (sum_by-cons (of_prefix q) (record { announcement = a; tag = t }) rest, other) (omega arith)
+    none_case q a false o rest other e = e
+
+-- each prefix is given once
+given_once : (q : Prefix) (asn : ℕ) (anns : List Announcement) → AreApart anns → sum_by (of_prefix q) (all_given asn anns) ≤ 1
+given_once q asn [] apart = omega arith
+given_once q asn (a ∷ anns) apart = once_case (not (nat_eq asn a.asn)) a.tag (eq_by_cmp prefix_cmp q a.prefix) refl (given_once q asn anns apart.1)
+  where
+    once_case : (b : Bool) (o : Option Tag) (tie : Bool) → eq_by_cmp prefix_cmp q a.prefix ≡ tie → sum_by (of_prefix q) (all_given asn anns) ≤ 1 → sum_by (of_prefix q) (cons_option (cond b (option_map (λ t. let g : Given = record { announcement = a; tag = t } in g) o) None) (all_given asn anns)) ≤ 1
+    once_case true None tie is rest = rest
+    once_case true (Some t) true is rest =
+        let none : sum_by (of_prefix q) (all_given asn anns) ≡ 0 = given_none q asn anns (ap (λ p. is_announced p anns) (prefix_tie q a.prefix is) ∙ apart.0) in
+        let most : of_prefix q (record { announcement = a; tag = t }) ≤ 1 = at_most (eq_by_cmp prefix_cmp q a.prefix) in
+        rw (sum_by-cons (of_prefix q) (record { announcement = a; tag = t }) (all_given asn anns), none) (omega arith)
+    once_case true (Some t) false is rest = rw (sum_by-cons (of_prefix q) (record { announcement = a; tag = t }) (all_given asn anns), is) (omega arith)
+    once_case false o tie is rest = rest
 
 -- ---- what is given, and the entry that it is
 
@@ -212,3 +251,42 @@ module _ (phase : Phase) (base : Ip) (size capacity : ℕ) (ms : List Participan
   pending_given : (p : Prefix) → Member p (pending st who) → Member p (map given_prefix since)
   pending_given p at =
       pending_case p (announced_in (take n anns) p) (announced_in anns p) refl refl (sym (differs_by p) ∙ (filter-Member differs (ordered prefix_cmp (keys (told_to st who) ++ keys (present st who))) p at).passes)
+
+  -- ---- the queue
+
+  module _ (queue : List Given) (moved_from : IsPermutation since queue) (in_order : IsSortedBy (λ a b. is_lt (prefix_cmp (given_prefix a) (given_prefix b))) queue) where
+    queued_since : (g : Given) → Member g queue → Member g since
+    queued_since g at = moved queue since g (IsPermutation-sym since queue moved_from) at
+
+    rises : IsRising (before prefix_cmp) (map given_prefix queue)
+    rises =
+        sorted-IsRising prefix_cmp prefixes_total given_prefix queue in_order (λ q.
+        let f : Given → ℕ = λ g. cond (eq_by_cmp prefix_cmp q (given_prefix g)) 1 0 in
+        let once : sum_by f since ≤ 1 = given_once q m.asn (drop n anns) (drop-AreApart n anns apart) in
+        let same : sum_by f queue ≡ sum_by f since = sum_by-IsPermutation f since queue moved_from in
+        omega arith)
+
+    queue_member : (p : Prefix) → Member p (map given_prefix since) → Member p (map given_prefix queue)
+    queue_member p at =
+        let image = map-Member given_prefix since p at in
+        subst (λ x. Member x (map given_prefix queue)) (sym image.is) (Member-map given_prefix queue image.of (moved since queue image.of moved_from image.stands))
+
+    member_pending : (p : Prefix) → Member p (map given_prefix queue) → Member p (pending st who)
+    member_pending p at =
+        let image = map-Member given_prefix queue p at in
+        subst (λ x. Member x (pending st who)) (sym image.is) (given_pending image.of (queued_since image.of image.stands))
+
+    -- the queue has the pending prefixes, in order
+    pub pending_is : pending st who ≡ map given_prefix queue
+    pending_is =
+        rising_unique (before prefix_cmp) (before_itself prefix_cmp prefixes_total) (before_trans prefix_cmp prefixes_total) (pending st who) (map given_prefix queue)
+        (filter-IsRising (before prefix_cmp) differs (ordered prefix_cmp (keys (told_to st who) ++ keys (present st who))) (keys-IsRising prefix_cmp (tabulate prefix_cmp (keys (told_to st who) ++ keys (present st who)) (λ k. Some k))))
+        rises
+        (record { onto = λ p at. queue_member p (pending_given p at); back = member_pending })
+
+    -- and so the messages are those of the pending prefixes
+    pub adverts_are : adverts st who ≡ adverts_of base queue
+    adverts_are =
+        ap (map (λ p. advert st p (get (present st who) p))) pending_is
+        ∙ map_over_map (λ p. advert st p (get (present st who) p)) given_prefix queue
+        ∙ same_map_on (λ g. advert st (given_prefix g) (get (present st who) (given_prefix g))) (advert_of base) queue (λ g at. ap (advert st (given_prefix g)) (given_present g (queued_since g at)))
