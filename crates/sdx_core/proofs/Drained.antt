@@ -38,6 +38,7 @@ use Rattle.net_types.specs.declared.route.PortInfo.{PortInfo}
 use Rattle.net_types.specs.declared.rule.Pair.{Pair}
 use Rattle.net_types.specs.declared.rule.Rule.{Rule}
 use Rattle.net_types.proofs.FindLemmas.{find-IsFound, any_at}
+use Rattle.net_types.proofs.ValueLemmas.{any_value}
 use Rattle.net_types.proofs.OrderLemmas.{prefixes_total, tags_total, pairs_total}
 use Rattle.net_types.proofs.TieLemmas.{prefix_cmp-IsAntisymmetric, tag_cmp-IsAntisymmetric, ties_itself}
 use Rattle.sdx_core.specs.Placed.{is_declared}
@@ -93,4 +94,105 @@ kept_live : (ms : List Participant) (anns : List Announcement) → AreApart anns
 kept_live ms anns apart t None is e = cc
 kept_live ms anns apart t (Some a) is e =
     let found = find-IsFound (λ (x : Announcement). same_option same_tag x.tag (Some t)) anns a is in
-    ?
+    any_value prefix_cmp prefixes_total (same_tag t) (from_entries {R = prefix_cmp} (filter_map tag_entry anns)) a.prefix t
+    (tag_kept anns apart a.prefix ∙ ap (option_and_then (λ (x : Announcement). x.tag)) (announced_member anns apart a found.stands) ∙ has_one a.tag t found.passes)
+    (eq-eqb t.0 t.0 refl)
+
+or_left : (b c : Bool) → b ≡ true → (b || c) ≡ true
+or_left b c e = ap (λ x. x || c) e
+
+-- where every key of a map passes, all of it is kept
+retained : {X : Type 0} (R : Tag → Tag → Ordering) → IsTotalOrder R → ((t u : Tag) → R t u ≡ Equal → t ≡ u) → (test : Tag → Bool) (m : FinMap R X) → ((t : Tag) → is_some (get m t) ≡ true → test t ≡ true) → retain_keys m test ≡ m
+retained R o same test m all =
+    same_map o same (retain_keys m test) m (λ q. get-retain_keys m test q (λ x tie. ap test (sym (same q x tie))) ∙ kept_or_none (get m q) (test q) (all q))
+  where
+    kept_or_none : {Y : Type 0} (found : Option Y) (b : Bool) → (is_some found ≡ true → b ≡ true) → cond b found None ≡ found
+    kept_or_none None true h = refl
+    kept_or_none None false h = refl
+    kept_or_none (Some x) b h = ap (λ c. cond c (Some x) None) (h refl)
+
+is_some-map : {A B : Type 0} (f : A → B) (o : Option A) → is_some (option_map f o) ≡ is_some o
+is_some-map f None = refl
+is_some-map f (Some x) = refl
+
+-- ---- the line
+
+module _ (phase : Phase) (b : Ip) (s c : ℕ) (ms : List Participant) (qs : List PortInfo) (anns : List Announcement) (ns : List ℕ) (rules : ℕ) (kept : IsKept phase s c ms qs anns ns rules b)
+    (name : List ℕ) (k : ℕ) (place : position_from (λ (x : Participant). same_octets x.name name) 0 ms ≡ Some k) (m : Participant) (declared : slice_get ms k ≡ Some m) (within : k < length ms) where
+
+  abbrev st : State
+  st = state_of phase b s c ms qs anns ns
+
+  abbrev who : Pid
+  who = record { 0 = k }
+
+  abbrev ns' : List ℕ
+  ns' = slice_set ns k (length anns)
+
+  known : pid_of st.routing name ≡ Some who
+  known = ap (option_map (λ n. let x : Pid = record { 0 = n } in x)) place
+
+  even : length ns' ≡ length ms
+  even = length-set ns k (length anns) ∙ kept.told
+
+  took_all : slice_get ns' k ≡ Some (length anns)
+  took_all = let less : k < length ns = rw kept.told within in set_here ns k (length anns) less
+
+  -- what is present is what all announcements give
+  present_is : from_entries (filter_map (told_entry m) (take (length anns) anns)) ≡ present st who
+  present_is =
+      same_map prefixes_total prefix_cmp-IsAntisymmetric (from_entries (filter_map (told_entry m) (take (length anns) anns))) (present st who) (λ p.
+      ap (λ (x : FinMap prefix_cmp Entry). get x p) (sym (told_is phase b s c ms qs anns ns' who m (length anns) declared took_all))
+      ∙ told_kept phase b s c ms qs anns ns' even kept.apart who (length anns) took_all p
+      ∙ ap (λ xs. option_and_then (entry_of ms who) (announced_in xs p)) (take_all (length anns) anns (omega arith))
+      ∙ sym (present_kept phase b s c ms qs anns ns kept.apart kept.own who within p))
+
+  told_after : told_maps ms ns' anns ≡ slice_set (told_maps ms ns anns) k (present st who)
+  told_after = told_set ms ns anns k (length anns) m declared ∙ ap (slice_set (told_maps ms ns anns) k) present_is
+
+  abbrev told_state : State
+  told_state = running (with_told st who (present st who))
+
+  -- every kept tag is live
+  kept_after : st.kept ≡ retain_keys st.kept (is_live told_state)
+  kept_after =
+      sym (retained tag_cmp tags_total tag_cmp-IsAntisymmetric (is_live told_state) st.kept (λ t there.
+      or_left (list_any (same_tag t) (values st.tag)) (list_any (λ entries. tells entries t) told_state.told)
+      (kept_live ms anns kept.apart t (tagged_in anns t) refl (sym (ap is_some (signature_of_tag ms anns t) ∙ is_some-map _ (tagged_in anns t)) ∙ there))))
+
+  abbrev state_after : State
+  state_after = state_of Running b s c ms qs anns ns'
+
+  abbrev reply : List (List ℕ) → Reply
+  reply messages = record (bare Fine) { adverts = messages }
+
+  settled_is : state_after ≡ settled told_state
+  settled_is = λ i. record told_state { told = told_after i; kept = kept_after i }
+
+  next_is : (messages : List (List ℕ)) → state_after ≡ next st (Drain name) (reply messages)
+  next_is messages =
+      settled_is ∙ sym (ap (λ o. let x : State = with_known st o (λ w. settled (running (with_told st w (present st w)))) in record x { table = st.table }) known)
+
+  placed : (x : Phase) → is_declared x ≡ true → is_placed x (Drain name) ≡ true
+  placed Start e = absurd (cc)
+  placed Declaring e = refl
+  placed Running e = refl
+
+  not_refused : is_declared phase ≡ true → refusal st (Drain name) ≡ None
+  not_refused ready =
+      let why : Option Pid → Option Refusal = λ o. if_known o (λ w. None) in
+      ap (λ x. cond x (refusal_in_place st (Drain name)) (Some Misplaced)) (placed phase ready) ∙ ap why known
+
+  -- the line with what is pending
+  pub drain_step : is_declared phase ≡ true → IsSound state_after → (messages : List (List ℕ)) → adverts st who ≡ messages → IsStep st (Drain name) (reply messages) state_after
+  drain_step ready sound messages are =
+      accepted st (Drain name) (reply messages) state_after (not_refused ready) (next_is messages)
+      (subst (λ o. MatchOption o ⊥ (λ w. IsTaken st state_after w (reply messages))) (sym known) (record {
+        head = refl;
+        tags = refl;
+        drops = sym (none_dropped st state_after refl);
+        adds = refl;
+        adverts = sym are;
+        frames = refl;
+      }))
+      sound
