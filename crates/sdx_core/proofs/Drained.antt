@@ -1,15 +1,17 @@
 -- The line by which a participant takes all that is pending for it.
-use Rattle.std.proofs.Common.{◌≡◌, ℕ, zero, suc, ◌<◌, ◌≤◌, Bool, true, false, cond, ◌||◌, nat_eq, List, [], ◌∷◌, length, map, filter, take, ap, ◌∙◌, refl, sym, inl, inr, subst, arith}
-use Rattle.std.specs.Prelude.{Option, Some, None, MatchOption, slice_get, slice_set, find, is_some, is_none}
+use Rattle.std.proofs.Common.{◌≡◌, ℕ, zero, suc, ◌-◌, ◌<◌, ◌≤◌, Bool, true, false, cond, ◌||◌, nat_eq, List, [], ◌∷◌, length, map, filter, take, drop, ap, ◌∙◌, refl, sym, inl, inr, subst, arith}
+use Rattle.std.specs.Prelude.{Option, Some, None, MatchOption, All, slice_get, slice_index_or, slice_set, find, is_some, is_none}
 use Rattle.std.specs.List.{filter_map, list_any, position_from}
+use Rattle.std.specs.List.Sorted.{IsPermutation, IsSortedBy}
 use Rattle.std.specs.Option.{option_map, option_and_then}
-use Rattle.std.specs.Ordering.{eq_by_cmp}
+use Rattle.std.specs.Ordering.{eq_by_cmp, is_lt}
 use Rattle.std.specs.Cmp.{IsTotalOrder}
 use Rattle.std.specs.FinMap.{FinMap, get, keys, values, from_entries, retain_keys, get-retain_keys, contains_key-keys, same_map}
 use Rattle.std.specs.declared.cmp.Ordering.{Ordering}
 use Rattle.std.specs.declared.cmp.Ordering.TheVariants.{Equal}
 use Rattle.std.proofs.lemmas.Bool.{eqb-true, eq-eqb}
-use Rattle.std.proofs.lemmas.List.{length-set, take_all}
+use Rattle.std.proofs.lemmas.List.{length-set, length-drop, take_all}
+use Rattle.std.proofs.lemmas.List.Sorted.{IsPermutation-sym}
 use Rattle.events.specs.After.{next, with_told, running, settled, with_known}
 use Rattle.events.specs.Fits.{bare, IsStep, IsAnswer, IsTaken, dropped, none_rebuilt, adverts}
 use Rattle.events.specs.Refusals.{refusal, refusal_in_place, if_known, is_placed}
@@ -41,12 +43,17 @@ use Rattle.net_types.proofs.FindLemmas.{find-IsFound, any_at}
 use Rattle.net_types.proofs.ValueLemmas.{any_value}
 use Rattle.net_types.proofs.OrderLemmas.{prefixes_total, tags_total, pairs_total}
 use Rattle.net_types.proofs.TieLemmas.{prefix_cmp-IsAntisymmetric, tag_cmp-IsAntisymmetric, ties_itself}
+use Rattle.sdx_core.specs.Adverts.{adverts_of}
+use Rattle.sdx_core.specs.Given.{all_given}
+use Rattle.sdx_core.specs.declared.given.Given.{Given}
 use Rattle.sdx_core.specs.Placed.{is_declared}
-use Rattle.sdx_core.specs.View.{state_of, told_entry, told_maps, kept_entry, tag_entry, announced_in, AreApart, ForEach, IsOwn, IsKept}
+use Rattle.sdx_core.specs.View.{state_of, told_entry, told_maps, kept_entry, tag_entry, announced_in, AreApart, ForEach, AreTagged, tag_count, IsOwn, IsKept}
 use Rattle.sdx_core.specs.declared.announcement.Announcement.{Announcement}
-use Rattle.sdx_core.proofs.GivenLemmas.{told_is, announced_member}
+use Rattle.sdx_core.proofs.GivenLemmas.{told_is, announced_member, given_tag}
 use Rattle.sdx_core.proofs.KeptMaps.{entry_of, told_kept, present_kept, signature_of_tag, tag_kept, tagged_in}
-use Rattle.sdx_core.proofs.Steps.{accepted}
+use Rattle.sdx_core.proofs.Pending.{Member-at, Member-drop, moved, adverts_are}
+use Rattle.sdx_core.proofs.Soundness.{kept_sound}
+use Rattle.sdx_core.proofs.Steps.{accepted, step_at}
 
 -- ---- what was told
 
@@ -196,3 +203,41 @@ module _ (phase : Phase) (b : Ip) (s c : ℕ) (ms : List Participant) (qs : List
         frames = refl;
       }))
       sound
+
+-- ---- the same, by the values that the code has
+
+-- a slice from a place on
+abbrev from_place : ℕ → List Announcement → List Announcement
+from_place n anns = take (length anns - n) (drop n anns)
+
+from_is : (n : ℕ) (anns : List Announcement) → from_place n anns ≡ drop n anns
+from_is n anns = let l : length (drop n anns) ≡ length anns - n = length-drop n anns in take_all (length anns - n) (drop n anns) (omega arith)
+
+-- the tags in the queue are the pool's
+pub queue_small : (ms : List Participant) (n size : ℕ) (anns : List Announcement) (asn : ℕ) (queue : List Given) → AreTagged ms 0 anns → tag_count anns ≤ size → size ≤ 65536 → IsPermutation (all_given asn (take (length anns - n) (drop n anns))) queue → All (λ g. g.tag.0 ≤ 65536) queue
+queue_small ms n size anns asn queue tagged pool small moves = λ k d less.
+    let order : IsPermutation (all_given asn (drop n anns)) queue = subst (λ xs. IsPermutation (all_given asn xs) queue) (from_is n anns) moves in
+    let g : Given = slice_index_or queue k d in
+    let at : Member (slice_index_or queue k d) (all_given asn (drop n anns)) = moved queue (all_given asn (drop n anns)) g (IsPermutation-sym (all_given asn (drop n anns)) queue order) (Member-at queue k d g less refl) in
+    let below : (slice_index_or queue k d).tag.0 ≤ size = given_tag ms size anns (drop n anns) asn g tagged pool (Member-drop n anns) at in
+    omega arith
+
+-- what holds of the lists after it
+pub kept_drained : (phase : Phase) (s c : ℕ) (ms : List Participant) (qs : List PortInfo) (anns : List Announcement) (ns : List ℕ) (rules : ℕ) (b : Ip) (k : ℕ) → IsKept phase s c ms qs anns ns rules b → IsKept Running s c ms qs anns (slice_set ns k (length anns)) rules b
+kept_drained phase s c ms qs anns ns rules b k h = record {
+  told = length-set ns k (length anns) ∙ h.told; few = h.few; early = tt; fronts = set_each (λ n. n ≤ length anns) ns k (length anns) h.fronts (omega arith); apart = h.apart; owners = h.owners; numbers = h.numbers; own = h.own;
+  tagged = h.tagged; pool = h.pool; rules_are = h.rules_are; room = h.room; addresses = h.addresses; small = h.small; low = h.low;
+}
+
+pub drain_at : (phase : Phase) (b : Ip) (s c : ℕ) (ms : List Participant) (qs : List PortInfo) (anns : List Announcement) (ns ns' : List ℕ) (rules : ℕ) → IsKept phase s c ms qs anns ns rules b
+    → (name : List ℕ) (k : ℕ) → position_from (λ (x : Participant). same_octets x.name name) 0 ms ≡ Some k → (m : Participant) (n : ℕ) → slice_get ms k ≡ Some m → k < length ms → slice_get ns k ≡ Some n → is_declared phase ≡ true
+    → (queue : List Given) → IsPermutation (all_given m.asn (take (length anns - n) (drop n anns))) queue → IsSortedBy (λ x y. is_lt (prefix_cmp x.announcement.prefix y.announcement.prefix)) queue
+    → (messages : List (List ℕ)) → messages ≡ adverts_of b queue → (r : Reply) → r ≡ bare Fine → ns' ≡ slice_set ns k (length anns) → (old : State) → state_of phase b s c ms qs anns ns ≡ old
+    → IsStep old (Drain name) (record r { adverts = messages }) (state_of Running b s c ms qs anns ns')
+drain_at phase b s c ms qs anns ns ns' rules kept name k place m n declared within took ready queue order sorted messages are r reply more old is =
+    let after : List ℕ = slice_set ns k (length anns) in
+    step_at (state_of phase b s c ms qs anns ns) old (state_of Running b s c ms qs anns (slice_set ns k (length anns))) (state_of Running b s c ms qs anns ns') (Drain name) (record (bare Fine) { adverts = messages }) (record r { adverts = messages })
+    is (ap (λ (x : Reply). record x { adverts = messages }) reply) (ap (state_of Running b s c ms qs anns) more)
+    (drain_step phase b s c ms qs anns ns rules kept name k place m declared within ready
+    (kept_sound Running b s c ms qs anns after rules (kept_drained phase s c ms qs anns ns rules b k kept))
+    messages (adverts_are phase b s c ms qs anns ns kept.told kept.apart kept.own (record { 0 = k }) m n declared within took queue (subst (λ xs. IsPermutation (all_given m.asn xs) queue) (from_is n anns) order) sorted ∙ sym are))

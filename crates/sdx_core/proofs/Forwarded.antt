@@ -236,5 +236,5 @@ front_below anns ns k n fronts took = at_member (λ x. x ≤ length anns) ns n f
 pub small_tag : (ms : List Participant) (n size : ℕ) (anns : List Announcement) (asn : ℕ) (g : Option Given) → AreTagged ms 0 anns → tag_count anns ≤ size → size ≤ 65536 → IfSome g (λ x. Member x (all_given asn (take n anns))) → IfSome g (λ x. x.tag.0 ≤ 65536)
 small_tag ms n size anns asn None tagged pool small given = tt
 small_tag ms n size anns asn (Some g) tagged pool small given =
-    let below : g.tag.0 ≤ size = given_tag ms n size anns asn g tagged pool given in
+    let below : g.tag.0 ≤ size = given_tag ms size anns (take n anns) asn g tagged pool (Member-take n anns) given in
     omega arith

@@ -19,7 +19,6 @@ use Rattle.net_types.specs.declared.prefix.Prefix.{Prefix}
 use Rattle.net_types.specs.declared.route.Participant.{Participant}
 use Rattle.net_types.specs.declared.route.PortInfo.{PortInfo}
 use Rattle.std.proofs.lemmas.List.Sums.{sum_by-cons}
-use Rattle.net_types.proofs.FindLemmas.{Member-take}
 use Rattle.net_types.proofs.LongestLemmas.{same_longest_by_tests}
 use Rattle.net_types.proofs.OrderLemmas.{prefixes_total}
 use Rattle.net_types.proofs.TieLemmas.{ties_itself, same_from_tie, prefix_cmp-IsAntisymmetric}
@@ -164,8 +163,8 @@ tag_below ms n (x ∷ anns) a t tagged (inr m) e =
     (later_tag n (is_given_on ms x) x.tag t.0 (tag_count anns) tagged.0 (tag_below ms (cond (is_given_on ms x) (n + 1) n) anns a t tagged.1 m e))
 
 -- a tag that is given is one of the pool's
-pub given_tag : (ms : List Participant) (n size : ℕ) (anns : List Announcement) (asn : ℕ) (g : Given) → AreTagged ms 0 anns → tag_count anns ≤ size → Member g (all_given asn (take n anns)) → g.tag.0 ≤ size
-given_tag ms n size anns asn g tagged pool given =
-    let from = is_from asn (take n anns) g given in
-    let below : g.tag.0 ≤ 0 + tag_count anns = tag_below ms 0 anns g.announcement g.tag tagged (Member-take n anns g.announcement from.stands) from.tag in
+pub given_tag : (ms : List Participant) (size : ℕ) (anns some : List Announcement) (asn : ℕ) (g : Given) → AreTagged ms 0 anns → tag_count anns ≤ size → ((a : Announcement) → Member a some → Member a anns) → Member g (all_given asn some) → g.tag.0 ≤ size
+given_tag ms size anns some asn g tagged pool among given =
+    let from = is_from asn some g given in
+    let below : g.tag.0 ≤ 0 + tag_count anns = tag_below ms 0 anns g.announcement g.tag tagged (among g.announcement from.stands) from.tag in
     omega arith

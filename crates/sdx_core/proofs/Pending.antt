@@ -49,18 +49,18 @@ Contains-Member (y ∷ xs) x (inr m) =
     let less : c.0 < length xs = c.1 in
     (suc c.0, omega arith, c.2)
 
-Member-at : {A : Type 0} (xs : List A) (k : ℕ) (d x : A) → k < length xs → slice_index_or xs k d ≡ x → Member x xs
+pub Member-at : {A : Type 0} (xs : List A) (k : ℕ) (d x : A) → k < length xs → slice_index_or xs k d ≡ x → Member x xs
 Member-at [] k d x h e = absurd (omega arith)
 Member-at (y ∷ xs) zero d x h e = inl (sym e)
 Member-at (y ∷ xs) (suc k) d x h e = inr (Member-at xs k d x (omega arith) e)
 
 -- a list in another order has the same members
-moved : {A : Type 0} (xs ys : List A) (x : A) → IsPermutation xs ys → Member x xs → Member x ys
+pub moved : {A : Type 0} (xs ys : List A) (x : A) → IsPermutation xs ys → Member x xs → Member x ys
 moved xs ys x p m =
     let c = Contains-permutation xs ys x p (Contains-Member xs x m) in
     Member-at ys c.0 x x c.1 c.2
 
-Member-drop : {A : Type 0} (n : ℕ) (xs : List A) (x : A) → Member x (drop n xs) → Member x xs
+pub Member-drop : {A : Type 0} (n : ℕ) (xs : List A) (x : A) → Member x (drop n xs) → Member x xs
 Member-drop n xs x m = subst (Member x) (take-append-drop n xs) (Member-append_right (take n xs) (drop n xs) x m)
 
 more_option : {A : Type 0} (o : Option A) (xs : List A) (x : A) → Member x xs → Member x (cons_option o xs)
