@@ -51,7 +51,8 @@ use Rattle.sdx_core.specs.View.{state_of, told_entry, told_maps, kept_entry, tag
 use Rattle.sdx_core.specs.declared.announcement.Announcement.{Announcement}
 use Rattle.sdx_core.proofs.GivenLemmas.{told_is, announced_member, given_tag}
 use Rattle.sdx_core.proofs.KeptMaps.{entry_of, told_kept, present_kept, signature_of_tag, tag_kept, tagged_in}
-use Rattle.sdx_core.proofs.Pending.{Member-at, Member-drop, moved, adverts_are}
+use Rattle.net_types.proofs.MemberLemmas.{Member-at, Member-drop, Member-permutation}
+use Rattle.sdx_core.proofs.Pending.{adverts_are}
 use Rattle.sdx_core.proofs.Soundness.{kept_sound}
 use Rattle.sdx_core.proofs.Steps.{accepted, step_at}
 
@@ -218,7 +219,7 @@ pub queue_small : (ms : List Participant) (n size : ℕ) (anns : List Announceme
 queue_small ms n size anns asn queue tagged pool small moves = λ k d less.
     let order : IsPermutation (all_given asn (drop n anns)) queue = subst (λ xs. IsPermutation (all_given asn xs) queue) (from_is n anns) moves in
     let g : Given = slice_index_or queue k d in
-    let at : Member (slice_index_or queue k d) (all_given asn (drop n anns)) = moved queue (all_given asn (drop n anns)) g (IsPermutation-sym (all_given asn (drop n anns)) queue order) (Member-at queue k d g less refl) in
+    let at : Member (slice_index_or queue k d) (all_given asn (drop n anns)) = Member-permutation queue (all_given asn (drop n anns)) g (IsPermutation-sym (all_given asn (drop n anns)) queue order) (Member-at queue k d g less refl) in
     let below : (slice_index_or queue k d).tag.0 ≤ size = given_tag ms size anns (drop n anns) asn g tagged pool (Member-drop n anns) at in
     omega arith
 

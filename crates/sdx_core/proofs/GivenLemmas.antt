@@ -23,7 +23,7 @@ use Rattle.net_types.proofs.LongestLemmas.{same_longest_by_tests}
 use Rattle.net_types.proofs.OrderLemmas.{prefixes_total}
 use Rattle.net_types.proofs.TieLemmas.{ties_itself, same_from_tie, prefix_cmp-IsAntisymmetric}
 use Rattle.sdx_core.specs.View.{attrs_of, told_entry, told_maps, is_receiver, state_of, announced_in, is_announced, receives, AreApart, AreTagged, tag_count, tag_at_place, is_given_on}
-use Rattle.sdx_core.specs.Given.{given_to, given_prefix, all_given, given_prefixes, HasSmallTag}
+use Rattle.sdx_core.specs.Given.{given_to, given_prefix, all_given, given_prefixes}
 use Rattle.sdx_core.specs.declared.announcement.Announcement.{Announcement}
 use Rattle.sdx_core.specs.declared.given.Given.{Given}
 use Rattle.sdx_core.proofs.Kept.{receives_at}

@@ -13,7 +13,16 @@ use Rattle.net_types.specs.declared.prefix.Prefix.{Prefix}
 use Rattle.sdx_core.specs.declared.announcement.Announcement.{Announcement}
 use Rattle.sdx_core.specs.declared.given.Given.{Given}
 use Rattle.sdx_core.specs.Given.{given_to, given_prefix, all_given, given_prefixes}
-use Rattle.sdx_core.specs.Longest.{first_longer, longer_given, longer_option, longest_from}
+use Rattle.sdx_core.specs.Longest.{first_longer, longer_given}
+
+abbrev pub longer_option : Option Given → Option Given → Ip → Option Given
+longer_option best None d = best
+longer_option best (Some next) d = longer_given best next d
+
+-- the longest of one and of those that follow
+abbrev pub longest_from : ℕ → Ip → Option Given → List Announcement → Option Given
+longest_from asn d best [] = best
+longest_from asn d best (a ∷ anns) = longest_from asn d (longer_option best (given_to asn a) d) anns
 
 below : (a b : ℕ) → a < b → nat_lt a b ≡ true
 below a b h = grind (arith, nat_tests)

@@ -26,9 +26,10 @@ use Rattle.net_types.specs.declared.route.Participant.{Participant}
 use Rattle.net_types.specs.declared.route.PortInfo.{PortInfo}
 use Rattle.net_types.proofs.FindLemmas.{is_some-cond}
 use Rattle.net_types.proofs.LongestLemmas.{any-member, member-any}
+use Rattle.net_types.proofs.MemberLemmas.{Member-permutation, Member-drop, Member-filter_map, same_map_on}
 use Rattle.net_types.proofs.MapLemmas.{get-tabulate}
 use Rattle.net_types.proofs.OrderLemmas.{prefixes_total, prefix_tie}
-use Rattle.net_types.proofs.SetLemmas.{Member-append_left, Member-append_right, Member-append_cases, Member-map, map-Member, rising_unique}
+use Rattle.net_types.proofs.SetLemmas.{Member-append_left, Member-append_right, Member-append_cases, Member-map, map-Member, map-map, rising_unique}
 use Rattle.sdx_core.specs.Adverts.{advert_of, adverts_of}
 use Rattle.sdx_core.specs.Given.{given_to, given_prefix, all_given}
 use Rattle.sdx_core.specs.View.{attrs_of, state_of, announced_in, is_announced, receives, is_receiver, AreApart, ForEach, IsOwn}
@@ -37,48 +38,7 @@ use Rattle.sdx_core.specs.declared.given.Given.{Given}
 use Rattle.sdx_core.proofs.GivenLemmas.{is_from, announced_any, announced_member}
 use Rattle.sdx_core.proofs.Kept.{announced_prefix, announced_Member, announced_none, receives_at}
 use Rattle.sdx_core.proofs.KeptMaps.{entry_of, told_kept, present_kept, take-AreApart}
-use Rattle.sdx_core.proofs.RisingLemmas.{before, before_itself, before_trans, keys-IsRising, filter-IsRising, filter-Member, Member-filter, count, sorted-IsRising}
-
--- ---- lists
-
-Contains-Member : {A : Type 0} (xs : List A) (x : A) → Member x xs → Contains xs x
-Contains-Member [] x m = elim m [ ]
-Contains-Member (y ∷ xs) x (inl e) = (0, omega arith, sym e)
-Contains-Member (y ∷ xs) x (inr m) =
-    let c = Contains-Member xs x m in
-    let less : c.0 < length xs = c.1 in
-    (suc c.0, omega arith, c.2)
-
-pub Member-at : {A : Type 0} (xs : List A) (k : ℕ) (d x : A) → k < length xs → slice_index_or xs k d ≡ x → Member x xs
-Member-at [] k d x h e = absurd (omega arith)
-Member-at (y ∷ xs) zero d x h e = inl (sym e)
-Member-at (y ∷ xs) (suc k) d x h e = inr (Member-at xs k d x (omega arith) e)
-
--- a list in another order has the same members
-pub moved : {A : Type 0} (xs ys : List A) (x : A) → IsPermutation xs ys → Member x xs → Member x ys
-moved xs ys x p m =
-    let c = Contains-permutation xs ys x p (Contains-Member xs x m) in
-    Member-at ys c.0 x x c.1 c.2
-
-pub Member-drop : {A : Type 0} (n : ℕ) (xs : List A) (x : A) → Member x (drop n xs) → Member x xs
-Member-drop n xs x m = subst (Member x) (take-append-drop n xs) (Member-append_right (take n xs) (drop n xs) x m)
-
-more_option : {A : Type 0} (o : Option A) (xs : List A) (x : A) → Member x xs → Member x (cons_option o xs)
-more_option None xs x m = m
-more_option (Some y) xs x m = inr m
-
-Member-filter_map : {A B : Type 0} (f : A → Option B) (xs : List A) (x : A) (y : B) → Member x xs → f x ≡ Some y → Member y (filter_map f xs)
-Member-filter_map f [] x y m e = elim m [ ]
-Member-filter_map f (z ∷ xs) x y (inl same) e = subst (λ o. Member y (cons_option o (filter_map f xs))) (sym (ap f (sym same) ∙ e)) (inl refl)
-Member-filter_map f (z ∷ xs) x y (inr m) e = more_option (f z) (filter_map f xs) y (Member-filter_map f xs x y m e)
-
-same_map_on : {A B : Type 0} (f g : A → B) (xs : List A) → ((x : A) → Member x xs → f x ≡ g x) → map f xs ≡ map g xs
-same_map_on f g [] h = refl
-same_map_on f g (x ∷ xs) h = ap (λ y. y ∷ map f xs) (h x (inl refl)) ∙ ap (λ ys. g x ∷ ys) (same_map_on f g xs (λ y m. h y (inr m)))
-
-map_over_map : {A B C : Type 0} (f : B → C) (g : A → B) (xs : List A) → map f (map g xs) ≡ map (λ x. f (g x)) xs
-map_over_map f g [] = refl
-map_over_map f g (x ∷ xs) = ap (λ ys. f (g x) ∷ ys) (map_over_map f g xs)
+use Rattle.net_types.proofs.RisingLemmas.{before, before_itself, before_trans, keys-IsRising, filter-IsRising, filter-Member, Member-filter, count, sorted-IsRising}
 
 -- ---- fronts of the announcements
 
@@ -256,7 +216,7 @@ module _ (phase : Phase) (base : Ip) (size capacity : ℕ) (ms : List Participan
 
   module _ (queue : List Given) (moved_from : IsPermutation since queue) (in_order : IsSortedBy (λ a b. is_lt (prefix_cmp (given_prefix a) (given_prefix b))) queue) where
     queued_since : (g : Given) → Member g queue → Member g since
-    queued_since g at = moved queue since g (IsPermutation-sym since queue moved_from) at
+    queued_since g at = Member-permutation queue since g (IsPermutation-sym since queue moved_from) at
 
     rises : IsRising (before prefix_cmp) (map given_prefix queue)
     rises =
@@ -269,7 +229,7 @@ module _ (phase : Phase) (base : Ip) (size capacity : ℕ) (ms : List Participan
     queue_member : (p : Prefix) → Member p (map given_prefix since) → Member p (map given_prefix queue)
     queue_member p at =
         let image = map-Member given_prefix since p at in
-        subst (λ x. Member x (map given_prefix queue)) (sym image.is) (Member-map given_prefix queue image.of (moved since queue image.of moved_from image.stands))
+        subst (λ x. Member x (map given_prefix queue)) (sym image.is) (Member-map given_prefix queue image.of (Member-permutation since queue image.of moved_from image.stands))
 
     member_pending : (p : Prefix) → Member p (map given_prefix queue) → Member p (pending st who)
     member_pending p at =
@@ -288,5 +248,5 @@ module _ (phase : Phase) (base : Ip) (size capacity : ℕ) (ms : List Participan
     pub adverts_are : adverts st who ≡ adverts_of base queue
     adverts_are =
         ap (map (λ p. advert st p (get (present st who) p))) pending_is
-        ∙ map_over_map (λ p. advert st p (get (present st who) p)) given_prefix queue
+        ∙ map-map (λ p. advert st p (get (present st who) p)) given_prefix (λ g. advert st (given_prefix g) (get (present st who) (given_prefix g))) (λ g. refl) queue
         ∙ same_map_on (λ g. advert st (given_prefix g) (get (present st who) (given_prefix g))) (advert_of base) queue (λ g at. ap (advert st (given_prefix g)) (given_present g (queued_since g at)))

@@ -1,5 +1,5 @@
 -- What of the announcements a participant is given.
-use Rattle.std.specs.Prelude.{ℕ, ◌≤◌, not, nat_eq, List, map, Option, None, IfSome, if◌then◌else◌}
+use Rattle.std.specs.Prelude.{ℕ, not, nat_eq, List, map, Option, None, if◌then◌else◌}
 use Rattle.std.specs.List.{filter_map}
 use Rattle.std.specs.Option.{option_map}
 use Rattle.net_types.specs.declared.prefix.Prefix.{Prefix}
@@ -19,7 +19,3 @@ all_given asn anns = filter_map (given_to asn) anns
 
 abbrev pub given_prefixes : ℕ → List Announcement → List Prefix
 given_prefixes asn anns = map given_prefix (all_given asn anns)
-
--- the tag, where there is one, is one of a pool's
-abbrev pub HasSmallTag : Announcement → Type 0
-HasSmallTag a = IfSome a.tag (λ t. t.0 ≤ 65536)

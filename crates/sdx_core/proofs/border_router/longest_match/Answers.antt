@@ -4,8 +4,7 @@ use Rattle.std.specs.Option.{option_map}
 use Rattle.std.proofs.lemmas.List.{at_drop_all}
 use Rattle.net_types.specs.Sets.{Member}
 use Rattle.sdx_core.specs.Given.{given_prefix, all_given}
-use Rattle.sdx_core.specs.Longest.{longest_from}
-use Rattle.sdx_core.proofs.Longest.{longest-prefix, longest-found}
+use Rattle.sdx_core.proofs.Longest.{longest_from, longest-prefix, longest-found}
 use Rattle.sdx_core.proofs.border_router.longest_match.Goals as goal
 
 found : (c : goal.After-loop-announcement) → c.loop-announcement.best ≡ longest_from c.args.asn c.args.destination None c.args.told.now

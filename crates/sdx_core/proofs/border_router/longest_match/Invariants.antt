@@ -1,6 +1,6 @@
 use Rattle.std.proofs.Common.{◌≡◌, drop}
 use Rattle.std.specs.Prelude.{None}
-use Rattle.sdx_core.specs.Longest.{longest_from}
+use Rattle.sdx_core.proofs.Longest.{longest_from}
 use Rattle.sdx_core.proofs.border_router.longest_match.Given as goal
 
 -- what is still to come gives the result
