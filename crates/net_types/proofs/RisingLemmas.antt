@@ -1,5 +1,5 @@
 -- Lists that rise in a total order: the keys of a map, what a filter leaves of them, and a sorted list without repeats.
-use Rattle.std.proofs.Common.{◌≡◌, ℕ, zero, suc, ◌+◌, ◌<◌, ◌≤◌, Bool, true, false, cond, ◌&&◌, not, List, [], ◌∷◌, length, map, filter, sum_by, ap, ◌∙◌, refl, sym, inl, inr, subst, arith, T}
+use Rattle.std.proofs.Common.{◌≡◌, ℕ, suc, ◌+◌, ◌≤◌, Bool, true, false, cond, not, List, [], ◌∷◌, map, filter, sum_by, ap, ◌∙◌, refl, sym, inl, inr, subst, arith, T}
 use Rattle.std.specs.Prelude.{slice_index_or, ◌⊎◌}
 use Rattle.std.specs.Cmp.{IsTotalOrder}
 use Rattle.std.specs.FinMap.{FinMap, keys, entries, entries_sorted, is_sorted}
@@ -165,7 +165,7 @@ module _ {A K : Type 0} (R : K → K → Ordering) (o : IsTotalOrder R) (key : A
   sorted-IsRising (x ∷ xs) h once = (
     λ y m. strictly x xs y m (all_after x xs h y m) (once (key x)),
     sorted-IsRising xs (rest_in_order x xs h) (λ q.
-    let f : A → ℕ = λ z. cond (eq_by_cmp R q (key z)) 1 0 in
-    let all : f x + count q xs ≤ 1 = rw (sum_by-cons f x xs) at (once q) in
-    omega arith),
+        let f : A → ℕ = λ z. cond (eq_by_cmp R q (key z)) 1 0 in
+        let all : f x + count q xs ≤ 1 = rw (sum_by-cons f x xs) at (once q) in
+        omega arith),
   )

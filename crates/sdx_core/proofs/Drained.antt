@@ -1,6 +1,6 @@
 -- The line by which a participant takes all that is pending for it.
-use Rattle.std.proofs.Common.{◌≡◌, ℕ, zero, suc, ◌-◌, ◌<◌, ◌≤◌, Bool, true, false, cond, ◌||◌, nat_eq, List, [], ◌∷◌, length, map, filter, take, drop, ap, ◌∙◌, refl, sym, inl, inr, subst, arith}
-use Rattle.std.specs.Prelude.{Option, Some, None, MatchOption, All, slice_get, slice_index_or, slice_set, find, is_some, is_none}
+use Rattle.std.proofs.Common.{◌≡◌, ℕ, zero, suc, ◌-◌, ◌<◌, ◌≤◌, Bool, true, false, cond, ◌||◌, List, [], ◌∷◌, length, filter, take, drop, ap, ◌∙◌, refl, sym, inl, inr, subst, arith}
+use Rattle.std.specs.Prelude.{Option, Some, None, MatchOption, All, slice_get, slice_index_or, slice_set, is_some, is_none}
 use Rattle.std.specs.List.{filter_map, list_any, position_from}
 use Rattle.std.specs.List.Sorted.{IsPermutation, IsSortedBy}
 use Rattle.std.specs.Option.{option_map, option_and_then}
@@ -13,10 +13,10 @@ use Rattle.std.proofs.lemmas.Bool.{eqb-true, eq-eqb}
 use Rattle.std.proofs.lemmas.List.{length-set, length-drop, take_all}
 use Rattle.std.proofs.lemmas.List.Sorted.{IsPermutation-sym}
 use Rattle.events.specs.After.{next, with_told, running, settled, with_known}
-use Rattle.events.specs.Fits.{bare, IsStep, IsAnswer, IsTaken, dropped, none_rebuilt, adverts}
+use Rattle.events.specs.Fits.{bare, IsStep, IsTaken, dropped, none_rebuilt, adverts}
 use Rattle.events.specs.Refusals.{refusal, refusal_in_place, if_known, is_placed}
 use Rattle.events.specs.Sound.{IsSound}
-use Rattle.events.specs.State.{State, Entry, told_to, present}
+use Rattle.events.specs.State.{State, Entry, present}
 use Rattle.events.specs.Tags.{same_tag, is_live, tells}
 use Rattle.events.specs.declared.Event.TheVariants.{Drain}
 use Rattle.events.specs.declared.Head.TheVariants.{Fine}
@@ -33,11 +33,8 @@ use Rattle.net_types.specs.Sets.{Member}
 use Rattle.net_types.specs.declared.address.Ip.{Ip}
 use Rattle.net_types.specs.declared.address.Pid.{Pid}
 use Rattle.net_types.specs.declared.address.Tag.{Tag}
-use Rattle.net_types.specs.declared.prefix.Prefix.{Prefix}
-use Rattle.net_types.specs.declared.route.Part.{Part}
 use Rattle.net_types.specs.declared.route.Participant.{Participant}
 use Rattle.net_types.specs.declared.route.PortInfo.{PortInfo}
-use Rattle.net_types.specs.declared.rule.Pair.{Pair}
 use Rattle.net_types.specs.declared.rule.Rule.{Rule}
 use Rattle.net_types.proofs.FindLemmas.{find-IsFound, any_at}
 use Rattle.net_types.proofs.ValueLemmas.{any_value}
@@ -47,7 +44,7 @@ use Rattle.sdx_core.specs.Adverts.{adverts_of}
 use Rattle.sdx_core.specs.Given.{all_given}
 use Rattle.sdx_core.specs.declared.given.Given.{Given}
 use Rattle.sdx_core.specs.Placed.{is_declared}
-use Rattle.sdx_core.specs.View.{state_of, told_entry, told_maps, kept_entry, tag_entry, announced_in, AreApart, ForEach, AreTagged, tag_count, IsOwn, IsKept}
+use Rattle.sdx_core.specs.View.{state_of, told_entry, told_maps, tag_entry, announced_in, AreApart, ForEach, AreTagged, tag_count, IsKept}
 use Rattle.sdx_core.specs.declared.announcement.Announcement.{Announcement}
 use Rattle.sdx_core.proofs.GivenLemmas.{told_is, announced_member, given_tag}
 use Rattle.sdx_core.proofs.KeptMaps.{entry_of, told_kept, present_kept, signature_of_tag, tag_kept, tagged_in}
@@ -127,7 +124,6 @@ is_some-map f (Some x) = refl
 
 module _ (phase : Phase) (b : Ip) (s c : ℕ) (ms : List Participant) (qs : List PortInfo) (anns : List Announcement) (ns : List ℕ) (rules : ℕ) (kept : IsKept phase s c ms qs anns ns rules b)
     (name : List ℕ) (k : ℕ) (place : position_from (λ (x : Participant). same_octets x.name name) 0 ms ≡ Some k) (m : Participant) (declared : slice_get ms k ≡ Some m) (within : k < length ms) where
-
   abbrev st : State
   st = state_of phase b s c ms qs anns ns
 
@@ -226,8 +222,21 @@ queue_small ms n size anns asn queue tagged pool small moves = λ k d less.
 -- what holds of the lists after it
 pub kept_drained : (phase : Phase) (s c : ℕ) (ms : List Participant) (qs : List PortInfo) (anns : List Announcement) (ns : List ℕ) (rules : ℕ) (b : Ip) (k : ℕ) → IsKept phase s c ms qs anns ns rules b → IsKept Running s c ms qs anns (slice_set ns k (length anns)) rules b
 kept_drained phase s c ms qs anns ns rules b k h = record {
-  told = length-set ns k (length anns) ∙ h.told; few = h.few; early = tt; fronts = set_each (λ n. n ≤ length anns) ns k (length anns) h.fronts (omega arith); apart = h.apart; owners = h.owners; numbers = h.numbers; own = h.own;
-  tagged = h.tagged; pool = h.pool; rules_are = h.rules_are; room = h.room; addresses = h.addresses; small = h.small; low = h.low;
+  told = length-set ns k (length anns) ∙ h.told;
+  few = h.few;
+  early = tt;
+  fronts = set_each (λ n. n ≤ length anns) ns k (length anns) h.fronts (omega arith);
+  apart = h.apart;
+  owners = h.owners;
+  numbers = h.numbers;
+  own = h.own;
+  tagged = h.tagged;
+  pool = h.pool;
+  rules_are = h.rules_are;
+  room = h.room;
+  addresses = h.addresses;
+  small = h.small;
+  low = h.low;
 }
 
 pub drain_at : (phase : Phase) (b : Ip) (s c : ℕ) (ms : List Participant) (qs : List PortInfo) (anns : List Announcement) (ns ns' : List ℕ) (rules : ℕ) → IsKept phase s c ms qs anns ns rules b

@@ -1,56 +1,51 @@
 -- The line that sends a datagram.
-use Rattle.std.proofs.Common.{◌≡◌, ℕ, zero, suc, ◌<◌, ◌≤◌, Bool, true, false, cond, not, nat_eq, List, [], ◌∷◌, length, map, take, ap, ◌∙◌, refl, sym, inl, inr, subst, arith, IsTrue}
-use Rattle.std.specs.Prelude.{Option, Some, None, IfSome, MatchOption, find, slice_get, is_some}
+use Rattle.std.proofs.Common.{◌≡◌, ℕ, zero, suc, ◌<◌, ◌≤◌, true, false, cond, nat_eq, List, [], ◌∷◌, length, take, ap, ◌∙◌, refl, sym, inl, inr, subst, arith, IsTrue}
+use Rattle.std.specs.Prelude.{Option, Some, None, IfSome, MatchOption, find, slice_get}
 use Rattle.std.specs.Option.{option_map, option_map_or, option_and_then}
-use Rattle.std.specs.FinMap.{FinMap, get, keys, from_entries}
+use Rattle.std.specs.FinMap.{FinMap, get, keys}
 use Rattle.std.proofs.lemmas.Bool.{eq-eqb, eqb-true}
 use Rattle.events.specs.After.{next}
-use Rattle.events.specs.Fits.{bare, IsStep, IsAnswer, IsSent, IsForwarded, FitsBy, ReachesExporters, tagged_frame, destination}
+use Rattle.events.specs.Fits.{bare, IsStep, IsSent, IsForwarded, FitsBy, ReachesExporters, tagged_frame, destination}
 use Rattle.events.specs.Refusals.{refusal, refusal_in_place, if_known, is_placed}
 use Rattle.events.specs.Restricted.{is_short_datagram}
 use Rattle.events.specs.Sound.{IsSound}
-use Rattle.events.specs.State.{State, Entry, ArePolicies, told_to, port_of}
+use Rattle.events.specs.State.{State, Entry, told_to, port_of}
 use Rattle.events.specs.Tags.{same_tag}
 use Rattle.net_types.specs.Attributes.{same_option}
 use Rattle.net_types.specs.Keys.{prefix_cmp}
 use Rattle.events.specs.Table.{framed, first_match, out, mac_of}
-use Rattle.events.specs.declared.Event.{Event}
 use Rattle.events.specs.declared.Event.TheVariants.{Packet}
-use Rattle.events.specs.declared.Frame.{Frame}
-use Rattle.events.specs.declared.Head.TheVariants.{Fine, Unrouted}
+use Rattle.events.specs.declared.Head.TheVariants.{Fine}
 use Rattle.events.specs.declared.Phase.{Phase}
 use Rattle.events.specs.declared.Phase.TheVariants.{Start, Declaring, Running}
 use Rattle.events.specs.declared.Refusal.{Refusal}
 use Rattle.events.specs.declared.Refusal.TheVariants.{Misplaced}
 use Rattle.events.specs.declared.Reply.{Reply}
-use Rattle.net_types.specs.Answers.{Policies, Leaving, answer, next_port}
+use Rattle.net_types.specs.Answers.{Leaving, answer, next_port}
 use Rattle.net_types.specs.Exports.{Routing, exports, route, is_given}
-use Rattle.net_types.specs.Frames.{headers_of, tag_mac}
-use Rattle.net_types.specs.Routes.{Candidate, best, candidate, longest_of}
+use Rattle.net_types.specs.Frames.{headers_of}
+use Rattle.net_types.specs.Routes.{best, candidate, longest_of}
 use Rattle.net_types.specs.Sets.{Member}
 use Rattle.net_types.specs.Signatures.{port_with}
 use Rattle.net_types.specs.declared.address.Ip.{Ip}
 use Rattle.net_types.specs.declared.address.Pid.{Pid}
 use Rattle.net_types.specs.declared.address.PortNo.{PortNo}
-use Rattle.net_types.specs.declared.address.Tag.{Tag}
 use Rattle.net_types.specs.declared.headers.Headers.{Headers}
-use Rattle.net_types.specs.declared.prefix.Prefix.{Prefix}
 use Rattle.net_types.specs.declared.route.Attrs.{Attrs}
 use Rattle.net_types.specs.declared.route.Participant.{Participant}
 use Rattle.net_types.specs.declared.route.PortInfo.{PortInfo}
-use Rattle.net_types.specs.declared.rule.Rule.{Rule}
 use Rattle.net_types.proofs.FindLemmas.{Member-take, find-IsFound, slice_get-Member}
 use Rattle.sdx_core.specs.Given.{given_prefix, all_given, given_prefixes}
 use Rattle.sdx_core.specs.Placed.{is_declared}
 use Rattle.sdx_core.specs.Sent.{reply_by}
-use Rattle.sdx_core.specs.View.{attrs_of, rule_to, routing_of, state_of, announced_in, receives, is_receiver, ForEach, HasOwner, AreTagged, tag_count, IsOwn, IsKept}
+use Rattle.sdx_core.specs.View.{attrs_of, rule_to, routing_of, state_of, announced_in, receives, ForEach, HasOwner, AreTagged, tag_count, IsOwn, IsKept}
 use Rattle.sdx_core.specs.declared.announcement.Announcement.{Announcement}
 use Rattle.sdx_core.specs.declared.given.Given.{Given}
 use Rattle.sdx_core.proofs.Dropping.{answer-dropping, are_dropping, dropping}
 use Rattle.sdx_core.proofs.Framing.{read_headers, headers-framed, tag_at-framed}
 use Rattle.sdx_core.proofs.GivenLemmas.{IsFrom, is_from, announced_member, told_is, told_longest, given_tag}
 use Rattle.sdx_core.proofs.Kept.{at_member, best_kept, route_kept, route_from, given_at, receives_at}
-use Rattle.sdx_core.proofs.KeptMaps.{entry_of, tagged_in, told_kept, take-AreApart}
+use Rattle.sdx_core.proofs.KeptMaps.{entry_of, told_kept, take-AreApart}
 use Rattle.sdx_core.proofs.KeptTable.{table_kept, tagged_member}
 use Rattle.sdx_core.proofs.Leaving.{first_match-rule, out-same}
 
@@ -74,7 +69,6 @@ owned (Some q) who e P p = let same : q.owner ≡ who = cc in subst P (sym same)
 
 module _ (phase : Phase) (b : Ip) (s c : ℕ) (ms : List Participant) (qs : List PortInfo) (anns : List Announcement) (ns : List ℕ) (rules : ℕ) (kept : IsKept phase s c ms qs anns ns rules b)
     (port : PortNo) (q : PortInfo) (found : find (λ (x : PortInfo). nat_eq x.number.0 port.0) qs ≡ Some q) (m : Participant) (n : ℕ) (bytes : List ℕ) (declared : slice_get ms q.owner.0 ≡ Some m) (took : slice_get ns q.owner.0 ≡ Some n) (whole : length q.mac.0 ≡ 6) (short : IsTrue (is_short_datagram bytes)) (sound : IsSound (state_of Running b s c ms qs anns ns)) where
-
   abbrev st : State
   st = state_of phase b s c ms qs anns ns
 
@@ -168,7 +162,7 @@ module _ (phase : Phase) (b : Ip) (s c : ℕ) (ms : List Participant) (qs : List
         dropping r,
         are_dropping phase b s c ms qs anns ns,
         subst (λ o. MatchOption o ⊥ (λ k. ((reply_by qs q bytes (Some g)).frames ≡ out qs frame (answer (dropping r) r q.owner a.prefix k)) × ReachesExporters st q.owner a.prefix (answer (dropping r) r q.owner a.prefix k))) (sym read)
-        (sym (ap (out qs frame) by_answer ∙ leaves), subst (ReachesExporters st q.owner a.prefix) (sym by_answer) only_exporters),
+            (sym (ap (out qs frame) by_answer ∙ leaves), subst (ReachesExporters st q.owner a.prefix) (sym by_answer) only_exporters),
       );
     }
 
@@ -201,7 +195,7 @@ module _ (phase : Phase) (b : Ip) (s c : ℕ) (ms : List Participant) (qs : List
   packet_step ready g longer given = record {
     fits = subst (λ o. FitsBy o st (Packet port bytes) (reply_by qs q bytes g)) (sym (not_refused ready)) (record {
       answer = subst (λ o. MatchOption o ⊥ (λ x. IsSent st x bytes (reply_by qs q bytes g) (longest_of (keys (told_to st x.owner)) (destination bytes)))) (sym found)
-      (subst (IsSent st q bytes (reply_by qs q bytes g)) (longer ∙ sym longest) (sent_right g given));
+          (subst (IsSent st q bytes (reply_by qs q bytes g)) (longer ∙ sym longest) (sent_right g given));
       sound = subst IsSound (after g) sound;
     });
     next = after g;
@@ -221,7 +215,21 @@ packet_at phase b s c ms qs anns ns rules kept port q found m n bytes declared t
 -- the lists stand for a running exchange as well
 pub kept_running : (phase : Phase) (s c : ℕ) (ms : List Participant) (qs : List PortInfo) (anns : List Announcement) (ns : List ℕ) (rules : ℕ) (b : Ip) → IsKept phase s c ms qs anns ns rules b → IsKept Running s c ms qs anns ns rules b
 kept_running phase s c ms qs anns ns rules b k = record {
-  told = k.told; few = k.few; early = tt; fronts = k.fronts; apart = k.apart; owners = k.owners; numbers = k.numbers; own = k.own; tagged = k.tagged; pool = k.pool; rules_are = k.rules_are; room = k.room; addresses = k.addresses; small = k.small; low = k.low;
+  told = k.told;
+  few = k.few;
+  early = tt;
+  fronts = k.fronts;
+  apart = k.apart;
+  owners = k.owners;
+  numbers = k.numbers;
+  own = k.own;
+  tagged = k.tagged;
+  pool = k.pool;
+  rules_are = k.rules_are;
+  room = k.room;
+  addresses = k.addresses;
+  small = k.small;
+  low = k.low;
 }
 
 -- the owner of a declared port is declared

@@ -1,12 +1,12 @@
 -- The frame of a short datagram to a tag's MAC: it has headers, and the tag can be read from it.
-use Rattle.std.proofs.Common.{◌≡◌, ℕ, zero, suc, ◌+◌, ◌*◌, ◌/◌, ◌%◌, ◌-◌, ◌<◌, ◌≤◌, Bool, true, false, cond, ◌&&◌, nat_eq, nat_le, List, [], ◌∷◌, ◌++◌, length, take, drop, ap, ◌∙◌, refl, sym, arith, subst, IsTrue}
-use Rattle.std.specs.Prelude.{Option, Some, None, slice_index}
+use Rattle.std.proofs.Common.{◌≡◌, ℕ, ◌+◌, ◌*◌, ◌/◌, ◌%◌, ◌-◌, true, cond, nat_eq, List, [], ◌∷◌, ◌++◌, length, take, drop, ap, ◌∙◌, refl, sym, arith, IsTrue}
+use Rattle.std.specs.Prelude.{Some, None, slice_index}
 use Rattle.std.proofs.lemmas.Bool.{and_parts, eqb-true}
 use Rattle.std.proofs.lemmas.List.{take-append-drop, length-drop}
 use Rattle.events.specs.Restricted.{is_short_datagram}
 use Rattle.events.specs.Table.{framed, tag_at}
-use Rattle.net_types.specs.Frames.{has_headers, headers_of, tag_mac, ip_end, ip_total, port_at}
-use Rattle.net_types.specs.Octets.{same_octets, word_at, address_at}
+use Rattle.net_types.specs.Frames.{has_headers, headers_of, tag_mac, port_at}
+use Rattle.net_types.specs.Octets.{same_octets, address_at}
 use Rattle.net_types.specs.declared.address.Mac.{Mac}
 use Rattle.net_types.specs.declared.address.PortNo.{PortNo}
 use Rattle.net_types.specs.declared.address.Tag.{Tag}

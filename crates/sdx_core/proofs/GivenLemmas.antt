@@ -1,13 +1,13 @@
 -- What a participant is given of the kept announcements, and what it is told of them.
-use Rattle.std.proofs.Common.{◌≡◌, ℕ, zero, suc, ◌+◌, ◌<◌, ◌≤◌, Bool, true, false, cond, ◌||◌, not, nat_eq, List, [], ◌∷◌, map, take, ap, ◌∙◌, refl, sym, inl, inr, subst, arith}
-use Rattle.std.specs.Prelude.{Option, Some, None, IfSome, unwrap_or, slice_get, is_some, ◌⊎◌}
+use Rattle.std.proofs.Common.{◌≡◌, ℕ, zero, suc, ◌+◌, ◌≤◌, Bool, true, false, cond, ◌||◌, not, nat_eq, List, [], ◌∷◌, map, take, ap, ◌∙◌, refl, sym, inl, inr, subst, arith}
+use Rattle.std.specs.Prelude.{Option, Some, None, unwrap_or, slice_get, is_some}
 use Rattle.std.specs.List.{filter_map, cons_option, list_any}
-use Rattle.std.specs.Option.{option_map, option_map_or, option_and_then}
+use Rattle.std.specs.Option.{option_map}
 use Rattle.std.specs.Ordering.{eq_by_cmp}
-use Rattle.std.specs.FinMap.{FinMap, empty, get, keys, from_entries, get-from_entries, contains_key-keys, find}
+use Rattle.std.specs.FinMap.{FinMap, empty, keys, from_entries, get-from_entries, contains_key-keys}
 use Rattle.std.specs.FinMap.Entries.{is_some-find}
-use Rattle.std.proofs.lemmas.Bool.{cases_Bool, false≢true, or_parts}
-use Rattle.events.specs.State.{State, Entry, told_to}
+use Rattle.std.proofs.lemmas.Bool.{false≢true}
+use Rattle.events.specs.State.{Entry, told_to}
 use Rattle.events.specs.declared.Phase.{Phase}
 use Rattle.net_types.specs.Keys.{prefix_cmp}
 use Rattle.net_types.specs.Routes.{longest_of}
@@ -22,12 +22,10 @@ use Rattle.std.proofs.lemmas.List.Sums.{sum_by-cons}
 use Rattle.net_types.proofs.LongestLemmas.{same_longest_by_tests}
 use Rattle.net_types.proofs.OrderLemmas.{prefixes_total}
 use Rattle.net_types.proofs.TieLemmas.{ties_itself, same_from_tie, prefix_cmp-IsAntisymmetric}
-use Rattle.sdx_core.specs.View.{attrs_of, told_entry, told_maps, is_receiver, state_of, announced_in, is_announced, receives, AreApart, AreTagged, tag_count, tag_at_place, is_given_on}
+use Rattle.sdx_core.specs.View.{attrs_of, told_entry, told_maps, state_of, announced_in, is_announced, AreApart, AreTagged, tag_count, tag_at_place, is_given_on}
 use Rattle.sdx_core.specs.Given.{given_to, given_prefix, all_given, given_prefixes}
 use Rattle.sdx_core.specs.declared.announcement.Announcement.{Announcement}
 use Rattle.sdx_core.specs.declared.given.Given.{Given}
-use Rattle.sdx_core.proofs.Kept.{receives_at}
-use Rattle.sdx_core.proofs.KeptMaps.{entry_of}
 
 -- the announcement from which something given comes
 pub record IsFrom (asn : ℕ) (anns : List Announcement) (g : Given) : Type 0 where

@@ -1,41 +1,28 @@
 -- How a frame leaves by the table: to the port of the next hop, as it is.
-use Rattle.std.proofs.Common.{◌≡◌, ℕ, zero, suc, Bool, true, cond, nat_eq, List, [], ◌∷◌, ◌++◌, map, drop, ap, ◌∙◌, refl, sym}
-use Rattle.std.specs.Prelude.{Option, Some, None, unwrap_or, slice_get, codes}
+use Rattle.std.proofs.Common.{◌≡◌, ℕ, cond, List, [], ◌∷◌, ◌++◌, map, drop, ap, ◌∙◌, sym}
+use Rattle.std.specs.Prelude.{Some, None, unwrap_or}
 use Rattle.std.specs.Cmp.{IsTotalOrder, nat_cmp_total}
 use Rattle.std.specs.Cmp.Lexicographic.{nat_list_cmp_total}
-use Rattle.std.specs.FinMap.{FinMap, empty, get, entries, entries-insert, put}
+use Rattle.std.specs.FinMap.{FinMap, empty, get, entries-insert, put}
 use Rattle.std.specs.Option.{option_map_or}
 use Rattle.std.specs.declared.cmp.Ordering.{Ordering}
 use Rattle.std.proofs.lemmas.Cmp.{on_total, then_total}
 use Rattle.std.proofs.lemmas.List.{append_assoc}
-use Rattle.events.specs.State.{State, AreRead, ArePolicies}
 use Rattle.events.specs.Table.{framed, first_match, actions_on, tag_at, done_by, frame_cmp, frame_of, out, mac_of}
 use Rattle.events.specs.declared.Frame.{Frame}
-use Rattle.events.specs.declared.Phase.{Phase}
-use Rattle.net_types.specs.Answers.{Policies, Leaving, answer, answer_for, answer_by, next_port, sent, received, received_at, policy_of}
-use Rattle.net_types.specs.Exports.{Routing, pid_of, exports}
-use Rattle.net_types.specs.Cubes.{has, everything}
-use Rattle.net_types.specs.Frames.{headers_of, written, tag_mac}
+use Rattle.net_types.specs.Answers.{Leaving}
+use Rattle.net_types.specs.Frames.{headers_of, tag_mac}
 use Rattle.net_types.specs.Keys.{pair_cmp}
 use Rattle.net_types.specs.Maps.{ordered}
-use Rattle.net_types.specs.Policies.{Policy, Drop}
-use Rattle.net_types.specs.Routes.{Candidate, best}
-use Rattle.net_types.specs.Sets.{union_over}
-use Rattle.net_types.specs.declared.address.Ip.{Ip}
 use Rattle.net_types.specs.declared.address.Mac.{Mac}
-use Rattle.net_types.specs.declared.address.Pid.{Pid}
 use Rattle.net_types.specs.declared.address.PortNo.{PortNo}
 use Rattle.net_types.specs.declared.address.Tag.{Tag}
 use Rattle.net_types.specs.declared.headers.Headers.{Headers}
-use Rattle.net_types.specs.declared.prefix.Prefix.{Prefix}
-use Rattle.net_types.specs.declared.route.Participant.{Participant}
 use Rattle.net_types.specs.declared.route.PortInfo.{PortInfo}
-use Rattle.net_types.specs.declared.rule.Pair.{Pair}
 use Rattle.net_types.specs.declared.rule.Rule.{Rule}
 use Rattle.net_types.proofs.CubeLemmas.{has-everything}
 use Rattle.net_types.proofs.FrameLemmas.{written-same}
-use Rattle.sdx_core.specs.View.{rule_to, state_of}
-use Rattle.sdx_core.specs.declared.announcement.Announcement.{Announcement}
+use Rattle.sdx_core.specs.View.{rule_to}
 use Rattle.net_types.proofs.ValueLemmas.{no_entries}
 
 -- ---- by the table

@@ -1,23 +1,22 @@
 -- What is pending for a participant: what it is given of the announcements since it took the last, by prefix.
-use Rattle.std.proofs.Common.{◌≡◌, ℕ, zero, suc, ◌+◌, ◌<◌, ◌≤◌, Bool, true, false, cond, ◌&&◌, ◌||◌, not, nat_eq, List, [], ◌∷◌, ◌++◌, length, map, filter, take, drop, sum_by, ap, ◌∙◌, refl, sym, inl, inr, subst, arith}
-use Rattle.std.specs.Prelude.{Option, Some, None, slice_get, slice_index_or, is_some, Contains, ◌⊎◌}
-use Rattle.std.specs.List.{filter_map, cons_option, list_any}
+use Rattle.std.proofs.Common.{◌≡◌, ℕ, zero, suc, ◌<◌, ◌≤◌, Bool, true, false, cond, ◌&&◌, not, nat_eq, List, [], ◌∷◌, ◌++◌, length, map, take, drop, sum_by, ap, ◌∙◌, refl, sym, inl, inr, subst, arith}
+use Rattle.std.specs.Prelude.{Option, Some, None, slice_get, is_some}
+use Rattle.std.specs.List.{cons_option, list_any}
 use Rattle.std.specs.List.Sorted.{IsPermutation, IsSortedBy}
 use Rattle.std.specs.Option.{option_map, option_and_then}
 use Rattle.std.specs.Ordering.{eq_by_cmp, is_lt}
 use Rattle.std.specs.FinMap.{FinMap, get, keys, contains_key-keys}
 use Rattle.std.proofs.lemmas.Bool.{eq-eqb, or_parts, false≢true}
 use Rattle.std.proofs.lemmas.List.{take-append-drop}
-use Rattle.std.proofs.lemmas.List.Sorted.{Contains-permutation, IsPermutation-sym, sum_by-IsPermutation}
+use Rattle.std.proofs.lemmas.List.Sorted.{IsPermutation-sym, sum_by-IsPermutation}
 use Rattle.std.proofs.lemmas.List.Sums.{sum_by-cons}
 use Rattle.events.specs.Fits.{pending, adverts, advert, same_entry}
 use Rattle.events.specs.State.{State, Entry, told_to, present}
-use Rattle.events.specs.Tags.{same_tag}
 use Rattle.events.specs.declared.Phase.{Phase}
 use Rattle.net_types.specs.Attributes.{same_option, same_attrs}
 use Rattle.net_types.specs.Keys.{prefix_cmp}
 use Rattle.net_types.specs.Maps.{ordered, tabulate}
-use Rattle.net_types.specs.Sets.{Member, SameMembers, IsRising}
+use Rattle.net_types.specs.Sets.{Member, IsRising}
 use Rattle.net_types.specs.declared.address.Ip.{Ip}
 use Rattle.net_types.specs.declared.address.Pid.{Pid}
 use Rattle.net_types.specs.declared.address.Tag.{Tag}
@@ -29,16 +28,16 @@ use Rattle.net_types.proofs.LongestLemmas.{any-member, member-any}
 use Rattle.net_types.proofs.MemberLemmas.{Member-permutation, Member-drop, Member-filter_map, same_map_on}
 use Rattle.net_types.proofs.MapLemmas.{get-tabulate}
 use Rattle.net_types.proofs.OrderLemmas.{prefixes_total, prefix_tie}
-use Rattle.net_types.proofs.SetLemmas.{Member-append_left, Member-append_right, Member-append_cases, Member-map, map-Member, map-map, rising_unique}
+use Rattle.net_types.proofs.SetLemmas.{Member-append_right, Member-append_cases, Member-map, map-Member, map-map, rising_unique}
 use Rattle.sdx_core.specs.Adverts.{advert_of, adverts_of}
 use Rattle.sdx_core.specs.Given.{given_to, given_prefix, all_given}
-use Rattle.sdx_core.specs.View.{attrs_of, state_of, announced_in, is_announced, receives, is_receiver, AreApart, ForEach, IsOwn}
+use Rattle.sdx_core.specs.View.{attrs_of, state_of, announced_in, is_announced, receives, AreApart, ForEach, IsOwn}
 use Rattle.sdx_core.specs.declared.announcement.Announcement.{Announcement}
 use Rattle.sdx_core.specs.declared.given.Given.{Given}
 use Rattle.sdx_core.proofs.GivenLemmas.{is_from, announced_any, announced_member}
-use Rattle.sdx_core.proofs.Kept.{announced_prefix, announced_Member, announced_none, receives_at}
+use Rattle.sdx_core.proofs.Kept.{announced_prefix, announced_Member, receives_at}
 use Rattle.sdx_core.proofs.KeptMaps.{entry_of, told_kept, present_kept, take-AreApart}
-use Rattle.net_types.proofs.RisingLemmas.{before, before_itself, before_trans, keys-IsRising, filter-IsRising, filter-Member, Member-filter, count, sorted-IsRising}
+use Rattle.net_types.proofs.RisingLemmas.{before, before_itself, before_trans, keys-IsRising, filter-IsRising, filter-Member, Member-filter, sorted-IsRising}
 
 -- ---- fronts of the announcements
 
@@ -138,7 +137,6 @@ key_there m p x e = any-member (keys m) p (sym (contains_key-keys m p) ∙ ap is
 
 module _ (phase : Phase) (base : Ip) (size capacity : ℕ) (ms : List Participant) (qs : List PortInfo) (anns : List Announcement) (ns : List ℕ) (even : length ns ≡ length ms) (apart : AreApart anns) (own : ForEach (IsOwn ms qs) anns)
     (who : Pid) (m : Participant) (n : ℕ) (declared : slice_get ms who.0 ≡ Some m) (within : who.0 < length ms) (took : slice_get ns who.0 ≡ Some n) where
-
   abbrev st : State
   st = state_of phase base size capacity ms qs anns ns
 

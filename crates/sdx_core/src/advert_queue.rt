@@ -9,13 +9,17 @@ ghost use Rattle.sdx_core.specs.Given.{all_given};
 
 use crate::announcement::Announcement;
 use crate::bgp_update_writing::announcement;
-use crate::given::{given_to, Given};
+use crate::given::{Given, given_to};
 use events::Messages;
 use net_types::{Bytes, Ip, Items, Memory};
 use std::alloc::Global;
 
 /// Of the announcements, those that a participant of this AS is given, by prefix.
-pub fn pending(alloc: Global, asn: u32, announcements: &[Announcement]) -> Result<Vec<Given>, Memory>
+pub fn pending(
+    alloc: Global,
+    asn: u32,
+    announcements: &[Announcement],
+) -> Result<Vec<Given>, Memory>
     ensures given { IfOk result (λ queue. IsPermutation (all_given asn announcements.now) queue.items) }
     ensures sorted { IfOk result (λ queue. IsSortedBy (λ a b. is_lt (prefix_cmp a.announcement.prefix b.announcement.prefix)) queue.items) }
 {

@@ -10,7 +10,7 @@ ghost use Rattle.sdx_core.specs.Given.{given_prefix, all_given, given_prefixes};
 ghost use Rattle.sdx_core.specs.Longest.{longer_given};
 
 use crate::announcement::Announcement;
-use crate::given::{given_to, Given};
+use crate::given::{Given, given_to};
 use net_types::{Ip, Mac, Tag};
 
 /// Of what a router of this AS was told, the longest prefix that covers the address.

@@ -34,7 +34,13 @@ impl Sdx {
         let taken = self.told.as_slice()[owner];
         let told = &self.announcements.as_slice()[..taken];
         let route = longest_match(told, asn, destination(bytes.items()));
-        let reply = sent(self.alloc, self.ports.items(), &source, bytes.items(), route)?;
+        let reply = sent(
+            self.alloc,
+            self.ports.items(),
+            &source,
+            bytes.items(),
+            route,
+        )?;
         self.phase = Phase::Running;
         Ok(reply)
     }

@@ -1,4 +1,4 @@
-use Rattle.std.proofs.Common.{◌≡◌, rules, ℕ}
+use Rattle.std.proofs.Common.{rules}
 use Rattle.std.proofs.lemmas.List.Sorted.{answers_always}
 use Rattle.sdx_core.specs.declared.given.Given.{Given}
 use Rattle.sdx_core.proofs.advert_queue.pending.Goals as goal
