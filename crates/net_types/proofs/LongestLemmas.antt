@@ -43,6 +43,7 @@ longer_some p ps d (Some best) hits is = of_two (nat_lt p.len best.len) refl
     within : (bound : ℕ) → p.len ≤ bound → best.len ≤ bound → (q : Prefix) → Member q (p ∷ ps) → covers q d ≡ true → q.len ≤ bound
     within bound h k q (inl same) there = let e : q.len ≡ p.len = ap (λ (x : Prefix). x.len) same in omega arith
     within bound h k q (inr later) there = let below : q.len ≤ best.len = is.2 q later there in omega arith
+
     of_two : (b : Bool) → nat_lt p.len best.len ≡ b → IsLongest (p ∷ ps) d (cond b (Some best) (Some p))
     of_two true less = let below : p.len < best.len = ltb-true _ _ less in (inr is.0, is.1, within best.len (omega arith) (omega arith))
     of_two false more = let above : best.len ≤ p.len = ltb-false _ _ more in (inl refl, hits, within p.len (omega arith) above)

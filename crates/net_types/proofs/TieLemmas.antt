@@ -1,12 +1,12 @@
 -- What ties in the orders of keys is one thing.
-use Rattle.std.proofs.Common.{◌≡◌, ℕ, Bool, true, ◌&&◌, nat_eq, sym, ap, ◌∙◌, refl}
+use Rattle.std.proofs.Common.{◌≡◌, ℕ, true, ◌&&◌, nat_eq, ap, ◌∙◌, refl}
 use Rattle.std.specs.Cmp.{IsTotalOrder, nat_eq_equiv, unsigned_tied}
 use Rattle.std.specs.FinMap.{IsAntisymmetric, nat_cmp-IsAntisymmetric}
 use Rattle.std.specs.Ordering.{nat_cmp, eq_by_cmp, is_eq, ordering_then}
 use Rattle.std.specs.declared.cmp.Ordering.{Ordering}
 use Rattle.std.specs.declared.cmp.Ordering.TheVariants.{Less, Equal, Greater}
 use Rattle.std.proofs.lemmas.Cmp.{tied_itself}
-use Rattle.net_types.specs.Keys.{prefix_cmp, tag_cmp, pair_cmp, RouteKey, route_cmp}
+use Rattle.net_types.specs.Keys.{prefix_cmp, tag_cmp, pair_cmp, route_cmp}
 use Rattle.net_types.proofs.PrefixLemmas.{prefix_ext}
 
 pub tie_Equal : (r : Ordering) → is_eq r ≡ true → r ≡ Equal

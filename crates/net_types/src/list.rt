@@ -61,7 +61,7 @@ impl<T> Items<T> {
     }
 
     /// The allocator that the list takes its memory from.
-    pub fn allocator(&self) -> Global {
+    pub(crate) fn allocator(&self) -> Global {
         *self.items.allocator()
     }
 }

@@ -1,4 +1,4 @@
-//! Prefixes of addresses.
+//! Prefixes of addresses (RFC 4271 4.3).
 
 ghost use Rattle.std.specs.Prelude.{◌≡◌, ◌<◌, ◌≤◌, ◌%◌, ◌^◌, ◌-◌};
 
@@ -31,7 +31,7 @@ impl Prefix {
     ghost use Rattle.net_types.specs.Prefixes.{covers, lies_within, meet_prefixes, any_prefix};
     ghost use Rattle.net_types.specs.Bits.{same_bits};
 
-    /// Clears the bits past the first `len`.
+    /// The prefix of the first `len` bits of an address; the bits past them are cleared. Refused is a length over 32.
     pub fn new(ip: Ip, len: u8) -> Result<Prefix, BadLength>
         ensures bad { IsErr result ↔ (32 < len) }
         ensures len { IfOk result (λ p. p.len ≡ len) }
@@ -56,19 +56,21 @@ impl Prefix {
         }
     }
 
+    /// Whether an address begins with the bits of the prefix.
     pub fn covers(self, ip: Ip) -> bool
         ensures { result ≡ covers self ip }
     {
         ip.0 & mask(self.len) == self.address.0
     }
 
+    /// Whether each address of this prefix is one of the other.
     pub fn within(self, other: Prefix) -> bool
         ensures { result ≡ lies_within self other }
     {
         other.len <= self.len && other.covers(self.address)
     }
 
-    /// The longer of two prefixes of which one lies within the other.
+    /// The longer of two prefixes of which one lies within the other; none where neither does.
     #[tactic(auto, unfolding(crate::specs::Prefixes::meet_prefixes))]
     pub fn meet(self, other: Prefix) -> Option<Prefix>
         ensures { result ≡ meet_prefixes self other }

@@ -1,14 +1,14 @@
 -- The lines that declare are steps.
-use Rattle.std.proofs.Common.{◌≡◌, ℕ, ◌+◌, ◌<◌, ◌≤◌, Bool, true, false, cond, ◌||◌, nat_le, List, [], ◌∷◌, ◌++◌, length, take, map, sym, ap, subst, ◌∙◌, refl, arith}
+use Rattle.std.proofs.Common.{◌≡◌, ℕ, ◌<◌, ◌≤◌, Bool, true, false, cond, ◌||◌, nat_le, List, [], ◌∷◌, ◌++◌, length, take, map, sym, ap, subst, ◌∙◌, refl, arith}
 use Rattle.std.specs.Prelude.{Option, Some, None, is_some, codes}
-use Rattle.std.specs.FinMap.{FinMap, empty, from_entries}
+use Rattle.std.specs.FinMap.{empty, from_entries}
 use Rattle.std.specs.List.{filter_map, position_from}
 use Rattle.std.specs.Option.{option_map}
 use Rattle.std.proofs.lemmas.Bool.{lt-leb}
 use Rattle.events.specs.After.{next, with_participant, with_port, with_known}
 use Rattle.events.specs.Fits.{IsStep, bare}
 use Rattle.events.specs.Refusals.{is_placed, refusal, refusal_in_place, unless, if_known, is_port_taken}
-use Rattle.events.specs.State.{State, Entry}
+use Rattle.events.specs.State.{State}
 use Rattle.events.specs.declared.Event.{Event}
 use Rattle.events.specs.declared.Event.TheVariants.{Exchange, Participant as DeclaresParticipant, Port as DeclaresPort}
 use Rattle.events.specs.declared.Head.TheVariants.{Fine, Refused}
@@ -18,7 +18,6 @@ use Rattle.events.specs.declared.Refusal.{Refusal}
 use Rattle.events.specs.declared.Refusal.TheVariants.{BadLine, Misplaced}
 use Rattle.events.specs.declared.Reply.{Reply}
 use Rattle.net_types.specs.Exports.{ExportRule, pid_of}
-use Rattle.net_types.specs.Keys.{prefix_cmp}
 use Rattle.net_types.specs.Octets.{same_octets}
 use Rattle.net_types.specs.declared.address.Ip.{Ip}
 use Rattle.net_types.specs.declared.address.Mac.{Mac}

@@ -1,18 +1,18 @@
 -- The routes that the kept announcements stand for, and the best routes and signatures that come of them.
 use Rattle.std.proofs.Common.{◌≡◌, ℕ, zero, suc, ◌+◌, ◌<◌, Bool, true, false, cond, ◌&&◌, ◌||◌, not, nat_eq, List, [], ◌∷◌, length, map, sym, ap, subst, ◌∙◌, refl, arith, inl, inr}
 use Rattle.std.specs.Prelude.{Option, Some, None, is_some, option_to_list, slice_get, unwrap_or}
-use Rattle.std.specs.FinMap.{get, from_entries, find, get-from_entries}
-use Rattle.std.specs.List.{filter_map, cons_option, list_any}
+use Rattle.std.specs.FinMap.{find, get-from_entries}
+use Rattle.std.specs.List.{filter_map, cons_option}
 use Rattle.std.specs.Option.{option_map, option_map_or, option_and_then}
 use Rattle.std.specs.Ordering.{nat_cmp, eq_by_cmp, is_eq}
 use Rattle.std.proofs.lemmas.Bool.{or_parts, eqb-true, eq-eqb, ne_eqb}
 use Rattle.std.proofs.lemmas.Option.{slice_get_within}
 use Rattle.events.specs.Tags.{is_carried}
-use Rattle.net_types.specs.Exports.{Routing, ExportRule, route, is_given, allows, asn_of}
+use Rattle.net_types.specs.Exports.{Routing, ExportRule, route, is_given, allows}
 use Rattle.net_types.specs.Keys.{prefix_cmp, RouteKey, route_cmp}
 use Rattle.net_types.specs.Routes.{Candidate, given, candidates, candidate, best, best_of, pids, numbers}
 use Rattle.net_types.specs.Sets.{Member}
-use Rattle.net_types.specs.Signatures.{part, offer, signature, port_with}
+use Rattle.net_types.specs.Signatures.{part, offer, signature}
 use Rattle.net_types.specs.declared.address.Pid.{Pid}
 use Rattle.net_types.specs.declared.address.PortNo.{PortNo}
 use Rattle.net_types.specs.declared.prefix.Prefix.{Prefix}

@@ -1,43 +1,31 @@
 -- Which tags the told and the present entries of the kept lists have, and so which pairs are live.
-use Rattle.std.proofs.Common.{◌≡◌, ℕ, zero, suc, ◌+◌, ◌<◌, ◌≤◌, Bool, true, false, cond, ◌&&◌, ◌||◌, nat_eq, List, [], ◌∷◌, ◌++◌, length, map, take, flat_map, sum_by, sym, ap, subst, ◌∙◌, refl, arith, inl, inr}
-use Rattle.std.specs.Prelude.{Option, Some, None, is_some, find, slice_get}
-use Rattle.std.specs.FinMap.{FinMap, get, values, from_entries}
-use Rattle.std.specs.List.{filter_map, cons_option, list_any}
+use Rattle.std.proofs.Common.{◌≡◌, ℕ, zero, suc, ◌+◌, ◌<◌, Bool, true, false, cond, ◌||◌, List, [], ◌∷◌, length, take, sym, ap, ◌∙◌, refl, arith}
+use Rattle.std.specs.Prelude.{Option, Some, None, is_some}
+use Rattle.std.specs.FinMap.{FinMap, get}
 use Rattle.std.specs.Option.{option_map, option_map_or, option_and_then}
 use Rattle.std.proofs.lemmas.Bool.{eq-eqb, eqb-true}
 use Rattle.std.specs.Cmp.{both_ways}
-use Rattle.std.proofs.lemmas.List.Sums.{sum_by-cons, sum_by-append}
 use Rattle.std.proofs.lemmas.Option.{option_and_then_some}
-use Rattle.events.specs.Sound.{HasNoRepeats, IsSound, IsRight, part_of, owners_part, rule_count}
-use Rattle.events.specs.State.{State, Entry, ArePolicies, told_to, present, port_of}
-use Rattle.events.specs.Tags.{same_tag, tells, is_live_for, is_live_pair, is_carried}
+use Rattle.events.specs.State.{State, Entry, told_to, present, port_of}
+use Rattle.events.specs.Tags.{same_tag, tells, is_live_for, is_live_pair}
 use Rattle.events.specs.declared.Phase.{Phase}
-use Rattle.net_types.specs.Answers.{Policies, offered_port}
 use Rattle.net_types.specs.Attributes.{same_option}
-use Rattle.net_types.specs.Keys.{prefix_cmp, pair_cmp}
-use Rattle.net_types.specs.Sets.{Member}
-use Rattle.net_types.specs.Signatures.{signature}
+use Rattle.net_types.specs.Keys.{prefix_cmp}
 use Rattle.net_types.specs.declared.address.Ip.{Ip}
 use Rattle.net_types.specs.declared.address.Pid.{Pid}
-use Rattle.net_types.specs.declared.address.PortNo.{PortNo}
 use Rattle.net_types.specs.declared.address.Tag.{Tag}
 use Rattle.net_types.specs.declared.prefix.Prefix.{Prefix}
-use Rattle.net_types.specs.declared.route.Part.{Part}
 use Rattle.net_types.specs.declared.route.Participant.{Participant}
 use Rattle.net_types.specs.declared.route.PortInfo.{PortInfo}
 use Rattle.net_types.specs.declared.rule.Pair.{Pair}
-use Rattle.net_types.specs.declared.rule.Rule.{Rule}
 use Rattle.net_types.proofs.FindLemmas.{is_some-cond, find-IsFound, slice_get_some}
-use Rattle.net_types.proofs.OrderLemmas.{prefixes_total, pairs_total}
-use Rattle.net_types.proofs.SetLemmas.{map-append}
-use Rattle.net_types.proofs.TieLemmas.{ties_itself}
-use Rattle.net_types.proofs.ValueLemmas.{HasValue, value_at, any_value, sum_values-le}
-use Rattle.sdx_core.specs.View.{attrs_of, is_receiver, tag_entry, parts_from, table_entry, table_entries, owner_of, rule_to, routing_of, state_of, announced_in, is_announced, receives, is_given_on, tag_at_place, AreApart, IsOwn, ForEach, HasOwner, AreTagged, IsKept, numbers_of}
+use Rattle.net_types.proofs.OrderLemmas.{prefixes_total}
+use Rattle.net_types.proofs.ValueLemmas.{value_at, any_value}
+use Rattle.sdx_core.specs.View.{attrs_of, rule_to, state_of, announced_in, receives, is_given_on, AreApart, HasOwner, AreTagged, IsKept}
 use Rattle.sdx_core.specs.declared.announcement.Announcement.{Announcement}
-use Rattle.sdx_core.proofs.Dropping.{dropping, are_dropping, rule_right}
-use Rattle.sdx_core.proofs.Kept.{at_member, announced_Member, announced_own, carried_kept, signature_kept, receives_at, part_for}
-use Rattle.sdx_core.proofs.KeptMaps.{tag_kept, tagged_in, signature_of_tag, entry_of, present_kept, told_kept, take-AreApart}
-use Rattle.sdx_core.proofs.KeptTable.{has_tag, tagged_member, with_number, rules_for, rules_at, table_kept, entry_at, owner_cond}
+use Rattle.sdx_core.proofs.Kept.{at_member, announced_Member, announced_own}
+use Rattle.sdx_core.proofs.KeptMaps.{tagged_in, entry_of, present_kept, told_kept, take-AreApart}
+use Rattle.sdx_core.proofs.KeptTable.{has_tag, tagged_member, with_number, rules_for, rules_at, table_kept}
 
 -- ---- whom the entries of a tag are for
 

@@ -1,7 +1,7 @@
 -- The tags, kept signatures, present and told entries of the state that the kept lists stand for, read off the lists.
 use Rattle.std.proofs.Common.{◌≡◌, ℕ, zero, suc, ◌<◌, Bool, true, false, cond, ◌&&◌, ◌||◌, nat_eq, List, [], ◌∷◌, length, map, take, sym, ap, ◌∙◌, refl, arith}
 use Rattle.std.specs.Prelude.{Option, Some, None, find, slice_get, unwrap_or, is_some}
-use Rattle.std.specs.FinMap.{FinMap, empty, get, keys, from_entries, get-from_entries, contains_key-keys, find as find_key}
+use Rattle.std.specs.FinMap.{empty, get, keys, from_entries, get-from_entries, contains_key-keys, find as find_key}
 use Rattle.std.specs.List.{filter_map, cons_option, list_any}
 use Rattle.std.specs.Option.{option_map, option_and_then}
 use Rattle.std.specs.Ordering.{nat_cmp, eq_by_cmp, is_eq}
@@ -13,7 +13,7 @@ use Rattle.events.specs.declared.Phase.{Phase}
 use Rattle.net_types.specs.Attributes.{same_option}
 use Rattle.net_types.specs.Exports.{Routing, route}
 use Rattle.net_types.specs.Keys.{prefix_cmp, tag_cmp, RouteKey, route_cmp}
-use Rattle.net_types.specs.Routes.{Candidate, candidate, best, announced}
+use Rattle.net_types.specs.Routes.{Candidate, candidate, announced}
 use Rattle.net_types.specs.declared.address.Ip.{Ip}
 use Rattle.net_types.specs.declared.address.Pid.{Pid}
 use Rattle.net_types.specs.declared.address.Tag.{Tag}
@@ -25,7 +25,7 @@ use Rattle.net_types.proofs.FindLemmas.{cond_same, slice_get_some}
 use Rattle.net_types.proofs.MapLemmas.{get-tabulate}
 use Rattle.net_types.proofs.OrderLemmas.{prefixes_total, tags_total}
 use Rattle.net_types.proofs.TieLemmas.{prefix_cmp-IsAntisymmetric, same_from_tie, then_ties, nat_ties}
-use Rattle.sdx_core.specs.View.{attrs_of, route_entry, is_receiver, tag_entry, kept_entry, told_entry, told_maps, parts_from, routing_of, state_of, announced_in, is_announced, receives, AreApart, IsOwn, ForEach}
+use Rattle.sdx_core.specs.View.{attrs_of, tag_entry, kept_entry, told_entry, told_maps, parts_from, routing_of, state_of, announced_in, is_announced, receives, AreApart, IsOwn, ForEach}
 use Rattle.sdx_core.specs.declared.announcement.Announcement.{Announcement}
 use Rattle.sdx_core.proofs.Kept.{key_of, route_from, route_kept, candidate_of, best_kept, announced_once, receives_at}
 

@@ -1,25 +1,23 @@
 -- The state that the kept lists stand for is sound.
-use Rattle.std.proofs.Common.{◌≡◌, ℕ, zero, suc, ◌+◌, ◌<◌, ◌≤◌, Bool, true, false, cond, ◌&&◌, ◌||◌, nat_eq, List, [], ◌∷◌, ◌++◌, length, map, take, flat_map, sum_by, sym, ap, subst, ◌∙◌, refl, length-append, arith, inl, inr}
-use Rattle.std.specs.Prelude.{Option, Some, None, is_some, find, slice_get}
-use Rattle.std.specs.FinMap.{FinMap, get, values, from_entries}
-use Rattle.std.specs.List.{filter_map, cons_option, list_any}
+use Rattle.std.proofs.Common.{◌≡◌, ℕ, zero, suc, ◌+◌, ◌≤◌, Bool, true, false, cond, List, [], ◌∷◌, ◌++◌, length, map, sum_by, sym, ap, subst, ◌∙◌, refl, length-append, arith, inl, inr}
+use Rattle.std.specs.Prelude.{Option, Some, None, is_some, slice_get}
+use Rattle.std.specs.FinMap.{get}
+use Rattle.std.specs.List.{filter_map, cons_option}
 use Rattle.std.specs.Option.{option_map, option_map_or, option_and_then}
 use Rattle.std.proofs.lemmas.Bool.{eq-eqb, ne_eqb}
-use Rattle.std.specs.Cmp.{both_ways}
 use Rattle.std.proofs.lemmas.List.Sums.{sum_by-cons, sum_by-append}
 use Rattle.std.proofs.lemmas.Option.{option_and_then_some, cond_some}
-use Rattle.events.specs.Sound.{HasNoRepeats, IsSound, IsRight, part_of, owners_part, rule_count}
-use Rattle.events.specs.State.{State, Entry, ArePolicies, told_to, present, port_of}
-use Rattle.events.specs.Tags.{same_tag, tells, is_live_for, is_live_pair, is_carried}
+use Rattle.events.specs.Sound.{IsSound, IsRight, part_of, owners_part, rule_count}
+use Rattle.events.specs.State.{State, port_of}
+use Rattle.events.specs.Tags.{same_tag}
 use Rattle.events.specs.declared.Phase.{Phase}
-use Rattle.net_types.specs.Answers.{Policies, offered_port}
+use Rattle.net_types.specs.Answers.{offered_port}
 use Rattle.net_types.specs.Attributes.{same_option}
-use Rattle.net_types.specs.Keys.{prefix_cmp, pair_cmp}
+use Rattle.net_types.specs.Keys.{pair_cmp}
 use Rattle.net_types.specs.Sets.{Member}
 use Rattle.net_types.specs.Signatures.{signature}
 use Rattle.net_types.specs.declared.address.Ip.{Ip}
 use Rattle.net_types.specs.declared.address.Pid.{Pid}
-use Rattle.net_types.specs.declared.address.PortNo.{PortNo}
 use Rattle.net_types.specs.declared.address.Tag.{Tag}
 use Rattle.net_types.specs.declared.prefix.Prefix.{Prefix}
 use Rattle.net_types.specs.declared.route.Offer.{Offer}
@@ -28,18 +26,17 @@ use Rattle.net_types.specs.declared.route.Participant.{Participant}
 use Rattle.net_types.specs.declared.route.PortInfo.{PortInfo}
 use Rattle.net_types.specs.declared.rule.Pair.{Pair}
 use Rattle.net_types.specs.declared.rule.Rule.{Rule}
-use Rattle.net_types.proofs.FindLemmas.{find-IsFound, slice_get_some}
-use Rattle.net_types.proofs.OrderLemmas.{prefixes_total, pairs_total}
+use Rattle.net_types.proofs.FindLemmas.{slice_get_some}
+use Rattle.net_types.proofs.OrderLemmas.{pairs_total}
 use Rattle.net_types.proofs.SetLemmas.{map-append}
-use Rattle.net_types.proofs.TieLemmas.{ties_itself}
-use Rattle.net_types.proofs.ValueLemmas.{HasValue, value_at, any_value, sum_values-le}
-use Rattle.sdx_core.specs.View.{attrs_of, is_receiver, tag_entry, parts_from, table_entry, table_entries, owner_of, rule_to, routing_of, state_of, announced_in, is_announced, receives, is_given_on, tag_at_place, AreApart, IsOwn, ForEach, HasOwner, AreTagged, IsKept, numbers_of}
+use Rattle.net_types.proofs.ValueLemmas.{sum_values-le}
+use Rattle.sdx_core.specs.View.{is_receiver, parts_from, table_entry, table_entries, owner_of, rule_to, state_of, announced_in, receives, is_given_on, tag_at_place, AreTagged, IsKept}
 use Rattle.sdx_core.specs.declared.announcement.Announcement.{Announcement}
 use Rattle.sdx_core.proofs.Dropping.{dropping, are_dropping, rule_right}
-use Rattle.sdx_core.proofs.Kept.{at_member, announced_Member, carried_kept, signature_kept, receives_at, part_for}
-use Rattle.sdx_core.proofs.KeptMaps.{tag_kept, tagged_in, signature_of_tag, entry_of, present_kept, told_kept, take-AreApart}
+use Rattle.sdx_core.proofs.Kept.{announced_Member, carried_kept, signature_kept, receives_at, part_for}
+use Rattle.sdx_core.proofs.KeptMaps.{tag_kept, tagged_in, signature_of_tag}
 use Rattle.sdx_core.proofs.KeptLive.{owner_declared, kept_pairs}
-use Rattle.sdx_core.proofs.KeptTable.{has_tag, tagged_member, with_number, rules_for, rules_at, table_kept, entry_at, owner_cond}
+use Rattle.sdx_core.proofs.KeptTable.{tagged_member, rules_for, table_kept, entry_at, owner_cond}
 
 -- ---- the part of a port's owner
 
@@ -118,12 +115,13 @@ module _ (phase : Phase) (base : Ip) (size capacity : ℕ) (ms : List Participan
   right_for pair block q a port tag has =
       let given = cond_some (receives ms a q.owner) (rule_to a.port ∷ []) block has in
       let m = slice_get_some ms q.owner.0 (owner_declared phase base size capacity ms qs anns ns rules kept pair q port) in
-      let part : Part = part_for a q.owner in
-      (part,
-       ap (option_and_then (λ (x : PortInfo). option_and_then (λ sig. part_of sig x.owner) (get s.kept pair.tag))) port
-       ∙ ap (option_and_then (λ sig. part_of sig q.owner)) (signature_of_tag ms anns pair.tag ∙ ap (option_map (λ (x : Announcement). parts_from 0 ms x)) tag)
-       ∙ part_from 0 ms a q.owner.0 q.owner.0 m.0 m.1 (omega arith) (sym (receives_at ms a q.owner m.0 m.1) ∙ given.0),
-       subst (IsRight (dropping s.routing) part pair.port) given.1 (rule_right s.routing part pair.port a.port (offered_one a q.owner)))
+      let part : Part = part_for a q.owner in (
+        part,
+        ap (option_and_then (λ (x : PortInfo). option_and_then (λ sig. part_of sig x.owner) (get s.kept pair.tag))) port
+            ∙ ap (option_and_then (λ sig. part_of sig q.owner)) (signature_of_tag ms anns pair.tag ∙ ap (option_map (λ (x : Announcement). parts_from 0 ms x)) tag)
+            ∙ part_from 0 ms a q.owner.0 q.owner.0 m.0 m.1 (omega arith) (sym (receives_at ms a q.owner m.0 m.1) ∙ given.0),
+        subst (IsRight (dropping s.routing) part pair.port) given.1 (rule_right s.routing part pair.port a.port (offered_one a q.owner)),
+      )
 
   kept_right : (pair : Pair) (block : List Rule) → get s.table pair ≡ Some block → IsRightAt pair block
   kept_right pair block e =

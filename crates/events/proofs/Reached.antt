@@ -1,0 +1,168 @@
+-- What holds of every state that a legal run reaches.
+use Rattle.std.proofs.Common.{◌≡◌, ℕ, zero, suc, ◌+◌, ◌<◌, Bool, true, false, cond, nat_eq, List, [], ◌∷◌, ◌++◌, length, map, sym, ap, subst, ◌∙◌, refl, arith, sum_by}
+use Rattle.std.specs.Prelude.{Option, Some, None, is_some, slice_get, slice_set, find, unwrap_or}
+use Rattle.std.specs.FinMap.{empty, entries, get-empty, len-entries, len-empty}
+use Rattle.std.specs.List.{position_from}
+use Rattle.std.specs.Option.{option_map}
+use Rattle.std.specs.declared.cmp.Ordering.{Ordering}
+use Rattle.std.proofs.lemmas.List.{length-append}
+use Rattle.events.specs.After.{next, next_by, after, with_port, with_known, with_route, running, settled, with_told}
+use Rattle.events.specs.Fits.{FitsBy}
+use Rattle.events.specs.Legal.{Legal, LegalFrom, state_after, state_from}
+use Rattle.events.specs.Refusals.{refusal}
+use Rattle.events.specs.Sound.{IsSound, rule_count}
+use Rattle.events.specs.State.{State, first, present, port_of}
+use Rattle.events.specs.Restricted.{announced_attrs, announced_prefix}
+use Rattle.events.specs.Tags.{retagged}
+use Rattle.events.specs.declared.Event.{Event}
+use Rattle.events.specs.declared.Event.TheVariants.{Bad, Exchange, Participant as DeclaresParticipant, Port as DeclaresPort, Update, Drain, Packet}
+use Rattle.events.specs.declared.Head.{Head}
+use Rattle.events.specs.declared.Head.TheVariants.{Fine, Unrouted, Refused}
+use Rattle.events.specs.declared.Refusal.{Refusal}
+use Rattle.events.specs.declared.Reply.{Reply}
+use Rattle.net_types.specs.Exports.{pid_of, Routing}
+use Rattle.net_types.specs.Keys.{prefix_cmp, pair_cmp}
+use Rattle.net_types.specs.Octets.{same_octets}
+use Rattle.net_types.specs.declared.address.Pid.{Pid}
+use Rattle.net_types.specs.declared.address.PortNo.{PortNo}
+use Rattle.net_types.specs.declared.address.Tag.{Tag}
+use Rattle.net_types.specs.declared.route.Participant.{Participant}
+use Rattle.net_types.specs.declared.route.PortInfo.{PortInfo}
+use Rattle.net_types.specs.declared.rule.Pair.{Pair}
+use Rattle.net_types.specs.declared.rule.Rule.{Rule}
+
+-- ---- the state before the first line
+
+no_items : {A : Type 0} (xs : List A) → length xs ≡ 0 → xs ≡ []
+no_items [] e = refl
+no_items (x ∷ xs) e = absurd (omega arith)
+
+pub no_entries : (K X : Type 0) (R : K → K → Ordering) → entries (empty {K = K} {X = X} {R = R}) ≡ []
+no_entries K X R = no_items (entries (empty {K = K} {X = X} {R = R})) (sym (len-entries (empty {K = K} {X = X} {R = R})) ∙ len-empty R X)
+
+not_there : {A : Type 0} (o : Option A) (x : A) → o ≡ None → o ≡ Some x → ⊥
+not_there o x none some = cc
+
+first_sound : IsSound first
+first_sound = record {
+  pairs = λ pair. ap is_some (get-empty {X = List Rule} pair_cmp pair);
+  right = (record { named = pid_of first.routing; outbound = []; inbound = [] }, record { names = refl; outbound = tt; inbound = tt }, λ pair rules e. absurd (not_there _ rules (get-empty pair_cmp pair) e));
+  few = (let none : rule_count first ≡ 0 = ap (λ (es : List (Pair × List Rule)). sum_by (λ (rules : List Rule). length rules) (map (λ e. e.1) es)) (no_entries Pair (List Rule) pair_cmp) in omega arith);
+  tagged = λ p. ap is_some (get-empty {X = Tag} prefix_cmp p);
+  kept = λ p t e. absurd (not_there _ t (get-empty prefix_cmp p) e);
+}
+
+-- ---- one line
+
+-- a reply that fits is a refusal, which changes nothing, or accepts the line
+step_sound : (s : State) (e : Event) (r : Reply) (o : Option Refusal) → IsSound s → FitsBy o s e r → IsSound (next s e r)
+step_sound s e r (Some why) sound is = subst (λ x. IsSound (next s e x)) (sym is) sound
+step_sound s e r None sound fits = fits.sound
+
+from_sound : (s : State) (es : List Event) (rs : List Reply) → IsSound s → LegalFrom s es rs → IsSound (state_from s es rs)
+from_sound s [] rs sound legal = sound
+from_sound s (e ∷ es) [] sound legal = sound
+from_sound s (e ∷ es) (r ∷ rs) sound legal = from_sound (next s e r) es rs (step_sound s e r (refusal s e) sound legal.0) legal.1
+
+pub runs_sound : (es : List Event) (rs : List Reply) → Legal es rs → IsSound (state_after es rs)
+runs_sound [] [] legal = first_sound
+runs_sound (e ∷ es) (r ∷ rs) legal = from_sound first (e ∷ es) (r ∷ rs) first_sound legal
+runs_sound [] (r ∷ rs) legal = first_sound
+runs_sound (e ∷ es) [] legal = first_sound
+
+-- ---- what is declared
+
+-- each port has a declared owner, and for each participant it is kept what it was told
+pub record IsDeclared (s : State) : Type 0 where
+  pub owners : (k : ℕ) (q : PortInfo) → slice_get s.routing.ports k ≡ Some q → q.owner.0 < length s.routing.participants
+  pub told : length s.told ≡ length s.routing.participants
+
+some_of : {A : Type 0} (x y : A) → Some x ≡ Some y → x ≡ y
+some_of x y e = ap (λ o. unwrap_or o x) e
+
+found_case : (b : Bool) (n k length_of_rest : ℕ) (o : Option ℕ) → (o ≡ Some k → k < n + 1 + length_of_rest) → cond b (Some n) o ≡ Some k → k < n + suc length_of_rest
+found_case true n k l o rest e = let same : n ≡ k = some_of n k e in omega arith
+found_case false n k l o rest e = let below : k < n + 1 + l = rest e in omega arith
+
+-- a place that is found is in the list
+found_within : (test : Participant → Bool) (n : ℕ) (ms : List Participant) (k : ℕ) → position_from test n ms ≡ Some k → k < n + length ms
+found_within test n [] k e = cc
+found_within test n (m ∷ ms) k e = found_case (test m) n k (length ms) (position_from test (n + 1) ms) (found_within test (n + 1) ms k) e
+
+pid_within : (o : Option ℕ) (n : ℕ) (who : Pid) → ((k : ℕ) → o ≡ Some k → k < n) → option_map (λ k. let w : Pid = record { 0 = k } in w) o ≡ Some who → who.0 < n
+pid_within None n who within e = cc
+pid_within (Some k) n who within e = let same : k ≡ who.0 = ap (λ (w : Pid). w.0) (some_of (record { 0 = k }) who e) in subst (λ x. x < n) same (within k refl)
+
+pub declared_pid : (r : Routing) (name : List ℕ) (who : Pid) → pid_of r name ≡ Some who → who.0 < length r.participants
+declared_pid r name who e =
+    pid_within (position_from (λ (m : Participant). same_octets m.name name) 0 r.participants) (length r.participants) who (λ k is. let below : k < 0 + length r.participants = found_within (λ (m : Participant). same_octets m.name name) 0 r.participants k is in omega arith) e
+
+get_append : (qs : List PortInfo) (q : PortInfo) (k : ℕ) (o : PortInfo) (P : PortInfo → Type 0) → ((j : ℕ) (x : PortInfo) → slice_get qs j ≡ Some x → P x) → P q → slice_get (qs ++ q ∷ []) k ≡ Some o → P o
+get_append [] q zero o P all one e = subst P (some_of q o e) one
+get_append [] q (suc k) o P all one e = cc
+get_append (x ∷ qs) q zero o P all one e = subst P (some_of x o e) (all 0 x refl)
+get_append (x ∷ qs) q (suc k) o P all one e = get_append qs q k o P (λ j y is. all (suc j) y is) one e
+
+set_length : {A : Type 0} (xs : List A) (k : ℕ) (x : A) → length (slice_set xs k x) ≡ length xs
+set_length [] k x = refl
+set_length (y ∷ xs) zero x = refl
+set_length (y ∷ xs) (suc k) x = ap suc (set_length xs k x)
+
+-- the declarations after a line whose participant is known
+known_declared : (s : State) (e : Event) (o : Option Pid) (f : Pid → State) → IsDeclared s → ((who : Pid) → o ≡ Some who → IsDeclared (f who)) → IsDeclared (with_known s o f)
+known_declared s e None f is some = is
+known_declared s e (Some who) f is some = some who refl
+
+after_declared : (s : State) (e : Event) → IsDeclared s → IsDeclared (after s e)
+after_declared s Bad is = is
+after_declared s (Exchange base size capacity) is = record { owners = is.owners; told = is.told }
+after_declared s (DeclaresParticipant name asn id) is =
+    let m : Participant = record { name = name; asn = asn; id = id } in
+    let more : length (s.routing.participants ++ m ∷ []) ≡ length s.routing.participants + 1 = length-append s.routing.participants (m ∷ []) in
+    let more_told : length (s.told ++ empty ∷ []) ≡ length s.told + 1 = length-append s.told (empty ∷ []) in
+    let told : length s.told ≡ length s.routing.participants = is.told in record {
+      owners = λ k q e. let below : q.owner.0 < length s.routing.participants = is.owners k q e in omega arith;
+      told = omega arith;
+    }
+after_declared s (DeclaresPort name number ip mac) is =
+    known_declared s (DeclaresPort name number ip mac) (pid_of s.routing name) (λ who. with_port s (record { owner = who; number = number; ip = ip; mac = mac })) is (λ who e. record {
+      owners = λ k q. get_append s.routing.ports (record { owner = who; number = number; ip = ip; mac = mac }) k q (λ o. o.owner.0 < length s.routing.participants) is.owners (declared_pid s.routing name who e);
+      told = is.told;
+    })
+after_declared s (Update name bytes) is =
+    known_declared s (Update name bytes) (pid_of s.routing name) (λ who. retagged s (with_route s.routing who (announced_prefix bytes) (announced_attrs bytes))) is (λ who e. record { owners = is.owners; told = is.told })
+after_declared s (Drain name) is =
+    known_declared s (Drain name) (pid_of s.routing name) (λ who. settled (running (with_told s who (present s who)))) is (λ who e. record {
+      owners = is.owners;
+      told = set_length s.told who.0 (present s who) ∙ is.told;
+    })
+after_declared s (Packet port bytes) is = record { owners = is.owners; told = is.told }
+
+next_declared : (s : State) (e : Event) (r : Reply) (h : Head) → IsDeclared s → IsDeclared (next_by h s e r)
+next_declared s e r (Refused why) is = is
+next_declared s e r Fine is = let later : IsDeclared (after s e) = after_declared s e is in record { owners = later.owners; told = later.told }
+next_declared s e r Unrouted is = let later : IsDeclared (after s e) = after_declared s e is in record { owners = later.owners; told = later.told }
+
+from_declared : (s : State) (es : List Event) (rs : List Reply) → IsDeclared s → IsDeclared (state_from s es rs)
+from_declared s [] rs is = is
+from_declared s (e ∷ es) [] is = is
+from_declared s (e ∷ es) (r ∷ rs) is = from_declared (next s e r) es rs (next_declared s e r r.head is)
+
+pub runs_declared : (es : List Event) (rs : List Reply) → IsDeclared (state_after es rs)
+runs_declared es rs = from_declared first es rs (record { owners = λ k q e. absurd (not_there _ q (no_place k) e); told = refl })
+  where
+    no_place : (k : ℕ) → let none : List PortInfo = [] in slice_get none k ≡ None
+    no_place zero = refl
+    no_place (suc k) = refl
+
+-- the port of a number is declared by a participant
+port_declared : (qs : List PortInfo) (n bound : ℕ) (q : PortInfo) → ((k : ℕ) (o : PortInfo) → slice_get qs k ≡ Some o → o.owner.0 < bound) → find (λ (o : PortInfo). nat_eq o.number.0 n) qs ≡ Some q → q.owner.0 < bound
+port_declared [] n bound q all e = cc
+port_declared (x ∷ qs) n bound q all e = either_port (nat_eq x.number.0 n) (all 0 x refl) (port_declared qs n bound q (λ k o is. all (suc k) o is)) e
+  where
+    either_port : (b : Bool) → x.owner.0 < bound → (find (λ (o : PortInfo). nat_eq o.number.0 n) qs ≡ Some q → q.owner.0 < bound) → cond b (Some x) (find (λ (o : PortInfo). nat_eq o.number.0 n) qs) ≡ Some q → q.owner.0 < bound
+    either_port true here later e = subst (λ (o : PortInfo). o.owner.0 < bound) (some_of x q e) here
+    either_port false here later e = later e
+
+pub owner_declared : (s : State) (n : PortNo) (q : PortInfo) → IsDeclared s → port_of s n ≡ Some q → q.owner.0 < length s.routing.participants
+owner_declared s n q is e = port_declared s.routing.ports n.0 (length s.routing.participants) q is.owners e

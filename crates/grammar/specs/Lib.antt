@@ -1,0 +1,12 @@
+pub mod Octets
+pub mod Rules
+pub mod Tokens
+pub mod Reading
+pub mod TextReading
+pub mod TokenReading
+pub mod Exactness
+pub mod Texts
+pub mod Formats
+pub mod Numbers
+pub mod FormatReading
+pub mod Messages

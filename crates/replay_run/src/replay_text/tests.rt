@@ -1,0 +1,3 @@
+//! What no clause says of lines and replies.
+mod lines;
+mod replies;
