@@ -10,27 +10,44 @@ use net_types::{Bytes, Ip, Items, Memory};
 use std::alloc::Global;
 
 /// The message that announces the prefix with another NEXT_HOP.
-pub fn announcement(alloc: Global, a: &Announcement, next_hop: Ip) -> Result<Bytes, Memory>
-    ensures { IfOk result (λ message. message ≡ announcement a.now.prefix (attrs_of a.now) next_hop) }
+pub fn announcement(alloc: Global, announced: &Announcement, next_hop: Ip) -> Result<Bytes, Memory>
+    ensures { IfOk result (λ message. message ≡ announcement announced.now.prefix (attrs_of announced.now) next_hop) }
 {
-    let held = (a.prefix.len as usize + 7) / 8;
-    let prefix = address_octets(a.prefix.address);
+    let held = (announced.prefix.len as usize + 7) / 8;
+    let prefix = address_octets(announced.prefix.address);
     let mut message = Vec::from_slice(alloc, [255; 16].as_slice())?;
     message.extend_from_slice([0, 42 + held as u8, 2, 0, 0, 0, 18].as_slice())?;
-    message.extend_from_slice(attrs_octets(a, next_hop).as_slice())?;
-    message.push(a.prefix.len)?;
+    message.extend_from_slice(attrs_octets(announced, next_hop).as_slice())?;
+    message.push(announced.prefix.len)?;
     message.extend_from_slice(&prefix.as_slice()[..held])?;
     Ok(Items::from_vec(message))
 }
 
 /// ORIGIN, a path of one AS, and NEXT_HOP.
-fn attrs_octets(a: &Announcement, next_hop: Ip) -> [u8; 18]
-    ensures { result ≡ attrs_octets (record (attrs_of a.now) { next_hop = next_hop }) }
+fn attrs_octets(announced: &Announcement, next_hop: Ip) -> [u8; 18]
+    ensures { result ≡ attrs_octets (record (attrs_of announced.now) { next_hop = next_hop }) }
 {
-    let [high, low] = word(a.asn);
+    let [high, low] = word(announced.asn);
     let [first, second, third, fourth] = address_octets(next_hop);
     [
-        64, 1, 1, a.origin, 64, 2, 4, 2, 1, high, low, 64, 3, 4, first, second, third, fourth,
+        64,
+        1,
+        1,
+        announced.origin,
+        64,
+        2,
+        4,
+        2,
+        1,
+        high,
+        low,
+        64,
+        3,
+        4,
+        first,
+        second,
+        third,
+        fourth,
     ]
 }
 
