@@ -1,10 +1,12 @@
 //! The participants and ports that are declared.
 
-ghost use Rattle.std.specs.Prelude.{◌≡◌, IfSome, ◌≤◌, ◌+◌, ◌<◌, ◌∷◌, [], ◌||◌, ◌&&◌, nat_eq, nat_lt, nat_le, length, take};
+ghost use Rattle.std.specs.Prelude.{◌≡◌, IfSome, ◌≤◌, ◌+◌, ◌<◌, ◌∷◌, [], ◌||◌, ◌&&◌, nat_eq, nat_lt, nat_le, length, take, find};
 ghost use Rattle.std.specs.List.{position_from, list_any};
+ghost use Rattle.std.specs.Option.{option_map};
+ghost use Rattle.sdx_core.specs.Building.{is_at};
 ghost use Rattle.net_types.specs.Octets.{same_octets};
 
-use net_types::{Ip, Mac, Participant, PortInfo, PortNo};
+use net_types::{Ip, Mac, Participant, Pid, PortInfo, PortNo};
 
 /// The place of the first participant of this name.
 pub fn find_name(participants: &[Participant], name: &[u8]) -> Option<usize>
@@ -28,6 +30,18 @@ pub fn is_taken(ports: &[PortInfo], base: Ip, size: u32, number: PortNo, ip: Ip,
     let in_pool = is_in_pool(base, size, ip);
     let reserved = is_reserved(mac);
     in_use || in_pool || reserved
+}
+
+/// The first port of an owner that has an address.
+pub fn port_at(ports: &[PortInfo], owner: Pid, ip: Ip) -> Option<PortNo>
+    ensures { result ≡ option_map (λ q. q.number) (find (is_at owner ip) ports.now) }
+{
+    for port in ports {
+        if port.owner == owner && port.ip == ip {
+            return Some(port.number);
+        }
+    }
+    None
 }
 
 /// Whether a hardware address is one of those of tags.
