@@ -18,6 +18,7 @@ use net_types::{Bytes, Memory, PortInfo, PortNo};
 use std::alloc::Global;
 
 impl Sdx {
+    /// A datagram comes from the router at the port; it leaves by what the router was told.
     pub(super) fn packet(&mut self, port: PortNo, bytes: &Bytes) -> Result<Reply, Memory>
         requires { IsWellFormed (lines.Packet port bytes.now) }
         ensures { IfOk result (λ reply. IsStep self.old (lines.Packet port bytes.now) reply self.new) }

@@ -13,6 +13,7 @@ use events::{Head, Phase, Refusal, Reply};
 use net_types::{Memory, Name};
 
 impl Sdx {
+    /// The participant takes what was announced since it last did.
     pub(super) fn drain(&mut self, name: &Name) -> Result<Reply, Memory>
         ensures { IfOk result (λ reply. IsStep self.old (lines.Drain name.now) reply self.new) }
     {
