@@ -10,8 +10,14 @@ use std::test::Fail;
 
 const EVERYTHING: Cube = Cube {
     inport: None,
-    src: Prefix { address: Ip(0), len: 0 },
-    dst: Prefix { address: Ip(0), len: 0 },
+    src: Prefix {
+        address: Ip(0),
+        len: 0,
+    },
+    dst: Prefix {
+        address: Ip(0),
+        len: 0,
+    },
     proto: None,
     sport: None,
     dport: None,
