@@ -52,6 +52,7 @@ is_placed Start (Packet port bytes) = false
 is_placed Declaring (Packet port bytes) = true
 is_placed Running (Packet port bytes) = true
 
+-- a participant has the name
 abbrev pub is_name_taken : State → List ℕ → Bool
 is_name_taken s name = is_some (pid_of s.routing name)
 

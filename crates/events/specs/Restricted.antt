@@ -36,6 +36,7 @@ announced_attrs b = record {
 abbrev pub eight_bits : ℕ → Prefix
 eight_bits n = record { address = record { 0 = 16777216 * (n % 256) }; len = 8; in_range = eight_bits-in_range n; short = lit≤ tt; host_bits_zero = eight_bits-zeros n }
 
+-- the prefix that such a message announces
 abbrev pub announced_prefix : List ℕ → Prefix
 announced_prefix b = eight_bits (slice_index b 42)
 

@@ -28,6 +28,7 @@ abbrev pub HasNoRepeats : {X : Type 0} → List X → Type 0
 HasNoRepeats [] = Unit {0}
 HasNoRepeats {X} (x ∷ xs) = (Member x xs → ⊥) × HasNoRepeats xs
 
+-- the cubes of rules, in their order
 abbrev pub cubes_of : List Rule → List Cube
 cubes_of rules = map (λ (rule : Rule). rule.cube) rules
 
@@ -43,6 +44,7 @@ abbrev pub IsTight : List Rule → Type 0
 IsTight [] = Unit {0}
 IsTight (rule ∷ rules) = ((later : Rule) → Member later rules → lies_within_cube later.cube rule.cube ≡ false) × IsTight rules
 
+-- a sender's part of a signature
 abbrev pub part_of : List Part → Pid → Option Part
 part_of sig who = find (λ (part : Part). nat_eq part.sender.0 who.0) sig
 

@@ -33,9 +33,11 @@ tag_at frame = if same_octets (take 3 frame) (2 ∷ 83 ∷ 68 ∷ []) then Some 
 abbrev pub first_rule : List Rule → Headers → Option Rule
 first_rule rules h = find (λ (r : Rule). has r.cube h) rules
 
+-- what an action makes of headers
 abbrev pub done_by : Headers → Action → Leaving
 done_by h a = record { headers = apply a.set h; port = a.port }
 
+-- what the first rule that has the headers makes of them; nothing where no rule has them
 abbrev pub actions_on : List Rule → Headers → List Leaving
 actions_on rules h = option_map_or (λ (r : Rule). map (done_by h) r.actions) (first_rule rules h) []
 
@@ -46,6 +48,7 @@ first_match table port frame =
     option_map_or (λ (t : Tag). actions_on (unwrap_or (get table (record { port = port; tag = t })) []) h) (tag_at frame) [])
     (headers_of port frame) []
 
+-- the MAC of the router at a port
 abbrev pub mac_of : List PortInfo → PortNo → Mac
 mac_of ports n = option_map_or (λ (q : PortInfo). q.mac) (find (λ (q : PortInfo). nat_eq q.number.0 n.0) ports) (record { 0 = replicate 6 0 })
 

@@ -17,6 +17,7 @@ use Rattle.net_types.specs.declared.rule.Pair.{Pair}
 use Rattle.events.specs.declared.Phase.TheVariants.{Running}
 use Rattle.events.specs.State.{State, Entry, told_to, present, port_of}
 
+-- tags are numbers
 abbrev pub same_tag : Tag → Tag → Bool
 same_tag a b = nat_eq a.0 b.0
 
@@ -48,6 +49,7 @@ is_live_pair s pair = option_map_or (is_live_for s pair.tag) (port_of s pair.por
 abbrev pub tags : State → List Tag
 tags s = map (λ n. record { 0 = n }) (numbers 1 s.size)
 
+-- the tags that are not live, ascending
 abbrev pub free_tags : State → List Tag
 free_tags s = filter (λ t. not (is_live s t)) (tags s)
 
@@ -60,9 +62,11 @@ pub record Group : Type 0 where
   pub before : Option Tag
   pub after : List Part
 
+-- the same tag before, or none both times, and the same signature after
 abbrev pub same_group : Group → Group → Bool
 same_group a b = same_option same_tag a.before b.before && same_signature a.after b.after
 
+-- the group of a prefix
 abbrev pub group_of : State → Routing → Prefix → Group
 group_of s r p = record { before = get s.tag p; after = signature r p }
 

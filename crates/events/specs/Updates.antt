@@ -9,6 +9,7 @@ use Rattle.net_types.specs.declared.route.Segment.{Segment}
 use Rattle.net_types.specs.declared.route.Segment.TheVariants.{Set, Sequence}
 use Rattle.net_types.specs.declared.route.Unknown.{Unknown}
 
+-- sixteen octets of ones (RFC 4271 4.1)
 abbrev pub marker : List ℕ
 marker = 255 ∷ 255 ∷ 255 ∷ 255 ∷ 255 ∷ 255 ∷ 255 ∷ 255 ∷ 255 ∷ 255 ∷ 255 ∷ 255 ∷ 255 ∷ 255 ∷ 255 ∷ 255 ∷ []
 
@@ -25,10 +26,12 @@ attribute flags kind value = if nat_le (length value) 255 then flags ∷ kind �
 abbrev pub long : ℕ → List ℕ
 long n = word (n / 65536) ++ word n
 
+-- MULTI_EXIT_DISC: optional, of type 4
 abbrev pub med_octets : Option ℕ → List ℕ
 med_octets None = []
 med_octets (Some n) = attribute 128 4 (long n)
 
+-- ATOMIC_AGGREGATE: well-known, of type 6, without a value
 abbrev pub atomic_octets : Bool → List ℕ
 atomic_octets atomic = if atomic then attribute 64 6 [] else []
 
@@ -36,14 +39,17 @@ atomic_octets atomic = if atomic then attribute 64 6 [] else []
 abbrev pub passed_on : Bool → ℕ
 passed_on partial = if partial then 224 else 192
 
+-- AGGREGATOR: optional and transitive, of type 7
 abbrev pub aggregator_octets : Option Aggregator → List ℕ
 aggregator_octets None = []
 aggregator_octets (Some a) = attribute (passed_on a.partial) 7 (word a.asn ++ address_octets a.ip)
 
+-- COMMUNITIES: optional and transitive, of type 8; none is not written (RFC 1997)
 abbrev pub communities_octets : Bool → List ℕ → List ℕ
 communities_octets partial [] = []
 communities_octets partial (c ∷ cs) = attribute (passed_on partial) 8 (flat_map long (c ∷ cs))
 
+-- unknown attributes are passed on with the partial flag (RFC 4271 9)
 abbrev pub unknown_octets : List Unknown → List ℕ
 unknown_octets us = flat_map (λ (u : Unknown). attribute 224 u.kind u.value) us
 

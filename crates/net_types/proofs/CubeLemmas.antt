@@ -1,3 +1,4 @@
+-- Laws of cubes: what they have, their meets, and that cubes with the same headers are equal.
 use Rattle.std.proofs.Common.{◌≡◌, ℕ, ◌<◌, ◌^◌, Bool, true, false, eqb, ◌&&◌, cond, unwrap_or, IfSome, zero, suc, Option, Some, None, refl, inl, inr, sym, ap, ◌∙◌, arith}
 use Rattle.std.proofs.lemmas.Bool.{eqb-true, eq-eqb, and_parts, and_from, cases_Bool, and_cases, false_from_ne_true, false≢true, ne_eqb}
 use Rattle.net_types.specs.declared.address.Ip.{Ip}

@@ -1,3 +1,4 @@
+-- Laws of prefixes: covering, lying within, meets, and equality.
 use Rattle.std.proofs.Common.{◌≡◌, ◌≢◌, ℕ, zero, suc, ◌+◌, ◌-◌, ◌%◌, ◌^◌, ◌<◌, ◌≤◌, Bool, true, false, eqb, leb, ◌&&◌, cond, Option, Some, None, ◌*◌, ◌/◌, refl, inl, inr, sym, ap, ◌∙◌, subst, arith}
 use Rattle.std.specs.Int.{bit_at}
 use Rattle.std.specs.Coded.{le_prop}

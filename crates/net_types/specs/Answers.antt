@@ -82,6 +82,7 @@ answer_by ps sender exporter chosen port h =
 abbrev pub next_port : Routing → Prefix → Pid → PortNo
 next_port r p who = option_map_or (λ (attrs : Attrs). port_with r.ports attrs.next_hop) (route r who p) (record { 0 = 0 })
 
+-- nothing leaves where there is no best route
 abbrev pub answer_for : Policies → Routing → Pid → Prefix → Headers → Option Candidate → List Leaving
 answer_for ps r sender p h None = []
 answer_for ps r sender p h (Some c) = answer_by ps sender (λ who. exports r who sender p) c.from (next_port r p) h
@@ -94,6 +95,7 @@ answer ps r sender p h = answer_for ps r sender p h (best r sender p)
 abbrev pub is_offered : List Offer → Pid → Bool
 is_offered offers who = list_any (λ (o : Offer). nat_eq o.exporter.0 who.0) offers
 
+-- the port of a participant's offer
 abbrev pub offered_port : List Offer → Pid → PortNo
 offered_port offers who = option_map_or (λ (o : Offer). o.port) (find (λ (o : Offer). nat_eq o.exporter.0 who.0) offers) (record { 0 = 0 })
 

@@ -8,6 +8,7 @@ use Rattle.net_types.specs.declared.cube.Cube.{Cube}
 use Rattle.net_types.specs.declared.route.Offer.{Offer}
 use Rattle.net_types.specs.declared.route.Part.{Part}
 
+-- a cube whose inport is free or is this port has its inport freed; one of another port is left out
 abbrev pub freed_from : PortNo → Cube → Option PortNo → List Cube
 freed_from port c None = c ∷ []
 freed_from port c (Some q) = if nat_eq q.0 port.0 then record c { inport = None } ∷ [] else []

@@ -26,14 +26,17 @@ pub record ExportRule : Type 0 where
   pub who : Option Pid
   pub which : Which
 
+-- the same address and length
 abbrev pub same_prefix : Prefix → Prefix → Bool
 same_prefix p q = nat_eq p.address.0 q.address.0 && nat_eq p.len q.len
 
+-- a rule is about a prefix
 abbrev pub is_about : Which → Prefix → Bool
 is_about Every p = true
 is_about (Exactly q) p = same_prefix p q
 is_about (Within q) p = lies_within p q
 
+-- a rule applies to a participant and a prefix
 abbrev pub applies : ExportRule → Pid → Prefix → Bool
 applies r to p = option_map_or (λ (w : Pid). nat_eq w.0 to.0) r.who true && is_about r.which p
 
@@ -53,9 +56,11 @@ pub record Routing : Type 0 where
 abbrev pub pid_of : Routing → List ℕ → Option Pid
 pid_of r name = option_map (λ n. record { 0 = n }) (position_from (λ (m : Participant). same_octets m.name name) 0 r.participants)
 
+-- a participant's route for a prefix
 abbrev pub route : Routing → Pid → Prefix → Option Attrs
 route r from p = get r.routes (record { from = from; prefix = p })
 
+-- the AS numbers of a segment
 abbrev pub asns : Segment → List ℕ
 asns (Set ns) = ns
 asns (Sequence ns) = ns
@@ -64,9 +69,11 @@ asns (Sequence ns) = ns
 abbrev pub is_in_path : ℕ → List Segment → Bool
 is_in_path n path = list_any (λ s. list_any (nat_eq n) (asns s)) path
 
+-- the AS of a participant; 0 where it is not declared
 abbrev pub asn_of : Routing → Pid → ℕ
 asn_of r who = option_map_or (λ (m : Participant). m.asn) (slice_get r.participants who.0) 0
 
+-- the export rules of a participant
 abbrev pub rules_of : Routing → Pid → List ExportRule
 rules_of r who = unwrap_or (slice_get r.rules who.0) []
 

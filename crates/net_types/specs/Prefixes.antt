@@ -1,3 +1,4 @@
+-- Prefixes of addresses (RFC 4271 4.3).
 use Rattle.std.specs.Prelude.{Bool, ◌&&◌, nat_le, Option, Some, None, if◌then◌else◌, refl}
 use Rattle.std.proofs.Common.{lit<, lit≤}
 use Rattle.net_types.specs.declared.address.Ip.{Ip}

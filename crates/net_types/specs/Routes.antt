@@ -42,9 +42,11 @@ hops_of (Sequence ns) = length ns
 abbrev pub peer_of : Routing → Pid → Ip
 peer_of r who = option_map_or (λ (q : PortInfo). q.ip) (find (λ (q : PortInfo). nat_eq q.owner.0 who.0) r.ports) (record { 0 = 0 })
 
+-- the BGP identifier of a participant
 abbrev pub id_of : Routing → Pid → Ip
 id_of r who = option_map_or (λ (m : Participant). m.id) (slice_get r.participants who.0) (record { 0 = 0 })
 
+-- a participant's route, with what the choice looks at
 abbrev pub candidate : Routing → Pid → Attrs → Candidate
 candidate r from attrs = record { from = from; attrs = attrs; hops = sum_by hops_of attrs.path; asn = asn_of r from; id = id_of r from; peer = peer_of r from }
 
@@ -65,6 +67,7 @@ least_by f cs = filter (λ c. list_all (λ d. nat_le (f c) (f d)) cs) cs
 abbrev pub least_med : List Candidate → List Candidate
 least_med cs = filter (λ c. list_all (λ d. not (nat_eq c.asn d.asn) || nat_le (unwrap_or c.attrs.med 0) (unwrap_or d.attrs.med 0)) cs) cs
 
+-- the first, where there is one
 abbrev pub first_of_list : {X : Type 0} → List X → Option X
 first_of_list [] = None
 first_of_list (x ∷ xs) = Some x

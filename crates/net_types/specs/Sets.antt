@@ -1,3 +1,4 @@
+-- Lists as sets: what counts is which members they have.
 use Rattle.std.specs.Prelude.{◌≡◌, Bool, true, List, [], ◌∷◌, ◌++◌, ◌⊎◌}
 
 -- x stands in the list

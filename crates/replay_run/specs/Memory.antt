@@ -1,5 +1,5 @@
 -- Sources and sinks in memory that fail at given calls.
-use Rattle.std.specs.Prelude.{◌≡◌, ℕ, ◌+◌, ◌-◌, ◌^◌, nat_eq, min, Bool, List, Result, is_err, if◌then◌else◌}
+use Rattle.std.specs.Prelude.{ℕ, ◌+◌, ◌-◌, ◌^◌, nat_eq, min, Bool, List, if◌then◌else◌}
 use Rattle.std.specs.List.{list_any}
 
 -- bytes that are left or were written, the calls that fail, and how many calls were made and failed

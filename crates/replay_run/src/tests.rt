@@ -1,83 +1,19 @@
 //! Runs over sources and sinks in memory.
 ghost use Rattle.std.specs.Prelude.{◌≡◌, Some};
 
+mod inputs;
+
 use crate::{Failed, Sink, SinkFault, SinkOf, SinkOk, Source, SourceOf, SourceOk, Status, run};
+use inputs::{
+    FIRST_INPUT, FIRST_OUTPUT, NOT_DRAINED_INPUT, NOT_DRAINED_OUTPUT, REFUSALS_INPUT,
+    REFUSALS_OUTPUT, TWO_PREFIXES_INPUT, TWO_PREFIXES_OUTPUT,
+};
 use net_types::{Items, Memory, Steps, Text, Words};
 use sdx_core::Sdx;
 use std::alloc::Global;
 use std::marker::Brand;
 use std::sync::ledger::{Blank, Ledger};
 use std::test::Fail;
-
-const ANNOUNCED_INPUT: &str = "\
-exchange 172.16.0.0 8 64
-participant A 65001 1.0.0.1
-participant B 65002 1.0.0.2
-participant C 65003 1.0.0.3
-port A 1 172.16.1.1 02:00:00:00:00:01
-port B 2 172.16.1.2 02:00:00:00:00:02
-port B 3 172.16.1.3 02:00:00:00:00:03
-port C 4 172.16.1.4 02:00:00:00:00:04
-update B ffffffffffffffffffffffffffffffff002b0200000012400101004002040201fdea400304ac100102080a
-drain A
-#
-packet 1 4500001c000000004011acccc00002010a01020303e8005000080000
-";
-
-const ANNOUNCED_OUTPUT: &str = "\
-1 ok
-2 ok
-3 ok
-4 ok
-5 ok
-6 ok
-7 ok
-8 ok
-9 ok
-  tag 10.0.0.0/8 1
-  add 1 1 * -> 2
-  add 4 1 * -> 2
-10 ok
-  advert ffffffffffffffffffffffffffffffff002b0200000012400101004002040201fdea400304ac100001080a
-12 ok
-  out 2 02000000000202000000000108004500001c000000004011acccc00002010a01020303e8005000080000
-";
-
-const REFUSED_INPUT: &str = "\
-drain A
-exchange 172.16.0.0 8 64
-participant A 65001 1.0.0.1
-participant B 65002 1.0.0.2
-participant C 65003 1.0.0.3
-port A 1 172.16.1.1 02:00:00:00:00:01
-port B 2 172.16.1.2 02:00:00:00:00:02
-port B 3 172.16.1.3 02:00:00:00:00:03
-port C 4 172.16.1.4 02:00:00:00:00:04
-participant A 1 1.1.1.1
-port B 9 172.16.0.8 02:00:00:00:00:09
-port B 9 172.16.1.9 02:53:44:00:00:09
-port Z 9 172.16.1.9 02:00:00:00:00:09
-drain Z
-frob
-";
-
-const REFUSED_OUTPUT: &str = "\
-1 refused misplaced
-2 ok
-3 ok
-4 ok
-5 ok
-6 ok
-7 ok
-8 ok
-9 ok
-10 refused line
-11 refused line
-12 refused line
-13 refused unknown
-14 refused unknown
-15 refused line
-";
 
 /// A run, and what is expected of it.
 #[derive(Clone, Copy)]
@@ -218,8 +154,8 @@ fn calls_fail_as_listed(rt: HostRuntime) -> Result<(), Fail> {
     Ok(())
 }
 
-#[test]
-fn runs_without_a_line(rt: HostRuntime) -> Result<(), Fail> {
+/// Runs that read no line.
+fn cases_without_lines<'c>() -> [Case<'c>; 5] {
     let empty = replays("an empty input", b"", Status::Done, "");
     let usage = Case {
         input: b"exchange 172.16.0.0 8 64\n",
@@ -228,7 +164,7 @@ fn runs_without_a_line(rt: HostRuntime) -> Result<(), Fail> {
         status: Status::Usage,
         ..empty
     };
-    let cases = [
+    [
         empty,
         Case {
             name: "the first read fails",
@@ -251,166 +187,173 @@ fn runs_without_a_line(rt: HostRuntime) -> Result<(), Fail> {
             words: &["Replay"],
             ..usage
         },
-    ];
-    for case in cases {
-        let passed = passes::<Brand>(&rt, Blank::new(1), case)?;
+    ]
+}
+
+/// Lines that are skipped, with reads that fail.
+fn skipped_cases<'c>() -> [Case<'c>; 3] {
+    let skipped = replays(
+        "lines that are skipped",
+        b"# one\n\n#\n\n\n# no end",
+        Status::Done,
+        "",
+    );
+    [
+        skipped,
+        Case {
+            name: "the second read fails",
+            failing_reads: &[1],
+            status: Status::ReadFault,
+            ..skipped
+        },
+        Case {
+            name: "a third read and a write would fail",
+            failing_reads: &[2],
+            failing_writes: &[0],
+            ..skipped
+        },
+    ]
+}
+
+fn refused_case<'c>() -> Case<'c> {
+    replays(
+        "lines that are refused",
+        b"x\n# skipped\n\ny\nz",
+        Status::Refused,
+        "1 refused line\n4 refused line\n5 refused line\n",
+    )
+}
+
+/// Refused lines, with reads and writes that fail.
+fn refused_cases<'c>() -> [Case<'c>; 4] {
+    let refused = refused_case();
+    [
+        refused,
+        Case {
+            name: "a line without an end is not answered",
+            failing_reads: &[1],
+            status: Status::ReadFault,
+            output: "1 refused line\n4 refused line\n",
+            ..refused
+        },
+        Case {
+            name: "the first write fails",
+            failing_writes: &[0],
+            status: Status::WriteFault,
+            output: "",
+            ..refused
+        },
+        Case {
+            name: "the last write fails",
+            failing_writes: &[2],
+            status: Status::WriteFault,
+            output: "1 refused line\n4 refused line\n",
+            ..refused
+        },
+    ]
+}
+
+/// The same, where one octet is read or written at a time.
+fn slowly_refused_cases<'c>() -> [Case<'c>; 4] {
+    let refused = refused_case();
+    [
+        refused,
+        Case {
+            name: "a read fails before an end",
+            failing_reads: &[1],
+            status: Status::ReadFault,
+            output: "",
+            ..refused
+        },
+        Case {
+            name: "a read fails behind an end",
+            failing_reads: &[2],
+            status: Status::ReadFault,
+            output: "1 refused line\n",
+            ..refused
+        },
+        Case {
+            name: "a write fails within a reply",
+            failing_writes: &[17],
+            status: Status::WriteFault,
+            output: "1 refused line\n4 ",
+            ..refused
+        },
+    ]
+}
+
+/// Comments of 20000 octets, of one more, and of many pieces.
+fn long_cases<'c>(longest: &'c [u8], longer: &'c [u8], far_longer: &'c [u8]) -> [Case<'c>; 3] {
+    [
+        replays("the longest line", longest, Status::Done, ""),
+        replays("an octet more", longer, Status::Refused, "1 refused line\n"),
+        replays(
+            "many pieces",
+            far_longer,
+            Status::Refused,
+            "1 refused line\n",
+        ),
+    ]
+}
+
+fn exchange_cases<'c>() -> [Case<'c>; 4] {
+    [
+        replays(
+            "an announcement, a drain and a packet",
+            FIRST_INPUT.as_bytes(),
+            Status::Done,
+            FIRST_OUTPUT,
+        ),
+        replays(
+            "refusals",
+            REFUSALS_INPUT.as_bytes(),
+            Status::Refused,
+            REFUSALS_OUTPUT,
+        ),
+        replays(
+            "two prefixes and three datagrams",
+            TWO_PREFIXES_INPUT.as_bytes(),
+            Status::Done,
+            TWO_PREFIXES_OUTPUT,
+        ),
+        replays(
+            "a sender that has not drained yet",
+            NOT_DRAINED_INPUT.as_bytes(),
+            Status::Done,
+            NOT_DRAINED_OUTPUT,
+        ),
+    ]
+}
+
+#[test]
+fn runs_end_and_write_as_they_should(rt: HostRuntime) -> Result<(), Fail> {
+    let longest = vec![in rt.alloc(); b'#'; 20000]?;
+    let longer = vec![in rt.alloc(); b'#'; 20001]?;
+    let far_longer = vec![in rt.alloc(); b'#'; 200000]?;
+    let mut cases = Vec::from_slice(rt.alloc(), &cases_without_lines())?;
+    cases.extend_from_slice(&skipped_cases())?;
+    cases.extend_from_slice(&refused_cases())?;
+    cases.extend_from_slice(&long_cases(&longest, &longer, &far_longer))?;
+    cases.extend_from_slice(&exchange_cases())?;
+    for case in &cases {
+        let passed = passes::<Brand>(&rt, Blank::new(1), *case)?;
         assert!(rt; passed, "{}", case.name);
     }
     Ok(())
 }
 
-// needs the lines
-// #[test]
-// fn runs_with_faults(rt: HostRuntime) -> Result<(), Fail> {
-//     let skipped = replays(
-//         "lines that are skipped",
-//         b"# one\n\n#\n\n\n# no end",
-//         Status::Done,
-//         "",
-//     );
-//     let refused = replays(
-//         "lines that are refused",
-//         b"x\n# skipped\n\ny\nz",
-//         Status::Refused,
-//         "1 refused line\n4 refused line\n5 refused line\n",
-//     );
-//     let cases = [
-//         skipped,
-//         Case {
-//             name: "the second read fails",
-//             failing_reads: &[1],
-//             status: Status::ReadFault,
-//             ..skipped
-//         },
-//         Case {
-//             name: "a third read would fail",
-//             failing_reads: &[2],
-//             failing_writes: &[0],
-//             ..skipped
-//         },
-//         refused,
-//         Case {
-//             name: "the line without an end is not answered",
-//             failing_reads: &[1],
-//             status: Status::ReadFault,
-//             output: "1 refused line\n4 refused line\n",
-//             ..refused
-//         },
-//         Case {
-//             name: "the first write fails",
-//             failing_writes: &[0],
-//             status: Status::WriteFault,
-//             output: "",
-//             ..refused
-//         },
-//         Case {
-//             name: "the last write fails",
-//             failing_writes: &[2],
-//             status: Status::WriteFault,
-//             output: "1 refused line\n4 refused line\n",
-//             ..refused
-//         },
-//     ];
-//     for case in cases {
-//         let passed = passes::<Brand>(&rt, Blank::new(1), case)?;
-//         assert!(rt; passed, "{}", case.name);
-//     }
-//     Ok(())
-// }
-//
-// #[test]
-// fn runs_octet_by_octet(rt: HostRuntime) -> Result<(), Fail> {
-//     let whole = replays(
-//         "lines that are refused",
-//         b"x\n# skipped\n\ny\nz",
-//         Status::Refused,
-//         "1 refused line\n4 refused line\n5 refused line\n",
-//     );
-//     let cases = [
-//         whole,
-//         Case {
-//             name: "a read fails before an end",
-//             failing_reads: &[1],
-//             status: Status::ReadFault,
-//             output: "",
-//             ..whole
-//         },
-//         Case {
-//             name: "a read fails behind an end",
-//             failing_reads: &[2],
-//             status: Status::ReadFault,
-//             output: "1 refused line\n",
-//             ..whole
-//         },
-//         Case {
-//             name: "a write fails within a reply",
-//             failing_writes: &[17],
-//             status: Status::WriteFault,
-//             output: "1 refused line\n4 ",
-//             ..whole
-//         },
-//         replays(
-//             "an announcement, a drain and a packet",
-//             ANNOUNCED_INPUT.as_bytes(),
-//             Status::Done,
-//             ANNOUNCED_OUTPUT,
-//         ),
-//     ];
-//     for case in cases {
-//         let passed = passes_slowly::<Brand>(&rt, Blank::new(1), case)?;
-//         assert!(rt; passed, "{}", case.name);
-//     }
-//     Ok(())
-// }
-//
-// #[test]
-// fn long_lines_are_refused(rt: HostRuntime) -> Result<(), Fail> {
-//     let longest = vec![in rt.alloc(); b'#'; 20000]?;
-//     let longer = vec![in rt.alloc(); b'#'; 20001]?;
-//     let far_longer = vec![in rt.alloc(); b'#'; 200000]?;
-//     let cases = [
-//         replays("the longest line", &longest, Status::Done, ""),
-//         replays(
-//             "an octet more",
-//             &longer,
-//             Status::Refused,
-//             "1 refused line\n",
-//         ),
-//         replays(
-//             "many pieces",
-//             &far_longer,
-//             Status::Refused,
-//             "1 refused line\n",
-//         ),
-//     ];
-//     for case in cases {
-//         let passed = passes::<Brand>(&rt, Blank::new(1), case)?;
-//         assert!(rt; passed, "{}", case.name);
-//         let passed_slowly = passes_slowly::<Brand>(&rt, Blank::new(1), case)?;
-//         assert!(rt; passed_slowly, "{}", case.name);
-//     }
-//     Ok(())
-// }
-//
-// #[test]
-// fn exchanges_run(rt: HostRuntime) -> Result<(), Fail> {
-//     let cases = [
-//         replays(
-//             "an announcement, a drain and a packet",
-//             ANNOUNCED_INPUT.as_bytes(),
-//             Status::Done,
-//             ANNOUNCED_OUTPUT,
-//         ),
-//         replays(
-//             "refusals while declaring",
-//             REFUSED_INPUT.as_bytes(),
-//             Status::Refused,
-//             REFUSED_OUTPUT,
-//         ),
-//     ];
-//     for case in cases {
-//         let passed = passes::<Brand>(&rt, Blank::new(1), case)?;
-//         assert!(rt; passed, "{}", case.name);
-//     }
-//     Ok(())
-// }
+#[test]
+fn runs_octet_by_octet_do_the_same(rt: HostRuntime) -> Result<(), Fail> {
+    let longest = vec![in rt.alloc(); b'#'; 20000]?;
+    let longer = vec![in rt.alloc(); b'#'; 20001]?;
+    let far_longer = vec![in rt.alloc(); b'#'; 200000]?;
+    let mut cases = Vec::from_slice(rt.alloc(), &cases_without_lines())?;
+    cases.extend_from_slice(&slowly_refused_cases())?;
+    cases.extend_from_slice(&long_cases(&longest, &longer, &far_longer))?;
+    cases.extend_from_slice(&exchange_cases())?;
+    for case in &cases {
+        let passed = passes_slowly::<Brand>(&rt, Blank::new(1), *case)?;
+        assert!(rt; passed, "{}", case.name);
+    }
+    Ok(())
+}

@@ -4,6 +4,8 @@ ghost use Rattle.std.specs.Prelude.{◌≡◌, ◌+◌, ◌≤◌, ◌<◌, leng
 ghost use Rattle.events.specs.Restricted.{is_announcement, announced_prefix, eight_bits};
 ghost use Rattle.net_types.specs.Octets.{word_at, address_at};
 
+pub mod writing;
+
 use net_types::{Ip, Prefix};
 
 /// What an UPDATE of one prefix and one AS says.

@@ -1,7 +1,7 @@
 //! Reading a line.
 ghost use Rattle.std.specs.Prelude.{◌≡◌, ◌∷◌, codes, nat_eq, not, IfOk, IfSome};
 ghost use Rattle.std.specs.Option.{option_map};
-ghost use Rattle.events.specs.declared.Event.TheVariants.{Participant, Port, Drain};
+ghost use Rattle.events.specs.declared.Event.TheVariants.{Participant, Port};
 ghost use Rattle.events.specs.Fits.{IsWellFormed};
 ghost use Rattle.events.specs.Lines.{address, event_of, event_of_words, is_skipped, only_if, or_bad, packet_line, pieces, update_line};
 

@@ -5,13 +5,32 @@ ghost use Rattle.events.specs.Fits.{IsStep};
 ghost use Rattle.events.specs.declared.Event.TheVariants as lines;
 
 use super::Sdx;
-use events::Reply;
+use crate::advert_queue::{adverts, pending};
+use crate::line_order::is_declared;
+use crate::registry::find_name;
+use crate::replies::{bare_reply, refused};
+use events::{Head, Phase, Refusal, Reply};
 use net_types::{Memory, Name};
 
 impl Sdx {
-    pub(super) fn drain(&mut self, _name: &Name) -> Result<Reply, Memory>
-        ensures { IfOk result (λ reply. IsStep self.old (lines.Drain _name.now) reply self.new) }
+    /// The participant takes what was announced since it last did.
+    pub(super) fn drain(&mut self, name: &Name) -> Result<Reply, Memory>
+        ensures { IfOk result (λ reply. IsStep self.old (lines.Drain name.now) reply self.new) }
     {
-        Err(Memory)
+        if !is_declared(self.phase) {
+            return Ok(refused(self.alloc, Refusal::Misplaced));
+        }
+        let Some(who) = find_name(self.participants.items(), name.items()) else {
+            return Ok(refused(self.alloc, Refusal::Unknown));
+        };
+        let asn = self.participants.items()[who].asn;
+        let taken = self.told.as_slice()[who];
+        let queue = pending(self.alloc, asn, &self.announcements.as_slice()[taken..])?;
+        let messages = adverts(self.alloc, self.base, queue.as_slice())?;
+        self.told.as_mut_slice()[who] = self.announcements.len();
+        self.phase = Phase::Running;
+        let mut reply = bare_reply(self.alloc, Head::Fine);
+        reply.adverts = messages;
+        Ok(reply)
     }
 }

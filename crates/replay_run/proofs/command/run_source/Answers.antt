@@ -1,9 +1,8 @@
-use Rattle.std.proofs.Common.{◌≡◌, ℕ, ◌+◌, ◌-◌, ◌++◌, ◌∷◌, [], List, ◌≤◌, ◌<◌, sym, ap, ◌∙◌, subst, append-nil, append_assoc, refl, arith, take, drop, length, length-append}
+use Rattle.std.proofs.Common.{◌≡◌, ◌-◌, ◌++◌, ◌≤◌, sym, ap, ◌∙◌, subst, append-nil, refl, arith, take, drop, length, length-append}
 use Rattle.std.specs.Prelude.{min}
-use Rattle.std.specs.Io.KnownBytes.{Consumes, Appends}
-use Rattle.std.proofs.lemmas.Grind.{common_steps}
+use Rattle.std.specs.Io.KnownBytes.{Consumes}
 use Rattle.events.specs.State.{first}
-use Rattle.replay_run.specs.Progress.{IsRun, Ran, IsPartOf}
+use Rattle.replay_run.specs.Progress.{IsPartOf}
 use Rattle.replay_run.specs.Run.{limit}
 use Rattle.replay_run.proofs.Bytes.{Appends_then, Consumes_then}
 use Rattle.replay_run.proofs.Parts.{along}

@@ -1,4 +1,4 @@
-use Rattle.std.proofs.Common.{◌≡◌, ℕ, ◌+◌, ◌++◌, ◌∷◌, [], List, ◌||◌, sym, subst, refl}
+use Rattle.std.proofs.Common.{◌+◌, ◌++◌, ◌∷◌, [], ◌||◌, sym, subst, refl}
 use Rattle.events.specs.Lines.{event_of}
 use Rattle.replay_run.specs.Progress.{Ran}
 use Rattle.replay_run.proofs.Parts.{end_of_part, stop_of_part, runs_more}

@@ -1,8 +1,8 @@
-use Rattle.std.proofs.Common.{◌≡◌, ℕ, Bool, false, List, ◌++◌, sym, ap, subst, ◌∙◌, IfOk, OnErr}
+use Rattle.std.proofs.Common.{◌≡◌, ℕ, false, List, ◌++◌, ap, subst, ◌∙◌, IfOk, OnErr}
 use Rattle.std.specs.Io.KnownBytes.{Appends}
 use Rattle.events.specs.Lines.{event_of}
 use Rattle.replay_run.specs.Progress.{RunsEvent, StopsInEvent}
-use Rattle.replay_run.proofs.Parts.{kept_event, stops_at_once}
+use Rattle.replay_run.proofs.Parts.{kept_event}
 use Rattle.replay_run.proofs.progress.run_ended.Goals as goal
 
 pub returns-clause-ok : goal.returns-clause-ok

@@ -1,4 +1,4 @@
-use Rattle.std.proofs.Common.{◌≡◌, ℕ, ◌+◌, ◌-◌, ◌^◌, ◌≤◌, false, true, sym, subst, ◌∙◌, arith}
+use Rattle.std.proofs.Common.{◌≡◌, ℕ, ◌+◌, ◌-◌, ◌^◌, ◌≤◌, true, sym, subst, ◌∙◌, arith}
 use Rattle.std.specs.Prelude.{Result, Err, IfErr, min}
 use Rattle.std.proofs.lemmas.Bool.{false≢true}
 use Rattle.replay_run.specs.Causes.{FaultRose}

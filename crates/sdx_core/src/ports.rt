@@ -1,0 +1,33 @@
+//! The declared ports by their numbers.
+
+ghost use Rattle.std.specs.Prelude.{◌≡◌, length, nat_eq, find};
+ghost use Rattle.events.specs.Table.{mac_of};
+
+use net_types::{Mac, PortInfo, PortNo};
+
+/// The port of this number.
+pub fn find_port(ports: &[PortInfo], number: PortNo) -> Option<PortInfo>
+    ensures { result ≡ find (λ q. nat_eq q.number.0 number.0) ports.now }
+{
+    for port in ports {
+        if port.number == number {
+            return Some(*port);
+        }
+    }
+    None
+}
+
+/// The hardware address of the router at a port; all zeros where there is no such port.
+pub fn mac_of(ports: &[PortInfo], number: PortNo) -> Mac
+    ensures { result ≡ mac_of ports.now number }
+{
+    match find_port(ports, number) {
+        Some(port) => port.mac,
+        None => Mac([0; 6]),
+    }
+}
+
+/// A hardware address has six octets.
+pub fn known(mac: Mac)
+    ensures { length mac.0 ≡ 6 }
+{}
