@@ -9,7 +9,7 @@ use Rattle.net_types.specs.declared.address.PortNo.{PortNo}
 use Rattle.net_types.specs.declared.address.Tag.{Tag}
 use Rattle.net_types.specs.declared.route.Participant.{Participant}
 use Rattle.net_types.specs.declared.route.PortInfo.{PortInfo}
-use Rattle.sdx_core.proofs.AnnounceLists.{is_some-any}
+use Rattle.net_types.proofs.PassLemmas.{is_some-any}
 use Rattle.sdx_core.specs.Building.{is_at, kept_of, has_others, is_inadmissible, IsAdmitted}
 use Rattle.sdx_core.specs.View.{is_announced, tag_at_place, tag_count}
 use Rattle.sdx_core.specs.declared.announcement.Announcement.{Announcement}

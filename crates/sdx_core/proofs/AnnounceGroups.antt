@@ -34,11 +34,13 @@ use Rattle.net_types.specs.declared.route.Part.{Part}
 use Rattle.net_types.specs.declared.route.Participant.{Participant}
 use Rattle.net_types.specs.declared.route.PortInfo.{PortInfo}
 use Rattle.sdx_core.specs.View.{attrs_of, route_entry, tag_entry, kept_entry, told_entry, told_maps, parts_from, state_of, routing_of, is_announced, announced_in, AreApart, ForEach, AreTagged, IsOwn, IsKept, is_given_on, tag_at_place, tag_count}
-use Rattle.sdx_core.proofs.AnnounceLists.{find_more, find_last, find_none, find_skips, is_some-any, each_more, apart_more, tagged_more, count_more, one_of, one_if}
-use Rattle.sdx_core.proofs.AnnounceTags.{has_tag, tag_of, first_free_tag, no_free_tag, live_kept, taken_range}
+use Rattle.net_types.proofs.PassLemmas.{find_more, find_last, find_absent, find_skips, is_some-any, filter_twice, filter_nothing, one_if, some_there}
+use Rattle.sdx_core.proofs.DeclaredKept.{each_more}
+use Rattle.sdx_core.proofs.AnnounceLists.{apart_more, tagged_more, count_more, one_of}
+use Rattle.sdx_core.proofs.AnnounceTags.{tag_of, first_free_tag, no_free_tag, live_kept, taken_range}
 use Rattle.sdx_core.proofs.Kept.{key_of, route_from, route_kept, announced_none, announced_Member, carried_kept, signature_kept}
 use Rattle.sdx_core.proofs.KeptMaps.{tag_kept, tagged_in, signature_of_tag, announced_listed}
-use Rattle.sdx_core.proofs.KeptTable.{tagged_member}
+use Rattle.sdx_core.proofs.KeptTable.{has_tag, tagged_member}
 use Rattle.sdx_core.proofs.Soundness.{tagged_where_given}
 use Rattle.sdx_core.specs.declared.announcement.Announcement.{Announcement}
 
@@ -61,24 +63,9 @@ same_itself g = and_from (same_option same_tag g.before g.before) (same_signatur
 
 -- ---- lists
 
-filter_twice : {A : Type 0} (f g : A → Bool) (xs : List A) → filter f (filter g xs) ≡ filter (λ x. g x && f x) xs
-filter_twice f g [] = refl
-filter_twice f g (x ∷ xs) = elim (g x) as (λ b. filter f (cond b (x ∷ filter g xs) (filter g xs)) ≡ cond (b && f x) (x ∷ filter (λ x. g x && f x) xs) (filter (λ x. g x && f x) xs)) [
-  | true ↦ ap (λ ys. cond (f x) (x ∷ ys) ys) (filter_twice f g xs)
-  | false ↦ filter_twice f g xs
-]
-
-pub filter_nothing : {A : Type 0} (f : A → Bool) (xs : List A) → ((x : A) → f x ≡ false) → filter f xs ≡ []
-filter_nothing f [] h = refl
-filter_nothing f (x ∷ xs) h = ap (λ b. cond b (x ∷ filter f xs) (filter f xs)) (h x) ∙ filter_nothing f xs h
-
 nonempty : {A : Type 0} (xs : List A) (x : A) → slice_get xs 0 ≡ Some x → 1 ≤ length xs
 nonempty [] x e = cc
 nonempty (y ∷ xs) x e = omega arith
-
-some_there : {A : Type 0} (o : Option A) → is_some o ≡ true → (x : A) × (o ≡ Some x)
-some_there None e = absurd (cc)
-some_there (Some x) e = (x, refl)
 
 none_there : {A : Type 0} (o : Option A) → is_some o ≡ false → o ≡ None
 none_there None e = refl
@@ -381,7 +368,7 @@ module _ (phase : Phase) (base : Ip) (size capacity : ℕ) (ms : List Participan
         by t false none =
             ap (λ b. cond (list_any (eq_by_cmp tag_cmp t) (tags before)) (cond b (kept_signature before routing t) None) None) (live_after t ∙ none)
             ∙ same_none (list_any (eq_by_cmp tag_cmp t) (tags before))
-            ∙ sym (ap parts (find_none (has_tag t) (anns ++ a ∷ []) none))
+            ∙ sym (ap parts (find_absent (has_tag t) (anns ++ a ∷ []) none))
 
     -- the state of the longer list, with the table that was
     pub retagged_is : retagged before (with_route before.routing a.from a.prefix (attrs_of a)) ≡ record (state_of Running base size capacity ms qs (anns ++ a ∷ []) ns) { table = before.table }

@@ -1,7 +1,7 @@
 -- The kept lists with one announcement more.
-use Rattle.std.proofs.Common.{◌≡◌, ℕ, ◌+◌, ◌≤◌, Bool, true, false, cond, ◌||◌, List, [], ◌∷◌, ◌++◌, length, map, filter, ap, ◌∙◌, refl, arith, length-append}
-use Rattle.std.specs.Prelude.{Option, Some, None, is_some, find}
-use Rattle.std.specs.List.{list_any, filter_map, cons_option}
+use Rattle.std.proofs.Common.{◌≡◌, ℕ, ◌+◌, ◌≤◌, Bool, true, false, cond, List, [], ◌∷◌, ◌++◌, length, map, filter, ap, ◌∙◌, refl, arith, length-append}
+use Rattle.std.specs.Prelude.{Option, Some, None, is_some}
+use Rattle.std.specs.List.{filter_map, cons_option}
 use Rattle.std.specs.Option.{option_map, option_map_or, option_and_then}
 use Rattle.std.specs.Cmp.{eq_by_cmp_equiv}
 use Rattle.std.specs.Ordering.{eq_by_cmp}
@@ -18,61 +18,10 @@ use Rattle.net_types.specs.declared.route.Participant.{Participant}
 use Rattle.net_types.specs.declared.route.PortInfo.{PortInfo}
 use Rattle.net_types.specs.declared.rule.Pair.{Pair}
 use Rattle.net_types.specs.declared.rule.Rule.{Rule}
-use Rattle.sdx_core.specs.View.{is_announced, AreApart, ForEach, AreTagged, tag_at_place, is_given_on, tag_count, table_entry, table_entries, receives, is_receiver, owner_of, rule_to, IsOwn, IsKept}
+use Rattle.net_types.proofs.PassLemmas.{one_if, any_more}
+use Rattle.sdx_core.proofs.DeclaredKept.{each_more, each_wider}
+use Rattle.sdx_core.specs.View.{is_announced, AreApart, AreTagged, tag_at_place, is_given_on, tag_count, table_entry, table_entries, receives, is_receiver, owner_of, rule_to, IsOwn, IsKept}
 use Rattle.sdx_core.specs.declared.announcement.Announcement.{Announcement}
-
-or_false : (b : Bool) → (b || false) ≡ b
-or_false true = refl
-or_false false = refl
-
-or_more : (a b c : Bool) → (a || (b || c)) ≡ ((a || b) || c)
-or_more true b c = refl
-or_more false b c = refl
-
-pub any_more : {A : Type 0} (f : A → Bool) (xs : List A) (x : A) → list_any f (xs ++ x ∷ []) ≡ (list_any f xs || f x)
-any_more f [] x = or_false (f x)
-any_more f (y ∷ xs) x = ap (λ b. f y || b) (any_more f xs x) ∙ or_more (f y) (list_any f xs) (f x)
-
-not_there : {A : Type 0} (y : A) → None ≡ Some y → ⊥
-not_there y e = cc
-
--- the first one that passes, where one more stands behind
-pub find_more : {A : Type 0} (f : A → Bool) (xs : List A) (x y : A) → find f xs ≡ Some y → find f (xs ++ x ∷ []) ≡ Some y
-find_more f [] x y e = absurd (not_there y e)
-find_more f (z ∷ xs) x y e =
-    elim (f z) as (λ b. cond b (Some z) (find f xs) ≡ Some y → cond b (Some z) (find f (xs ++ x ∷ [])) ≡ Some y) [
-      | true ↦ λ h. h
-      | false ↦ λ h. find_more f xs x y h
-    ] e
-
-pub find_last : {A : Type 0} (f : A → Bool) (xs : List A) (x : A) → list_any f xs ≡ false → find f (xs ++ x ∷ []) ≡ cond (f x) (Some x) None
-find_last f [] x none = refl
-find_last f (y ∷ xs) x none =
-    let parts = or_parts (f y) (list_any f xs) none in
-    ap (λ b. cond b (Some y) (find f (xs ++ x ∷ []))) parts.0 ∙ find_last f xs x parts.1
-
-pub find_none : {A : Type 0} (f : A → Bool) (xs : List A) → list_any f xs ≡ false → find f xs ≡ None
-find_none f [] none = refl
-find_none f (y ∷ xs) none =
-    let parts = or_parts (f y) (list_any f xs) none in
-    ap (λ b. cond b (Some y) (find f xs)) parts.0 ∙ find_none f xs parts.1
-
--- the last one is skipped where it doesn't pass
-pub find_skips : {A : Type 0} (f : A → Bool) (xs : List A) (x : A) → f x ≡ false → find f (xs ++ x ∷ []) ≡ find f xs
-find_skips f [] x fails = ap (λ b. cond b (Some x) None) fails
-find_skips f (y ∷ xs) x fails = ap (cond (f y) (Some y)) (find_skips f xs x fails)
-
-pub is_some-any : {A : Type 0} (f : A → Bool) (xs : List A) → is_some (find f xs) ≡ list_any f xs
-is_some-any f [] = refl
-is_some-any f (x ∷ xs) = elim (f x) as (λ b. is_some (cond b (Some x) (find f xs)) ≡ (b || list_any f xs)) [ true ↦ refl | false ↦ is_some-any f xs ]
-
-pub each_more : {A : Type 0} (P : A → Type 0) (xs : List A) (x : A) → ForEach P xs → P x → ForEach P (xs ++ x ∷ [])
-each_more P [] x all one = (one, tt)
-each_more P (y ∷ xs) x all one = (all.0, each_more P xs x all.1 one)
-
-pub each_mono : {A : Type 0} (P Q : A → Type 0) (xs : List A) → ((x : A) → P x → Q x) → ForEach P xs → ForEach Q xs
-each_mono P Q [] h all = tt
-each_mono P Q (x ∷ xs) h all = (h x all.0, each_mono P Q xs h all.1)
 
 pub apart_more : (anns : List Announcement) (a : Announcement) → AreApart anns → is_announced a.prefix anns ≡ false → AreApart (anns ++ a ∷ [])
 apart_more [] a apart new = (refl, tt)
@@ -82,9 +31,6 @@ apart_more (b ∷ anns) a apart new =
           ∙ or_from (is_announced b.prefix anns) (eq_by_cmp prefix_cmp b.prefix a.prefix) apart.0 ((eq_by_cmp_equiv prefixes_total).symm b.prefix a.prefix ∙ parts.0),
       apart_more anns a apart.1 parts.1,
     )
-
-abbrev pub one_if : Bool → ℕ
-one_if b = cond b 1 0
 
 -- whether an announcement is counted as one that has a tag
 abbrev pub one_tag : Announcement → ℕ
@@ -166,7 +112,7 @@ kept_more phase size capacity ms qs anns ns rules base a more room kept own new 
   told = kept.told;
   few = kept.few;
   early = tt;
-  fronts = each_mono (λ n. n ≤ length anns) (λ n. n ≤ length (anns ++ a ∷ [])) ns (λ n le. let long = length-append anns (a ∷ []) in omega arith) kept.fronts;
+  fronts = each_wider (λ n. n ≤ length anns) (λ n. n ≤ length (anns ++ a ∷ [])) ns (λ n le. let long = length-append anns (a ∷ []) in omega arith) kept.fronts;
   apart = apart_more anns a kept.apart new;
   owners = kept.owners;
   numbers = kept.numbers;

@@ -1,24 +1,24 @@
 -- How many pairs are live after one announcement more.
-use Rattle.std.proofs.Common.{◌≡◌, ℕ, zero, suc, ◌+◌, ◌≤◌, ◌<◌, Bool, true, false, cond, ◌&&◌, ◌||◌, nat_eq, List, [], ◌∷◌, ◌++◌, length, map, filter, sym, ap, subst, ◌∙◌, refl, arith, inl, inr}
-use Rattle.std.specs.Prelude.{Option, Some, None, is_some, ◌⊎◌}
+use Rattle.std.proofs.Common.{◌≡◌, ℕ, ◌+◌, ◌≤◌, ◌<◌, Bool, true, false, cond, ◌&&◌, nat_eq, List, [], ◌∷◌, ◌++◌, length, map, filter, sym, ap, subst, ◌∙◌, refl, arith, inl, inr}
+use Rattle.std.specs.Prelude.{Option, Some, None, is_some}
 use Rattle.std.specs.List.{list_any}
 use Rattle.std.specs.Option.{option_map_or, option_and_then}
 use Rattle.std.specs.Ordering.{eq_by_cmp, is_eq, nat_cmp}
 use Rattle.std.specs.FinMap.{get, find}
-use Rattle.std.proofs.lemmas.Bool.{or_left, or_right, cases_eq, eq-eqb, eqb-true, ne_eqb, and_left, and_right}
+use Rattle.std.proofs.lemmas.Bool.{eqb-true, ne_eqb, and_left, and_right}
 use Rattle.events.specs.Refusals.{pairs, live_pairs}
 use Rattle.events.specs.Sound.{HasNoRepeats}
 use Rattle.events.specs.State.{State, port_of}
 use Rattle.events.specs.Tags.{tags, is_live_pair}
 use Rattle.events.specs.declared.Phase.{Phase}
-use Rattle.net_types.proofs.FindLemmas.{find-IsFound}
+use Rattle.net_types.proofs.FindLemmas.{find-IsFound, any_at}
+use Rattle.net_types.proofs.SetLemmas.{Member-map, Member-union}
 use Rattle.net_types.proofs.MapLemmas.{get-tabulate}
 use Rattle.net_types.proofs.OrderLemmas.{pairs_total}
-use Rattle.net_types.proofs.TieLemmas.{pair_cmp-IsAntisymmetric, same_from_tie, then_ties, nat_ties}
+use Rattle.net_types.proofs.TieLemmas.{pair_cmp-IsAntisymmetric, same_from_tie, ties_itself, then_ties, nat_ties}
 use Rattle.net_types.specs.Keys.{pair_cmp}
 use Rattle.net_types.specs.Maps.{tabulate}
-use Rattle.net_types.specs.Routes.{numbers}
-use Rattle.net_types.specs.Sets.{Member, union_over}
+use Rattle.net_types.specs.Sets.{Member}
 use Rattle.net_types.specs.declared.address.Ip.{Ip}
 use Rattle.net_types.specs.declared.address.PortNo.{PortNo}
 use Rattle.net_types.specs.declared.address.Tag.{Tag}
@@ -27,13 +27,14 @@ use Rattle.net_types.specs.declared.route.PortInfo.{PortInfo}
 use Rattle.net_types.specs.declared.rule.Pair.{Pair}
 use Rattle.net_types.specs.declared.rule.Rule.{Rule}
 use Rattle.sdx_core.specs.View.{state_of, table_entries, rule_to, receives, AreTagged, IsKept, numbers_of, is_given_on, tag_at_place, tag_count}
-use Rattle.sdx_core.proofs.AnnounceLists.{is_some-any, new_entries, receiving, entry_for, new_entries_are, no_new_entries}
-use Rattle.sdx_core.proofs.AnnounceMaps.{AreFresh, any_filter, same_keys, length-keys, len_fresh}
+use Rattle.sdx_core.proofs.AnnounceLists.{new_entries, receiving, entry_for, new_entries_are, no_new_entries}
+use Rattle.net_types.proofs.PassLemmas.{is_some-any, any_filter, place_member}
+use Rattle.net_types.proofs.EntryLemmas.{AreFresh, same_keys, length-keys, len_fresh}
 use Rattle.sdx_core.proofs.AnnounceTable.{find_append}
-use Rattle.sdx_core.proofs.AnnounceTags.{has_tag, tag_of, taken_range}
+use Rattle.sdx_core.proofs.AnnounceTags.{tag_of, taken_range}
 use Rattle.sdx_core.proofs.KeptLive.{kept_pairs}
 use Rattle.sdx_core.proofs.KeptMaps.{tagged_in}
-use Rattle.sdx_core.proofs.KeptTable.{table_kept}
+use Rattle.sdx_core.proofs.KeptTable.{has_tag, table_kept}
 use Rattle.sdx_core.specs.declared.announcement.Announcement.{Announcement}
 
 -- ---- no pair comes twice in the table
@@ -101,43 +102,6 @@ fresh_entries ms qs n (b ∷ anns) apart tagged = by (is_given_on ms b) tagged.0
 
 -- ---- each live pair is one of a declared port and a tag of the pool
 
-any_append_left : {A : Type 0} (f : A → Bool) (xs ys : List A) → list_any f xs ≡ true → list_any f (xs ++ ys) ≡ true
-any_append_left f [] ys e = absurd (cc)
-any_append_left f (x ∷ xs) ys e = by (f x) e (any_append_left f xs ys)
-  where
-    by : (b : Bool) → (b || list_any f xs) ≡ true → (list_any f xs ≡ true → list_any f (xs ++ ys) ≡ true) → (b || list_any f (xs ++ ys)) ≡ true
-    by true e rest = refl
-    by false e rest = rest e
-
-any_append_right : {A : Type 0} (f : A → Bool) (xs ys : List A) → list_any f ys ≡ true → list_any f (xs ++ ys) ≡ true
-any_append_right f [] ys e = e
-any_append_right f (x ∷ xs) ys e = or_right (f x) (list_any f (xs ++ ys)) (any_append_right f xs ys e)
-
-port_pairs : (ts : List Tag) (q : Pair) (p : PortInfo) → p.number.0 ≡ q.port.0 → (t : Tag) → t.0 ≡ q.tag.0 → Member t ts → list_any (eq_by_cmp pair_cmp q) (map (λ u. let x : Pair = record { port = p.number; tag = u } in x) ts) ≡ true
-port_pairs [] q p port t tag m = elim m [ ]
-port_pairs (u ∷ ts) q p port t tag (inl e) =
-    or_left (eq_by_cmp pair_cmp q (record { port = p.number; tag = u })) (list_any (eq_by_cmp pair_cmp q) (map (λ u. let x : Pair = record { port = p.number; tag = u } in x) ts))
-    (then_ties (nat_cmp q.port.0 p.number.0) (nat_cmp q.tag.0 u.0) ∙ ap (λ b. b && is_eq (nat_cmp q.tag.0 u.0)) (nat_ties q.port.0 p.number.0 ∙ eq-eqb p.number.0 q.port.0 port) ∙ nat_ties q.tag.0 u.0 ∙ eq-eqb u.0 q.tag.0 (sym (ap (λ (x : Tag). x.0) e) ∙ tag))
-port_pairs (u ∷ ts) q p port t tag (inr m) =
-    or_right (eq_by_cmp pair_cmp q (record { port = p.number; tag = u })) (list_any (eq_by_cmp pair_cmp q) (map (λ u. let x : Pair = record { port = p.number; tag = u } in x) ts)) (port_pairs ts q p port t tag m)
-
-all_pairs : (ts : List Tag) (qs : List PortInfo) (q : Pair) (p : PortInfo) → Member p qs → p.number.0 ≡ q.port.0 → (t : Tag) → t.0 ≡ q.tag.0 → Member t ts → list_any (eq_by_cmp pair_cmp q) (union_over (λ (x : PortInfo). map (λ u. let y : Pair = record { port = x.number; tag = u } in y) ts) qs) ≡ true
-all_pairs ts [] q p m port t tag there = elim m [ ]
-all_pairs ts (x ∷ qs) q p (inl e) port t tag there =
-    any_append_left (eq_by_cmp pair_cmp q) (map (λ u. let y : Pair = record { port = x.number; tag = u } in y) ts) (union_over (λ (x : PortInfo). map (λ u. let y : Pair = record { port = x.number; tag = u } in y) ts) qs)
-    (port_pairs ts q x (sym (ap (λ (y : PortInfo). y.number.0) e) ∙ port) t tag there)
-all_pairs ts (x ∷ qs) q p (inr m) port t tag there =
-    any_append_right (eq_by_cmp pair_cmp q) (map (λ u. let y : Pair = record { port = x.number; tag = u } in y) ts) (union_over (λ (x : PortInfo). map (λ u. let y : Pair = record { port = x.number; tag = u } in y) ts) qs)
-    (all_pairs ts qs q p m port t tag there)
-
-pool_member : (low count k : ℕ) → low ≤ k → k < low + count → Member (tag_of k) (map tag_of (numbers low count))
-pool_member low zero k le lt = absurd (omega arith)
-pool_member low (suc count) k le lt = by (cases_eq k low) (λ other. pool_member (low + 1) count k (omega arith) (omega arith))
-  where
-    by : (k ≡ low) ⊎ (k ≡ low → ⊥) → ((k ≡ low → ⊥) → Member (tag_of k) (map tag_of (numbers (low + 1) count))) → Member (tag_of k) (map tag_of (numbers low (suc count)))
-    by (inl e) later = inl (ap tag_of e)
-    by (inr other) later = inr (later other)
-
 where_some : {A B : Type 0} (f : A → Option B) (o : Option A) → is_some (option_and_then f o) ≡ true → (x : A) × (o ≡ Some x) × (is_some (f x) ≡ true)
 where_some f None e = absurd (cc)
 where_some f (Some x) e = (x, refl, e)
@@ -154,7 +118,11 @@ module _ (phase : Phase) (base : Ip) (size capacity : ℕ) (ms : List Participan
       let range : (0 < q.tag.0) × (q.tag.0 ≤ 0 + tag_count anns) = taken_range ms 0 anns q.tag kept.tagged (sym (is_some-any (has_tag q.tag) anns) ∙ ap is_some ann.1) in
       let found = find-IsFound (λ (p : PortInfo). nat_eq p.number.0 q.port.0) qs port.0 port.1 in
       let pool : tag_count anns ≤ size = kept.pool in
-      all_pairs (tags s) qs q port.0 found.stands (eqb-true port.0.number.0 q.port.0 found.passes) q.tag refl (pool_member 1 size q.tag.0 (omega arith) (omega arith))
+      let member : Member (record { port = port.0.number; tag = q.tag }) (pairs s) =
+      Member-union (λ (p : PortInfo). map (λ t. let x : Pair = record { port = p.number; tag = t } in x) (tags s)) qs port.0 (record { port = port.0.number; tag = q.tag }) found.stands
+      (Member-map (λ t. let x : Pair = record { port = port.0.number; tag = t } in x) (tags s) q.tag (place_member tag_of 1 size q.tag.0 (omega arith) (omega arith))) in
+      let same : record { port = port.0.number; tag = q.tag } ≡ q = ap (λ n. let x : Pair = record { port = record { 0 = n }; tag = q.tag } in x) (eqb-true port.0.number.0 q.port.0 found.passes) in
+      any_at (eq_by_cmp pair_cmp q) (pairs s) q (subst (λ x. Member x (pairs s)) same member) (ties_itself pairs_total q)
 
   live_there : (q : Pair) → is_some (get (tabulate pair_cmp (filter (is_live_pair s) (pairs s)) (λ k. Some k)) q) ≡ is_some (get s.table q)
   live_there q =

@@ -1,5 +1,5 @@
 -- Ports that are sorted by number, and the rules that they get.
-use Rattle.std.proofs.Common.{◌≡◌, ℕ, suc, ◌+◌, ◌≤◌, ◌<◌, Bool, true, false, cond, ◌||◌, nat_eq, nat_le, List, [], ◌∷◌, ◌++◌, length, map, filter, sym, ap, subst, ◌∙◌, refl, arith, inl, inr, sum_by, slice_index_or}
+use Rattle.std.proofs.Common.{◌≡◌, ℕ, suc, ◌+◌, ◌≤◌, ◌<◌, Bool, true, false, cond, ◌||◌, nat_eq, List, [], ◌∷◌, ◌++◌, length, map, filter, ap, subst, ◌∙◌, refl, arith, inl, inr, slice_index_or}
 use Rattle.std.specs.Prelude.{Some, None, unwrap_or, ◌⊎◌}
 use Rattle.std.specs.List.{list_any}
 use Rattle.std.specs.List.Sorted.{IsPermutation, IsNonDecreasingBy}
@@ -7,7 +7,7 @@ use Rattle.std.specs.Ordering.{eq_by_cmp, is_eq, is_lt, nat_cmp, ordering_then}
 use Rattle.std.specs.FinMap.{FinMap, get, insert, get-insert, find, is_sorted}
 use Rattle.std.specs.FinMap.Entries.{below_all}
 use Rattle.std.specs.declared.cmp.Ordering.TheVariants.{Less}
-use Rattle.std.proofs.lemmas.Bool.{cases_eq, eq-eqb, ne_eqb, le-leb, and_from, and_left}
+use Rattle.std.proofs.lemmas.Bool.{cases_eq, eq-eqb, ne_eqb, and_from, and_left}
 use Rattle.std.proofs.lemmas.List.Sorted.{sum_by-IsPermutation}
 use Rattle.std.proofs.lemmas.List.Sums.{sum_by-cons}
 use Rattle.events.specs.After.{put_flows}
@@ -23,24 +23,7 @@ use Rattle.net_types.specs.declared.rule.Pair.{Pair}
 use Rattle.net_types.specs.declared.rule.Rule.{Rule}
 use Rattle.sdx_core.specs.Building.{flow_to}
 use Rattle.sdx_core.specs.View.{numbers_of, rule_to}
-use Rattle.sdx_core.proofs.AnnounceLists.{one_if}
-
--- ---- how many pass a test
-
-abbrev pub count_of : {A : Type 0} → (A → Bool) → List A → ℕ
-count_of test xs = sum_by (λ x. one_if (test x)) xs
-
-any_count : {A : Type 0} (test : A → Bool) (xs : List A) → list_any test xs ≡ nat_le 1 (count_of test xs)
-any_count test [] = refl
-any_count test (x ∷ xs) = by (test x) (any_count test xs) ∙ ap (nat_le 1) (sym (sum_by-cons (λ y. one_if (test y)) x xs))
-  where
-    by : (b : Bool) → list_any test xs ≡ nat_le 1 (count_of test xs) → (b || list_any test xs) ≡ nat_le 1 (one_if b + count_of test xs)
-    by true rest = sym (le-leb 1 (1 + count_of test xs) (omega arith))
-    by false rest = rest ∙ ap (nat_le 1) (let e : count_of test xs ≡ 0 + count_of test xs = omega arith in e)
-
--- what one list has, the other has
-pub any_permuted : {A : Type 0} (test : A → Bool) (xs ys : List A) → IsPermutation xs ys → list_any test ys ≡ list_any test xs
-any_permuted test xs ys p = any_count test ys ∙ ap (nat_le 1) (sum_by-IsPermutation (λ x. one_if (test x)) xs ys p) ∙ sym (any_count test xs)
+use Rattle.net_types.proofs.PassLemmas.{one_if, count_of}
 
 -- ---- numbers that come once
 

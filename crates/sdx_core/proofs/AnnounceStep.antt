@@ -1,12 +1,12 @@
 -- When the line `update` is refused, and the step that it is where it is taken.
-use Rattle.std.proofs.Common.{◌≡◌, ℕ, zero, suc, ◌+◌, ◌-◌, ◌≤◌, ◌<◌, Bool, true, false, cond, ◌&&◌, ◌||◌, not, nat_eq, nat_lt, nat_le, List, [], ◌∷◌, ◌++◌, length, map, sym, ap, subst, ◌∙◌, refl, arith, inl, inr}
+use Rattle.std.proofs.Common.{◌≡◌, ℕ, ◌+◌, ◌-◌, ◌≤◌, ◌<◌, Bool, true, false, cond, ◌&&◌, ◌||◌, not, nat_eq, nat_lt, nat_le, List, [], ◌∷◌, ◌++◌, length, map, sym, ap, subst, ◌∙◌, refl, arith, inl, inr}
 use Rattle.std.specs.Prelude.{Option, Some, None, is_some, slice_get, slice_index, find, ◌⊎◌}
 use Rattle.std.specs.List.{list_any, position_from}
 use Rattle.std.specs.List.Sorted.{IsPermutation, IsNonDecreasingBy}
 use Rattle.std.specs.Option.{option_map, option_map_or, option_and_then}
 use Rattle.std.specs.Ordering.{eq_by_cmp}
 use Rattle.net_types.specs.Keys.{prefix_cmp}
-use Rattle.std.proofs.lemmas.Bool.{or_left, or_right, or_parts, and_parts, eq-eqb, eqb-true, ne_eqb, lt-ltb, le-ltb, not-false, cases_Bool, cases_eq, leb-false}
+use Rattle.std.proofs.lemmas.Bool.{or_left, or_right, or_parts, and_parts, eq-eqb, eqb-true, ne_eqb, lt-ltb, le-ltb, not-false, cases_Bool, leb-false}
 use Rattle.std.proofs.lemmas.List.Sorted.{length_permutation}
 use Rattle.events.specs.After.{next, with_known, with_route, put_flows}
 use Rattle.events.specs.Fits.{IsStep, IsBuilt, bare, none_rebuilt}
@@ -40,9 +40,10 @@ use Rattle.net_types.specs.declared.route.Segment.TheVariants.{Sequence}
 use Rattle.sdx_core.specs.Building.{is_at, kept_of, has_others, is_inadmissible, IsAdmitted, flow_to, announced_reply}
 use Rattle.sdx_core.specs.View.{attrs_of, state_of, routing_of, is_announced, announced_in, numbers_of, addresses_of, receives, ForEach, IsOwn, IsKept, is_given_on, tag_at_place, tag_count, AreApart}
 use Rattle.sdx_core.proofs.AnnounceGroups.{new_routing, full_pool, retagged_is}
-use Rattle.sdx_core.proofs.AnnounceLists.{is_some-any, entry_for, new_entries, receiving, kept_more, one_if}
+use Rattle.sdx_core.proofs.AnnounceLists.{entry_for, new_entries, receiving, kept_more}
 use Rattle.sdx_core.proofs.AnnounceLive.{live_count}
-use Rattle.sdx_core.proofs.AnnounceMaps.{same_any, length-map}
+use Rattle.std.proofs.lemmas.List.{length-map}
+use Rattle.net_types.proofs.PassLemmas.{is_some-any, same_any, one_if, some_there, place_member}
 use Rattle.sdx_core.proofs.AnnouncePorts.{Rises, ports_rise}
 use Rattle.sdx_core.proofs.AnnounceTable.{brings, none_receiving, table_is, dropped_is, added_is, tags_told}
 use Rattle.sdx_core.proofs.AnnounceTags.{tag_of}
@@ -53,14 +54,6 @@ use Rattle.sdx_core.specs.declared.announcement.Announcement.{Announcement}
 use Rattle.sdx_core.specs.declared.bgp_update.ShortUpdate.{ShortUpdate}
 
 -- ---- who has a route
-
-pid_member : (low count k : ℕ) → low ≤ k → k < low + count → Member (record { 0 = k }) (map (λ n. let who : Pid = record { 0 = n } in who) (numbers low count))
-pid_member low zero k le lt = absurd (omega arith)
-pid_member low (suc count) k le lt = by (cases_eq k low) (λ other. pid_member (low + 1) count k (omega arith) (omega arith))
-  where
-    by : (k ≡ low) ⊎ (k ≡ low → ⊥) → ((k ≡ low → ⊥) → Member (record { 0 = k }) (map (λ n. let who : Pid = record { 0 = n } in who) (numbers (low + 1) count))) → Member (record { 0 = k }) (map (λ n. let who : Pid = record { 0 = n } in who) (numbers low (suc count)))
-    by (inl e) later = inl (ap (λ n. let who : Pid = record { 0 = n } in who) e)
-    by (inr other) later = inr (later other)
 
 -- somebody has a route exactly for what is announced
 pub has_route_kept : (phase : Phase) (base : Ip) (size capacity : ℕ) (ms : List Participant) (qs : List PortInfo) (anns : List Announcement) (ns : List ℕ) → AreApart anns → ForEach (IsOwn ms qs) anns → (p : Prefix) → has_route (state_of phase base size capacity ms qs anns ns) p ≡ is_announced p anns
@@ -73,7 +66,7 @@ has_route_kept phase base size capacity ms qs anns ns apart own p = by (announce
     by None none = same_any (λ who. is_some (route (routing_of ms qs anns) who p)) (λ who. false) (pids (routing_of ms qs anns)) (has None none) ∙ any_false (pids (routing_of ms qs anns)) ∙ sym (ap is_some none)
     by (Some a) there =
         let declared : a.from.0 < length ms = own_declared ms qs a (is_own ms qs anns own p a there) in
-        any_at (λ who. is_some (route (routing_of ms qs anns) who p)) (pids (routing_of ms qs anns)) a.from (pid_member 0 (length ms) a.from.0 (omega arith) (omega arith))
+        any_at (λ who. is_some (route (routing_of ms qs anns) who p)) (pids (routing_of ms qs anns)) a.from (place_member (λ n. let who : Pid = record { 0 = n } in who) 0 (length ms) a.from.0 (omega arith) (omega arith))
         (has (Some a) there a.from ∙ ap (λ b. is_some (cond b (Some (attrs_of a)) None)) (eq-eqb a.from.0 a.from.0 refl))
         ∙ sym (ap is_some there)
 
@@ -91,10 +84,6 @@ found_once key (x ∷ qs) q k apart (inl e) is = ap (λ b. cond b (Some x) (find
 found_once key (x ∷ qs) q k apart (inr m) is =
     ap (λ b. cond b (Some x) (find (λ (y : PortInfo). nat_eq (key y) k) qs)) (ne_eqb (key x) k (λ e. apart.0 (subst (λ n. Member n (map key qs)) (sym (e ∙ is)) (member_key key qs q m))))
     ∙ found_once key qs q k apart.1 m is
-
-there_is : {A : Type 0} (o : Option A) → is_some o ≡ true → (x : A) × (o ≡ Some x)
-there_is None e = absurd (cc)
-there_is (Some x) e = (x, refl)
 
 -- what a short update says of its route
 abbrev pub attrs_in : ShortUpdate → Attrs
@@ -167,7 +156,7 @@ module _ (phase : Phase) (base : Ip) (size capacity : ℕ) (ms : List Participan
       by (inr same) (inl away) c = ap (λ x. ((x || no_next_hop) || is_announced u.prefix anns) || is_full || is_over) same ∙ ap (λ x. (x || is_announced u.prefix anns) || is_full || is_over) away
       by (inr same) (inr near) (inl old) = ap (λ x. ((x || no_next_hop) || is_announced u.prefix anns) || is_full || is_over) same ∙ ap (λ x. (x || is_announced u.prefix anns) || is_full || is_over) near ∙ ap (λ x. x || is_full || is_over) old
       by (inr same) (inr near) (inr new) =
-          let q = there_is (find (is_at who u.next_hop) qs) (is_some-any (is_at who u.next_hop) qs ∙ not-false (list_any (is_at who u.next_hop) qs) near) in
+          let q = some_there (find (is_at who u.next_hop) qs) (is_some-any (is_at who u.next_hop) qs ∙ not-false (list_any (is_at who u.next_hop) qs) near) in
           let full : (has_others ms u.asn && nat_le size (tag_count anns)) ≡ true =
           sym (ap (λ x. ((x || no_next_hop) || is_announced u.prefix anns) || (has_others ms u.asn && nat_le size (tag_count anns))) same ∙ ap (λ x. (x || is_announced u.prefix anns) || (has_others ms u.asn && nat_le size (tag_count anns))) near ∙ ap (λ x. x || (has_others ms u.asn && nat_le size (tag_count anns))) new) ∙ refused in
           or_left (((other_as || no_next_hop) || is_announced u.prefix anns) || is_full) is_over
@@ -226,8 +215,8 @@ module _ (phase : Phase) (base : Ip) (size capacity : ℕ) (ms : List Participan
       pub as_many : length (new_entries ms qs a) ≡ length ports
       as_many =
           ap length (brings phase base size capacity ms qs anns ns rules kept a a_own passed.2 refl)
-          ∙ length-map (entry_for fresh a) (receiving ms qs a)
-          ∙ sym (length-map (λ (q : PortInfo). q.number) (receiving ms qs a))
+          ∙ length-map (receiving ms qs a) (entry_for fresh a)
+          ∙ sym (length-map (receiving ms qs a) (λ (q : PortInfo). q.number))
           ∙ sym (length_permutation (map (λ (q : PortInfo). q.number) (receiving ms qs a)) ports those)
 
       abbrev told : List TagChange

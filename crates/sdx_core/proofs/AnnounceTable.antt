@@ -37,13 +37,14 @@ use Rattle.net_types.specs.declared.rule.Pair.{Pair}
 use Rattle.net_types.specs.declared.rule.Rule.{Rule}
 use Rattle.sdx_core.specs.Building.{flow_to}
 use Rattle.sdx_core.specs.View.{state_of, is_announced, announced_in, table_entries, rule_to, receives, is_receiver, IsOwn, IsKept, is_given_on, tag_at_place, tag_count}
-use Rattle.sdx_core.proofs.AnnounceGroups.{in_new, in_old, in_none, more_apart, filter_nothing}
-use Rattle.sdx_core.proofs.AnnounceLists.{is_some-any, find_none, new_entries, receiving, entry_for, entries_more, new_entries_are, no_new_entries}
-use Rattle.sdx_core.proofs.AnnouncePorts.{Rises, AllNew, pair_of, entry_to, is_for, find_entry, entries_rise, get-flows, any_permuted}
-use Rattle.sdx_core.proofs.AnnounceTags.{has_tag, tag_of, free_above}
+use Rattle.sdx_core.proofs.AnnounceGroups.{in_new, in_old, in_none, more_apart}
+use Rattle.sdx_core.proofs.AnnounceLists.{new_entries, receiving, entry_for, entries_more, new_entries_are, no_new_entries}
+use Rattle.sdx_core.proofs.AnnouncePorts.{Rises, AllNew, pair_of, entry_to, is_for, find_entry, entries_rise, get-flows}
+use Rattle.net_types.proofs.PassLemmas.{is_some-any, find_absent, filter_nothing, any_permuted}
+use Rattle.sdx_core.proofs.AnnounceTags.{tag_of, free_above}
 use Rattle.sdx_core.proofs.Kept.{announced_none}
 use Rattle.sdx_core.proofs.KeptMaps.{tag_kept}
-use Rattle.sdx_core.proofs.KeptTable.{table_kept}
+use Rattle.sdx_core.proofs.KeptTable.{has_tag, table_kept}
 use Rattle.sdx_core.specs.declared.announcement.Announcement.{Announcement}
 
 -- ---- lists
@@ -107,7 +108,7 @@ module _ (phase : Phase) (base : Ip) (size capacity : ℕ) (ms : List Participan
   none_yet : (n : PortNo) → get before.table (pair_of fresh n) ≡ None
   none_yet n =
       table_kept ms qs anns 0 kept.numbers kept.tagged (pair_of fresh n)
-      ∙ ap (λ o. option_and_then (λ (q : PortInfo). option_and_then (λ (b : Announcement). cond (receives ms b q.owner) (Some (rule_to b.port ∷ [])) None) o) (lists.find (λ (q : PortInfo). nat_eq q.number.0 n.0) qs)) (find_none (has_tag fresh) anns (free_above ms anns fresh kept.tagged (omega arith)))
+      ∙ ap (λ o. option_and_then (λ (q : PortInfo). option_and_then (λ (b : Announcement). cond (receives ms b q.owner) (Some (rule_to b.port ∷ [])) None) o) (lists.find (λ (q : PortInfo). nat_eq q.number.0 n.0) qs)) (find_absent (has_tag fresh) anns (free_above ms anns fresh kept.tagged (omega arith)))
       ∙ nothing (lists.find (λ (q : PortInfo). nat_eq q.number.0 n.0) qs)
     where
       nothing : (o : Option PortInfo) → let none : Option (List Rule) = None in option_and_then (λ (q : PortInfo). none) o ≡ none

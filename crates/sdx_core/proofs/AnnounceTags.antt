@@ -18,14 +18,12 @@ use Rattle.net_types.specs.declared.address.Tag.{Tag}
 use Rattle.net_types.specs.declared.prefix.Prefix.{Prefix}
 use Rattle.net_types.specs.declared.route.Participant.{Participant}
 use Rattle.net_types.specs.declared.route.PortInfo.{PortInfo}
-use Rattle.sdx_core.proofs.AnnounceLists.{one_if, one_of, count_first}
-use Rattle.sdx_core.proofs.AnnounceMaps.{AreFresh, any_values, no_values}
+use Rattle.sdx_core.proofs.KeptTable.{has_tag}
+use Rattle.net_types.proofs.PassLemmas.{one_if}
+use Rattle.sdx_core.proofs.AnnounceLists.{one_of, count_first}
+use Rattle.net_types.proofs.EntryLemmas.{AreFresh, any_values, no_values}
 use Rattle.sdx_core.specs.View.{attrs_of, is_announced, AreApart, AreTagged, tag_at_place, is_given_on, is_receiver, tag_count, tag_entry, told_entry, told_maps, state_of}
 use Rattle.sdx_core.specs.declared.announcement.Announcement.{Announcement}
-
--- an announcement has the tag
-abbrev pub has_tag : Tag → Announcement → Bool
-has_tag t a = same_option same_tag a.tag (Some t)
 
 here_range : (n : ℕ) (given : Bool) (tag : Option Tag) (t : Tag) → tag ≡ tag_at_place given n → same_option same_tag tag (Some t) ≡ true → (t.0 ≡ n + 1) × (given ≡ true)
 here_range n true tag t is same =

@@ -18,11 +18,11 @@ use Rattle.net_types.proofs.SetLemmas.{Member-append_cases, map-Member, map-appe
 use Rattle.sdx_core.specs.View.{table_entries, ForEach, HasOwner, IsOwn, AreTagged, IsEarly, IsKept, numbers_of, addresses_of, tag_count, state_of}
 use Rattle.sdx_core.specs.declared.announcement.Announcement.{Announcement}
 
-each_more : {X : Type 0} (P : X → Type 0) (xs : List X) (x : X) → ForEach P xs → P x → ForEach P (xs ++ x ∷ [])
+pub each_more : {X : Type 0} (P : X → Type 0) (xs : List X) (x : X) → ForEach P xs → P x → ForEach P (xs ++ x ∷ [])
 each_more P [] x all here = (here, tt)
 each_more P (y ∷ xs) x all here = (all.0, each_more P xs x all.1 here)
 
-each_wider : {X : Type 0} (P Q : X → Type 0) (xs : List X) → ((x : X) → P x → Q x) → ForEach P xs → ForEach Q xs
+pub each_wider : {X : Type 0} (P Q : X → Type 0) (xs : List X) → ((x : X) → P x → Q x) → ForEach P xs → ForEach Q xs
 each_wider P Q [] h all = tt
 each_wider P Q (x ∷ xs) h all = (h x all.0, each_wider P Q xs h all.1)
 

@@ -1,29 +1,17 @@
 -- Which keys and values the map of a list of entries has.
-use Rattle.std.proofs.Common.{◌≡◌, ℕ, suc, ◌+◌, Bool, true, false, cond, ◌&&◌, ◌||◌, List, [], ◌∷◌, length, map, filter, sym, ap, subst, ◌∙◌, refl, arith, T}
+use Rattle.std.proofs.Common.{◌≡◌, ℕ, suc, ◌+◌, Bool, true, false, cond, ◌&&◌, ◌||◌, List, [], ◌∷◌, length, map, sym, ap, subst, ◌∙◌, refl, arith, T}
 use Rattle.std.specs.Prelude.{Option, Some, None, is_some}
 use Rattle.std.specs.List.{list_any}
 use Rattle.std.specs.Ordering.{eq_by_cmp, is_eq, is_lt}
-use Rattle.std.specs.FinMap.{FinMap, empty, get, insert, keys, values, entries, entries_sorted, from_entries, entries-insert, get-entries, get-from_entries, len, len-entries, len-empty, len-insert, find, put, is_sorted, IsAntisymmetric}
+use Rattle.std.specs.FinMap.{FinMap, get, insert, keys, values, entries, entries_sorted, from_entries, entries-insert, get-entries, get-from_entries, len, len-entries, len-empty, len-insert, find, put, is_sorted, IsAntisymmetric}
 use Rattle.std.specs.FinMap.Entries.{by_order, below_all, same_entries}
 use Rattle.std.specs.Cmp.{IsTotalOrder}
 use Rattle.std.specs.declared.cmp.Ordering.{Ordering}
 use Rattle.std.specs.declared.cmp.Ordering.TheVariants.{Less, Equal, Greater}
+use Rattle.net_types.proofs.PassLemmas.{any_map}
+use Rattle.net_types.proofs.ValueLemmas.{no_entries}
+use Rattle.std.proofs.lemmas.List.{length-map}
 use Rattle.std.proofs.lemmas.Bool.{or_parts, or_from}
-
-no_items : {A : Type 0} (xs : List A) → length xs ≡ 0 → xs ≡ []
-no_items [] e = refl
-no_items (x ∷ xs) e = absurd (omega arith)
-
-pub nothing_in : (K X : Type 0) (R : K → K → Ordering) → entries (empty {K = K} {X = X} {R = R}) ≡ []
-nothing_in K X R = no_items (entries (empty {K = K} {X = X} {R = R})) (sym (len-entries (empty {K = K} {X = X} {R = R})) ∙ len-empty R X)
-
-pub any_map : {A B : Type 0} (test : B → Bool) (f : A → B) (xs : List A) → list_any test (map f xs) ≡ list_any (λ x. test (f x)) xs
-any_map test f [] = refl
-any_map test f (x ∷ xs) = ap (λ b. test (f x) || b) (any_map test f xs)
-
-pub same_any : {A : Type 0} (f g : A → Bool) (xs : List A) → ((x : A) → f x ≡ g x) → list_any f xs ≡ list_any g xs
-same_any f g [] h = refl
-same_any f g (x ∷ xs) h = ap (λ b. b || list_any f xs) (h x) ∙ ap (λ b. g x || b) (same_any f g xs h)
 
 absorbed : (a b c : Bool) → a ≡ b → (b || c) ≡ (a || (b || c))
 absorbed true b c e = ap (λ x. x || c) (sym e)
@@ -46,7 +34,7 @@ any_keys_put {K} {X} R test alike k v (e ∷ es) =
 
 -- a test of the keys finds what it finds in the list
 pub any_keys : {K X : Type 0} (R : K → K → Ordering) → IsTotalOrder R → (test : K → Bool) → ((x y : K) → R x y ≡ Equal → test x ≡ test y) → (es : List (K × X)) → list_any test (keys (from_entries {R = R} es)) ≡ list_any (λ (e : K × X). test e.0) es
-any_keys {K} {X} R o test alike [] = ap (λ es. list_any test (map (λ (e : K × X). e.0) es)) (nothing_in K X R)
+any_keys {K} {X} R o test alike [] = ap (λ es. list_any test (map (λ (e : K × X). e.0) es)) (no_entries K X R)
 any_keys {K} {X} R o test alike (e ∷ es) =
     any_map test (λ (d : K × X). d.0) (entries (insert (from_entries {R = R} es) e.0 e.1))
     ∙ ap (list_any (λ (d : K × X). test d.0)) (entries-insert o (from_entries {R = R} es) e.0 e.1)
@@ -73,7 +61,7 @@ any_values_put {K} {X} R test k v (e ∷ es) new =
 
 -- a test of the values finds what it finds in the list, where no key comes twice
 pub any_values : {K X : Type 0} (R : K → K → Ordering) → IsTotalOrder R → (test : X → Bool) → (es : List (K × X)) → AreFresh R es → list_any test (values (from_entries {R = R} es)) ≡ list_any (λ (e : K × X). test e.1) es
-any_values {K} {X} R o test [] fresh = ap (λ es. list_any test (map (λ (e : K × X). e.1) es)) (nothing_in K X R)
+any_values {K} {X} R o test [] fresh = ap (λ es. list_any test (map (λ (e : K × X). e.1) es)) (no_entries K X R)
 any_values {K} {X} R o test (e ∷ es) fresh =
     any_map test (λ (d : K × X). d.1) (entries (insert (from_entries {R = R} es) e.0 e.1))
     ∙ ap (list_any (λ (d : K × X). test d.1)) (entries-insert o (from_entries {R = R} es) e.0 e.1)
@@ -93,7 +81,7 @@ no_values_put {K} {X} R test k v (e ∷ es) here none =
 
 -- what no entry of the list has, no value of the map has
 pub no_values : {K X : Type 0} (R : K → K → Ordering) → IsTotalOrder R → (test : X → Bool) → (es : List (K × X)) → list_any (λ (e : K × X). test e.1) es ≡ false → list_any test (values (from_entries {R = R} es)) ≡ false
-no_values {K} {X} R o test [] none = ap (λ es. list_any test (map (λ (e : K × X). e.1) es)) (nothing_in K X R)
+no_values {K} {X} R o test [] none = ap (λ es. list_any test (map (λ (e : K × X). e.1) es)) (no_entries K X R)
 no_values {K} {X} R o test (e ∷ es) none =
     let parts = or_parts (test e.1) (list_any (λ (d : K × X). test d.1) es) none in
     any_map test (λ (d : K × X). d.1) (entries (insert (from_entries {R = R} es) e.0 e.1))
@@ -110,12 +98,8 @@ len_fresh {K} {X} R o (e ∷ es) fresh =
     len-insert o (from_entries {R = R} es) e.0 e.1
     ∙ one_longer R (from_entries {R = R} es) e.0 (length es) (get-from_entries o es e.0 ∙ fresh.0) (len_fresh R o es fresh.1)
 
-pub length-map : {A B : Type 0} (f : A → B) (xs : List A) → length (map f xs) ≡ length xs
-length-map f [] = refl
-length-map f (x ∷ xs) = ap suc (length-map f xs)
-
 pub length-keys : {K X : Type 0} {R : K → K → Ordering} (m : FinMap R X) → length (keys m) ≡ len m
-length-keys {K} {X} m = length-map (λ (e : K × X). e.0) (entries m) ∙ sym (len-entries m)
+length-keys {K} {X} m = length-map (entries m) (λ (e : K × X). e.0) ∙ sym (len-entries m)
 
 -- the keys alone
 abbrev marked : {K X : Type 0} → List (K × X) → List (K × Unit {0})
@@ -158,23 +142,3 @@ same_keys {K} {X} {Y} R o same m n is =
     ∙ ap (map (λ (e : K × Unit {0}). e.0)) (same_entries R o same (marked ms) (marked ns) (subst T (sym (sorted_marked R ms)) (entries_sorted m)) (subst T (sym (sorted_marked R ns)) (entries_sorted n))
     (λ q. find_marked R q ms ∙ same_mark (find R q ms) (find R q ns) (ap is_some (sym (get-entries m q)) ∙ is q ∙ ap is_some (get-entries n q)) ∙ sym (find_marked R q ns)))
     ∙ keys_marked ns
-
-any_cond : {A : Type 0} (f : A → Bool) (u : Bool) (x : A) (fs : List A) → list_any f (cond u (x ∷ fs) fs) ≡ ((u && f x) || list_any f fs)
-any_cond f true x fs = refl
-any_cond f false x fs = refl
-
-both_tests : (g t b r s : Bool) → (t ≡ true → g ≡ b) → r ≡ (b && s) → ((g && t) || r) ≡ (b && (t || s))
-both_tests true true true r s h e = refl
-both_tests true true false r s h e = absurd (let f = h refl in cc)
-both_tests true false true r s h e = e
-both_tests true false false r s h e = e
-both_tests false true true r s h e = absurd (let f = h refl in cc)
-both_tests false true false r s h e = e
-both_tests false false true r s h e = e
-both_tests false false false r s h e = e
-
--- what is found among those that pass, where all that could be found pass alike
-pub any_filter : {A : Type 0} (f g : A → Bool) (b : Bool) (xs : List A) → ((x : A) → f x ≡ true → g x ≡ b) → list_any f (filter g xs) ≡ (b && list_any f xs)
-any_filter f g true [] h = refl
-any_filter f g false [] h = refl
-any_filter f g b (x ∷ xs) h = any_cond f (g x) x (filter g xs) ∙ both_tests (g x) (f x) b (list_any f (filter g xs)) (list_any f xs) (h x) (any_filter f g b xs h)
