@@ -1,13 +1,12 @@
-// A library with one function.
+//! IPv4 frames: their headers are read and rewritten, with the checksums over them, and datagrams are put into frames
+//! (RFC 791, RFC 1624).
 #![tactic(auto)]
 
-ghost use Rattle.std.specs.Prelude.{◌≡◌};
-ghost use Rattle.ip_frame.specs.Echo.{echo_of};
+mod checksum;
+mod datagram;
+mod layout;
+mod read;
+mod words;
 
-// The `ensures` clause is the contract: what `echo` returns is `echo_of` of its argument, a definition
-// in `specs/Echo.antt`, which a caller's clause can cite too.
-pub fn echo(x: usize) -> usize
-    ensures { result ≡ echo_of x }
-{
-    x
-}
+pub use datagram::wrap;
+pub use read::headers;
