@@ -1,6 +1,7 @@
 //! Where the parts of a frame stand (RFC 791 3.1).
 
-ghost use Rattle.std.specs.Prelude.{◌≡◌, ◌+◌, ◌≤◌, length, IsTrue, Some, None, if◌then◌else◌};
+ghost use Rattle.std.specs.Prelude.{◌≡◌, ◌+◌, ◌≤◌, length, IsTrue, Some, None, IfSome, slice_index, if◌then◌else◌};
+ghost use Rattle.ip_frame.specs.Places.{IsPlaced};
 ghost use Rattle.net_types.specs.Frames.{ip_end, ip_total, has_headers, has_ports};
 
 use crate::words::word;
@@ -13,7 +14,7 @@ pub(crate) const CHECKSUM: usize = 24;
 
 pub(crate) const PROTOCOL: usize = 23;
 
-const TCP: u8 = 6;
+pub(crate) const TCP: u8 = 6;
 
 const UDP: u8 = 17;
 
@@ -50,7 +51,8 @@ pub(crate) fn has_headers(frame: &[u8]) -> bool
 /// Where the ports stand: in the first fragment of TCP or UDP, with the least header of either behind the IPv4 header.
 pub(crate) fn ports_at(frame: &[u8]) -> Option<usize>
     requires { IsTrue (has_headers frame.now) }
-    ensures { result ≡ (if has_ports frame.now then Some (ip_end frame.now) else None) }
+    ensures value { result ≡ (if has_ports frame.now then Some (ip_end frame.now) else None) }
+    ensures placed { IfSome result (λ at. IsPlaced (slice_index frame.now 23) (length frame.now) at) }
 {
     let start = header_end(frame);
     let least = match frame[PROTOCOL] {

@@ -5,8 +5,11 @@
 mod checksum;
 mod datagram;
 mod layout;
+mod ports;
 mod read;
 mod words;
+mod write;
 
 pub use datagram::wrap;
 pub use read::headers;
+pub use write::rewrite;
