@@ -1,1 +1,4 @@
 pub mod WordLemmas
+pub mod SumLemmas
+pub mod ChangeLemmas
+pub mod WrittenLemmas
