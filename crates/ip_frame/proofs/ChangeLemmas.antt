@@ -4,8 +4,9 @@ use Rattle.std.proofs.lemmas.Bool.{eqb-true}
 use Rattle.net_types.specs.Octets.{word_at, address_at}
 use Rattle.net_types.specs.Frames.{Change, change_of, changes_of_address, put_word, put_changes}
 use Rattle.net_types.specs.declared.address.Ip.{Ip}
+use Rattle.ip_frame.specs.Places.{AreOctets}
 use Rattle.ip_frame.specs.Sums.{with_address}
-use Rattle.ip_frame.proofs.WordLemmas.{AreOctets, length-put_word, put_word-other, put_word-same}
+use Rattle.ip_frame.proofs.WordLemmas.{length-put_word, put_word-other, put_word-same}
 use Rattle.ip_frame.proofs.SumLemmas.{changes-words}
 
 -- the octets from a place to another are the same in both frames, and both are as long

@@ -4,8 +4,9 @@ use Rattle.std.proofs.lemmas.Bool.{eqb-true}
 use Rattle.net_types.specs.Octets.{word_at, address_at}
 use Rattle.net_types.specs.Frames.{Change, change_of, changes_of_address, folded, sum_changes, put_word, put_checksum, put_udp_checksum}
 use Rattle.net_types.specs.declared.address.Ip.{Ip}
+use Rattle.ip_frame.specs.Places.{AreOctets}
 use Rattle.ip_frame.specs.Sums.{difference, difference_at, updated, updated_udp, with_checksum, with_udp_checksum}
-use Rattle.ip_frame.proofs.WordLemmas.{put_word-same, AreOctets}
+use Rattle.ip_frame.proofs.WordLemmas.{put_word-same}
 
 sum_by_test : (b : Bool) (at old new : ℕ) → sum_changes (cond b [] (record { at = at; old = old; new = new } ∷ [])) ≡ cond b 0 (65535 - old + new)
 sum_by_test true at old new = refl

@@ -6,10 +6,6 @@ use Rattle.std.proofs.lemmas.List.Edits.{sets-eq}
 use Rattle.net_types.specs.Octets.{word_at}
 use Rattle.net_types.specs.Frames.{put_word}
 
--- each octet is below 256
-abbrev pub AreOctets : List ℕ → Type 0
-AreOctets f = (k : ℕ) → get_or f k 0 < 256
-
 -- two octets are set
 put_word-sets : (at n : ℕ) (f : List ℕ) → at + 2 ≤ length f → put_word at n f ≡ set (set f at (n / 256)) (suc at) (n % 256)
 put_word-sets at n f in_frame =

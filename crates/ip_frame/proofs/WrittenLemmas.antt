@@ -7,11 +7,11 @@ use Rattle.net_types.specs.Frames.{Change, change_of, changes_of_address, change
 use Rattle.net_types.specs.declared.headers.Headers.{Headers}
 use Rattle.net_types.specs.declared.address.PortNo.{PortNo}
 use Rattle.net_types.specs.declared.address.Mac.{Mac}
-use Rattle.ip_frame.specs.Places.{IsPlaced}
+use Rattle.ip_frame.specs.Places.{AreOctets, IsPlaced}
 use Rattle.ip_frame.specs.Sums.{difference, with_checksum, with_udp_checksum, with_address}
 use Rattle.ip_frame.specs.Rewriting.{CanReplace, CanTake, ports_of, ports_with, addresses_difference, ports_difference, with_port_checksum, with_checksums, with_fields}
 use Rattle.ip_frame.specs.declared.ports.Ports.{Ports}
-use Rattle.ip_frame.proofs.WordLemmas.{AreOctets, length-put_word, put_word-other}
+use Rattle.ip_frame.proofs.WordLemmas.{length-put_word, put_word-other}
 use Rattle.ip_frame.proofs.SumLemmas.{sum-append, sum-change_of, sum-address, put_checksum-sum, put_udp_checksum-sum}
 use Rattle.ip_frame.proofs.ChangeLemmas.{SameWithin, same_word, same_behind, same_before, same_behind_address, put_changes-append, put_both, put_address-changes}
 

@@ -2,7 +2,7 @@
 
 ghost use Rattle.std.specs.Prelude.{◌≡◌, ◌+◌, ◌<◌, ◌≤◌, ◌^◌, length, IfSome};
 ghost use Rattle.net_types.specs.Frames.{put_word};
-ghost use Rattle.ip_frame.specs.Places.{IsPlaced};
+ghost use Rattle.ip_frame.specs.Places.{AreOctets, IsPlaced};
 ghost use Rattle.ip_frame.specs.Rewriting.{CanTake, ports_of, ports_difference, with_port_checksum};
 
 use crate::checksum::{difference, put_checksum, put_udp_checksum};
@@ -25,6 +25,7 @@ impl Ports {
         ensures value { result ≡ ports_of frame.now to.now }
         ensures placed { IfSome result
             (λ ports. IsPlaced to.now.proto (length frame.now) ports.at) }
+        ensures octets { AreOctets frame.now }
     {
         Some(Ports {
             at: ports_at(frame)?,
