@@ -38,12 +38,7 @@ fn address(frame: &[u8], at: usize) -> Ip
     requires { at + 4 ≤ length frame.now }
     ensures { result ≡ address_at at frame.now }
 {
-    Ip(u32::from_be_bytes([
-        frame[at],
-        frame[at + 1],
-        frame[at + 2],
-        frame[at + 3],
-    ]))
+    Ip(u32::from_be_bytes([frame[at], frame[at + 1], frame[at + 2], frame[at + 3]]))
 }
 
 /// The request that a frame is. None exactly where it is no request: it has fewer than 42 octets, or octets 12 to 21

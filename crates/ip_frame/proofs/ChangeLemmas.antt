@@ -25,9 +25,9 @@ pub same_behind : (f g : List ℕ) (at n low high : ℕ) → at + 2 ≤ length g
 same_behind f g at n low high room from s = record {
   as_long = length-put_word at n g room ∙ s.as_long;
   same = λ k above below.
-    let first : k ≢ at = omega arith in
-    let second : k ≢ at + 1 = omega arith in
-    put_word-other at n g k room first second ∙ s.same k (omega arith) below;
+      let first : k ≢ at = omega arith in
+      let second : k ≢ at + 1 = omega arith in
+      put_word-other at n g k room first second ∙ s.same k (omega arith) below;
 }
 
 -- a word that is put behind leaves what is in front of it
@@ -35,9 +35,9 @@ pub same_before : (f g : List ℕ) (at n low high : ℕ) → at + 2 ≤ length g
 same_before f g at n low high room behind s = record {
   as_long = length-put_word at n g room ∙ s.as_long;
   same = λ k above below.
-    let first : k ≢ at = omega arith in
-    let second : k ≢ at + 1 = omega arith in
-    put_word-other at n g k room first second ∙ s.same k above below;
+      let first : k ≢ at = omega arith in
+      let second : k ≢ at + 1 = omega arith in
+      put_word-other at n g k room first second ∙ s.same k above below;
 }
 
 put_change_by_test : (b : Bool) (at old new : ℕ) (g : List ℕ) → (b ≡ true → put_word at new g ≡ g) → put_changes (cond b [] (record { at = at; old = old; new = new } ∷ [])) g ≡ put_word at new g

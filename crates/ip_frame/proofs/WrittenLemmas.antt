@@ -76,7 +76,7 @@ without_ports f to port room octets none =
     let xs = addresses f to in
     let g = checksummed f to in
     let no_ports : changes_of_port (ip_end f) (port_at 0 f) to.sport ++ changes_of_port (ip_end f + 2) (port_at 2 f) to.dport ≡ []
-        = λ i. changes_of_port (ip_end f) (cond (none i) (Some (word_at (ip_end f + 0) f)) None) to.sport ++ changes_of_port (ip_end f + 2) (cond (none i) (Some (word_at (ip_end f + 2) f)) None) to.dport in
+    = λ i. changes_of_port (ip_end f) (cond (none i) (Some (word_at (ip_end f + 0) f)) None) to.sport ++ changes_of_port (ip_end f + 2) (cond (none i) (Some (word_at (ip_end f + 2) f)) None) to.dport in
     ap (λ ys. put_changes (xs ++ ys) (put_port_checksum h (xs ++ ys) (put_checksum 24 xs f))) no_ports
     ∙ (ap (λ k. put_changes (xs ++ []) (put_port_checksum h (xs ++ []) k)) (put_first f to room octets)
     ∙ (ap (λ b. put_changes (xs ++ []) (cond b (cond (nat_eq h.proto 6) (put_checksum (ip_end g + 16) (xs ++ []) g) (put_udp_checksum (ip_end g + 6) (xs ++ []) g)) g)) (same_ports f _ room ∙ none)
@@ -115,10 +115,10 @@ put_transport f g proto cs sum p placed octets s adds =
     let least = placed.udp in
     either (nat_eq proto 6) _ _ _ _
     (λ is. let room = placed.tcp (eqb-true proto 6 is) in
-        put_checksum-sum (p.at + 16) cs g (omega arith) (octet_within f g 26 (p.at + 20) (p.at + 16) octets within (omega arith) (omega arith)) (octet_within f g 26 (p.at + 20) (p.at + 16 + 1) octets within (omega arith) (omega arith))
-        ∙ ap (λ n. with_checksum (p.at + 16) n g) adds)
+    put_checksum-sum (p.at + 16) cs g (omega arith) (octet_within f g 26 (p.at + 20) (p.at + 16) octets within (omega arith) (omega arith)) (octet_within f g 26 (p.at + 20) (p.at + 16 + 1) octets within (omega arith) (omega arith))
+    ∙ ap (λ n. with_checksum (p.at + 16) n g) adds)
     (put_udp_checksum-sum (p.at + 6) cs g (omega arith) (octet_within f g 26 (p.at + 20) (p.at + 6) octets within (omega arith) (omega arith)) (octet_within f g 26 (p.at + 20) (p.at + 6 + 1) octets within (omega arith) (omega arith))
-        ∙ ap (λ n. with_udp_checksum (p.at + 6) n g) adds)
+    ∙ ap (λ n. with_udp_checksum (p.at + 6) n g) adds)
 
 -- it stands behind the fields
 same_transport : (f g : List ℕ) (proto sum : ℕ) (p : Ports) → IsPlaced proto (length f) p.at → SameWithin f g 26 (p.at + 4) → SameWithin f (with_port_checksum p.at proto sum g) 26 (p.at + 4)
@@ -155,7 +155,7 @@ with_ports f to port s d room octets some proto sport dport placed =
     let sum = addresses_difference f to + ports_difference p g in
     let start : ip_end f + 0 ≡ ip_end f = omega arith in
     let ports : changes_of_port (ip_end f) (port_at 0 f) to.sport ++ changes_of_port (ip_end f + 2) (port_at 2 f) to.dport ≡ ys
-        = λ i. changes_of_port (ip_end f) (cond (some i) (Some (word_at (start i) f)) None) (sport i) ++ changes_of_port (ip_end f + 2) (cond (some i) (Some (word_at (ip_end f + 2) f)) None) (dport i) in
+    = λ i. changes_of_port (ip_end f) (cond (some i) (Some (word_at (start i) f)) None) (sport i) ++ changes_of_port (ip_end f + 2) (cond (some i) (Some (word_at (ip_end f + 2) f)) None) (dport i) in
     let here : has_ports g ≡ true = same_ports f _ room ∙ some in
     let there : ip_end g ≡ ip_end f = same_end f _ room in
     let behind = placed.behind in

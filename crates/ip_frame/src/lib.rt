@@ -7,6 +7,8 @@ mod datagram;
 mod layout;
 mod ports;
 mod read;
+#[cfg(test)]
+mod tests;
 mod words;
 mod write;
 

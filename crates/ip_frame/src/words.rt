@@ -25,12 +25,7 @@ pub(crate) fn address(frame: &[u8], at: usize) -> Ip
     requires { at + 4 ≤ length frame.now }
     ensures { result ≡ address_at at frame.now }
 {
-    Ip(u32::from_be_bytes([
-        frame[at],
-        frame[at + 1],
-        frame[at + 2],
-        frame[at + 3],
-    ]))
+    Ip(u32::from_be_bytes([frame[at], frame[at + 1], frame[at + 2], frame[at + 3]]))
 }
 
 /// The two words of an address, the high one first.

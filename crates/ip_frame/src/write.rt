@@ -18,8 +18,8 @@ fn put_checksums(frame: &mut [u8], to: &Headers, ports: Option<Ports>)
         (λ ports. IsPlaced to.now.proto (length frame.old) ports.at) }
     ensures { frame.new ≡ with_checksums to.now ports frame.old }
 {
-    let addresses =
-        difference_at(frame, SOURCE, to.src) + difference_at(frame, DESTINATION, to.dst);
+    let addresses = difference_at(frame, SOURCE, to.src)
+        + difference_at(frame, DESTINATION, to.dst);
     put_checksum(frame, CHECKSUM, addresses);
     if let Some(ports) = ports {
         ports.put_checksum(frame, to.proto, addresses);
