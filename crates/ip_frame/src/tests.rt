@@ -49,7 +49,7 @@ fn a_datagram_is_wrapped(rt: HostRuntime) -> Result<(), Fail> {
 fn frames_cut_short_have_no_headers(rt: HostRuntime) -> Result<(), Fail> {
     let mut frame = framed(rt.alloc(), &UDP, TO)?;
     frame.extend_from_slice(&[0; 18])?;
-    for len in 0..=60 {
+    for len in 0..=frame.len() {
         let found = headers(PortNo(1), &frame[..len]);
         assert!(rt; found.is_some() == (len >= 42), "{len} octets");
     }
