@@ -1,5 +1,4 @@
-pub mod WordLemmas
-pub mod SumLemmas
-pub mod ChangeLemmas
-pub mod TakesLemmas
-pub mod WrittenLemmas
+mod WordLemmas
+mod SumLemmas
+mod ChangeLemmas
+mod WrittenLemmas

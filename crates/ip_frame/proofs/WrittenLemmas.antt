@@ -13,9 +13,13 @@ use Rattle.ip_frame.specs.Rewriting.{CanReplace, CanTake, ports_of, ports_with, 
 use Rattle.ip_frame.specs.declared.ports.Ports.{Ports}
 use Rattle.ip_frame.proofs.WordLemmas.{length-put_word, put_word-other}
 use Rattle.ip_frame.proofs.SumLemmas.{sum-append, sum-change_of, sum-address, put_checksum-sum, put_udp_checksum-sum}
-use Rattle.ip_frame.proofs.TakesLemmas.{headers_in}
 use Rattle.ip_frame.proofs.ChangeLemmas.{SameWithin, same_word, same_behind, same_before, same_behind_address, put_changes-append, put_both, put_address-changes}
 
+-- the headers that stand in a frame
+abbrev headers_in : PortNo → List ℕ → Headers
+headers_in port f = record { inport = port; src = address_at 26 f; dst = address_at 30 f; proto = get_or f 23 0; sport = port_at 0 f; dport = port_at 2 f }
+
+-- the changes of both addresses
 abbrev addresses : List ℕ → Headers → List Change
 addresses f to = changes_of_address 26 (address_at 26 f) to.src ++ changes_of_address 30 (address_at 30 f) to.dst
 

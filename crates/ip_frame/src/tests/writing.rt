@@ -37,6 +37,15 @@ fn dport(port: u16) -> Assign {
     }
 }
 
+/// Sets fields of a frame; false where it has no headers.
+fn set_fields(frame: &mut [u8], set: &Assign) -> bool {
+    let Some(h) = headers(PortNo(1), frame) else {
+        return false;
+    };
+    rewrite(frame, &set.apply(&h), NEXT);
+    true
+}
+
 #[test]
 fn headers_are_written(rt: HostRuntime) -> Result<(), Fail> {
     let rows = [
@@ -196,11 +205,7 @@ fn headers_are_written(rt: HostRuntime) -> Result<(), Fail> {
     ];
     for row in &rows {
         let mut frame = framed(rt.alloc(), row.datagram, TO)?;
-        let Some(h) = headers(PortNo(1), &frame) else {
-            assert!(rt; false, "{}", row.name);
-            return Ok(());
-        };
-        rewrite(&mut frame, &row.set.apply(&h), NEXT);
+        assert!(rt; set_fields(&mut frame, &row.set), "{}", row.name);
         let expected = framed(rt.alloc(), row.written, NEXT)?;
         assert!(rt; frame.as_slice() == expected.as_slice(), "{}", row.name);
     }
