@@ -16,13 +16,11 @@ pub struct ArpRequest {
     pub target: Ip,
 }
 
+/// Octets 12 to 21 tell the kind of packet (RFC 826, "Packet format").
 fn is_request(frame: &[u8]) -> bool
     ensures { result ≡ is_arp_request frame.now }
 {
-    if frame.len() < 42 {
-        return false;
-    }
-    frame[12..].starts_with(&REQUEST)
+    frame.len() >= 42 && frame[12..].starts_with(&REQUEST)
 }
 
 fn mac(frame: &[u8], at: usize) -> Mac

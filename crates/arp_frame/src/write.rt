@@ -1,7 +1,7 @@
 //! Writes requests and replies (RFC 826).
 
-ghost use Rattle.std.specs.Prelude.{◌≡◌, ◌<◌, ◌++◌, length};
-ghost use Rattle.net_types.specs.Arp.{arp_reply, arp_request, arp_head};
+ghost use Rattle.std.specs.Prelude.{◌≡◌, ◌++◌};
+ghost use Rattle.net_types.specs.Arp.{arp_reply, arp_request};
 ghost use Rattle.net_types.specs.Octets.{address_octets};
 
 use crate::read::ArpRequest;
@@ -25,8 +25,11 @@ struct Station {
     ip: Ip,
 }
 
+/// A frame from the sender's MAC: the Ethernet header, and then the packet's fields in order (RFC 826, "Packet format").
 fn packet(to: Mac, head: &[u8; 10], sender: Station, target: Station) -> [u8; 42]
-    ensures { result ≡ to.0 ++ sender.mac.0 ++ head.now ++ sender.mac.0 ++ address_octets sender.ip ++ target.mac.0 ++ address_octets target.ip }
+    ensures { result ≡ to.0 ++ sender.mac.0 ++ head.now
+        ++ sender.mac.0 ++ address_octets sender.ip
+        ++ target.mac.0 ++ address_octets target.ip }
 {
     Writer::new()
         .put(&to.0)

@@ -2,7 +2,7 @@
 use Rattle.std.proofs.Common.{◌≡◌, ℕ, ◌+◌, ◌-◌, ◌*◌, ◌/◌, ◌%◌, ◌<◌, ◌≤◌, Bool, true, false, cond, nat_eq, List, [], ◌∷◌, ◌++◌, length, get_or, refl, ap, sym, ◌∙◌, arith}
 use Rattle.std.proofs.lemmas.Bool.{eqb-true}
 use Rattle.net_types.specs.Octets.{word_at, address_at}
-use Rattle.net_types.specs.Frames.{Change, change_of, changes_of_address, folded, sum_changes, put_word, put_checksum, put_udp_checksum}
+use Rattle.net_types.specs.Frames.{Change, change_of, changes_of_address, sum_changes, put_word, put_checksum, put_udp_checksum}
 use Rattle.net_types.specs.declared.address.Ip.{Ip}
 use Rattle.ip_frame.specs.Places.{AreOctets}
 use Rattle.ip_frame.specs.Sums.{difference, difference_at, updated, updated_udp, with_checksum, with_udp_checksum}

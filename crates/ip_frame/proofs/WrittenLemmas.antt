@@ -1,5 +1,5 @@
 -- What is put into a frame, word by word, is what the definition writes.
-use Rattle.std.proofs.Common.{◌≡◌, ◌≢◌, ℕ, ◌+◌, ◌*◌, ◌/◌, ◌%◌, ◌<◌, ◌≤◌, Bool, true, false, cond, nat_eq, nat_le, ◌&&◌, ◌||◌, List, [], ◌∷◌, ◌++◌, drop, length, get_or, refl, ap, sym, subst, ◌∙◌, arith}
+use Rattle.std.proofs.Common.{◌≡◌, ℕ, ◌+◌, ◌*◌, ◌%◌, ◌<◌, ◌≤◌, Bool, true, false, cond, nat_eq, nat_le, ◌&&◌, ◌||◌, List, [], ◌++◌, drop, length, get_or, refl, ap, sym, subst, ◌∙◌, arith}
 use Rattle.std.specs.Prelude.{Option, Some, None, IsSome, is_some, IfSome, IsSomeAnd}
 use Rattle.std.proofs.lemmas.Bool.{eqb-true, false≢true}
 use Rattle.net_types.specs.Octets.{word_at, address_at}
@@ -11,7 +11,7 @@ use Rattle.ip_frame.specs.Places.{AreOctets, IsPlaced}
 use Rattle.ip_frame.specs.Sums.{difference, with_checksum, with_udp_checksum, with_address}
 use Rattle.ip_frame.specs.Rewriting.{CanReplace, CanTake, ports_of, ports_with, addresses_difference, ports_difference, with_port_checksum, with_checksums, with_fields}
 use Rattle.ip_frame.specs.declared.ports.Ports.{Ports}
-use Rattle.ip_frame.proofs.WordLemmas.{length-put_word, put_word-other}
+use Rattle.ip_frame.proofs.WordLemmas.{put_word-other}
 use Rattle.ip_frame.proofs.SumLemmas.{sum-append, sum-change_of, sum-address, put_checksum-sum, put_udp_checksum-sum}
 use Rattle.ip_frame.proofs.ChangeLemmas.{SameWithin, same_word, same_behind, same_before, same_behind_address, put_changes-append, put_both, put_address-changes}
 

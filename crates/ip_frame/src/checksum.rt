@@ -7,7 +7,7 @@ ghost use Rattle.ip_frame.specs.Sums.{difference, difference_at, updated, update
 use crate::words::{put_word, word, words_of};
 use net_types::Ip;
 
-/// What a word adds to the sum.
+/// What a word adds to the sum: nothing where it stays, since a checksum of 65535 would become 0.
 pub(crate) fn difference(old: u16, new: u16) -> u32
     ensures value { result ≡ difference old new }
     ensures bound { result < 2 ^ 17 }
@@ -37,7 +37,7 @@ fn folded(sum: u32) -> u16
     (once % 65536 + once / 65536) as u16
 }
 
-/// HC' = ~(~HC + ~m + m').
+/// HC' = ~(~HC + ~m + m'). A sum of 0 leaves the checksum as it is.
 fn updated(old: u16, sum: u32) -> u16
     requires { sum < 2 ^ 30 }
     ensures { result ≡ updated old sum }
@@ -59,6 +59,7 @@ fn updated_udp(old: u16, sum: u32) -> u16
     }
 }
 
+/// Writes the checksum at a place as it is after the sum.
 pub(crate) fn put_checksum(frame: &mut [u8], at: usize, sum: u32)
     requires place { at + 2 ≤ length frame.old }
     requires sum { sum < 2 ^ 30 }
@@ -68,6 +69,7 @@ pub(crate) fn put_checksum(frame: &mut [u8], at: usize, sum: u32)
     put_word(frame, at, updated(old, sum));
 }
 
+/// The same by the rules of UDP.
 pub(crate) fn put_udp_checksum(frame: &mut [u8], at: usize, sum: u32)
     requires place { at + 2 ≤ length frame.old }
     requires sum { sum < 2 ^ 30 }

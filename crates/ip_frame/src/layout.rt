@@ -1,4 +1,4 @@
-//! Where the parts of a frame stand (RFC 791 3.1).
+//! Where the parts of a frame stand, in octets from its start (RFC 791 3.1).
 
 ghost use Rattle.std.specs.Prelude.{◌≡◌, ◌+◌, ◌≤◌, length, IsTrue, Some, None, IfSome, slice_index, if◌then◌else◌};
 ghost use Rattle.ip_frame.specs.Places.{IsPlaced};
@@ -34,7 +34,7 @@ fn total_end(frame: &[u8]) -> usize
     14 + usize::from(word(frame, 16))
 }
 
-/// Whether a whole IPv4 datagram stands in the frame. Its header checksum isn't looked at.
+/// Whether a whole IPv4 datagram stands in the frame, with or without octets behind it. Its checksum isn't looked at.
 pub(crate) fn has_headers(frame: &[u8]) -> bool
     ensures { result ≡ has_headers frame.now }
 {
@@ -48,7 +48,8 @@ pub(crate) fn has_headers(frame: &[u8]) -> bool
         && total_end(frame) <= frame.len()
 }
 
-/// Where the ports stand: in the first fragment of TCP or UDP, with the least header of either behind the IPv4 header.
+/// Where the ports stand: in a first fragment, with at least a whole header of TCP (RFC 9293 3.1) or UDP (RFC 768) in the
+/// total length.
 pub(crate) fn ports_at(frame: &[u8]) -> Option<usize>
     requires { IsTrue (has_headers frame.now) }
     ensures value { result ≡ (if has_ports frame.now then Some (ip_end frame.now) else None) }

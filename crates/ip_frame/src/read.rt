@@ -1,7 +1,6 @@
 //! Reads the headers of a frame.
 
-ghost use Rattle.std.specs.Prelude.{◌≡◌, ◌+◌, ◌≤◌, length, IfSome, option_map};
-ghost use Rattle.net_types.specs.Octets.{word_at};
+ghost use Rattle.std.specs.Prelude.{◌≡◌};
 ghost use Rattle.net_types.specs.Frames.{headers_of};
 
 use crate::layout::{DESTINATION, PROTOCOL, SOURCE, has_headers, ports_at};

@@ -11,7 +11,7 @@ use crate::ports::Ports;
 use crate::words::put_address;
 use net_types::{Headers, Mac};
 
-/// Writes the checksums, from the words that the fields still have and those that they will have.
+/// Writes the checksums. They come first, since they change by the words that the fields still have.
 fn put_checksums(frame: &mut [u8], to: &Headers, ports: Option<Ports>)
     requires room { 34 ≤ length frame.old }
     requires placed { IfSome ports
@@ -26,6 +26,7 @@ fn put_checksums(frame: &mut [u8], to: &Headers, ports: Option<Ports>)
     }
 }
 
+/// Writes the addresses, and the ports where the frame has some.
 fn put_fields(frame: &mut [u8], to: &Headers, ports: Option<Ports>)
     requires room { 34 ≤ length frame.old }
     requires placed { IfSome ports

@@ -56,6 +56,33 @@ fn headers_are_written(rt: HostRuntime) -> Result<(), Fail> {
             written: &UDP,
         },
         Writing {
+            name: "the last address of the lower half, no change",
+            datagram: &[
+                0x4500, 0x001c, 0, 0, 0x4011, 0xeece, 0x7fff, 0xffff, 0x0a01, 0x0203, 0x03e8,
+                0x0050, 8, 0,
+            ],
+            set: Assign::none(),
+            written: &[
+                0x4500, 0x001c, 0, 0, 0x4011, 0xeece, 0x7fff, 0xffff, 0x0a01, 0x0203, 0x03e8,
+                0x0050, 8, 0,
+            ],
+        },
+        Writing {
+            name: "the port that it has",
+            datagram: &UDP,
+            set: dport(80),
+            written: &UDP,
+        },
+        Writing {
+            name: "port 81 becomes 80",
+            datagram: &[
+                0x4500, 0x001c, 0, 0, 0x4011, 0xaccc, 0xc000, 0x0201, 0x0a01, 0x0203, 0x03e8,
+                0x0051, 8, 0,
+            ],
+            set: dport(80),
+            written: &UDP,
+        },
+        Writing {
             name: "RFC 1624 4, in the IPv4 checksum",
             datagram: &[
                 0x4500, 0x0014, 0, 0, 0x4001, 0xdd2f, 0xc000, 0x0201, 0x5555, 0x0203,

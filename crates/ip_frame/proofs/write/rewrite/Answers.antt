@@ -1,4 +1,4 @@
-use Rattle.std.proofs.Common.{◌≡◌, ◌≤◌, ◌++◌, length, sym, drop, ap, ◌∙◌, rules}
+use Rattle.std.proofs.Common.{◌≤◌, ◌++◌, length, sym, drop, ap, ◌∙◌, rules}
 use Rattle.std.specs.Prelude.{IfSome}
 use Rattle.ip_frame.specs.Places.{IsPlaced}
 use Rattle.ip_frame.specs.Rewriting.{ports_of, with_checksums, with_fields}
