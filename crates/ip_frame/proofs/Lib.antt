@@ -1,0 +1,4 @@
+mod WordLemmas
+mod SumLemmas
+mod ChangeLemmas
+mod WrittenLemmas
