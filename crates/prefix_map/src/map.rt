@@ -37,7 +37,7 @@ impl<V> Model for PrefixMap<V> {
 }
 
 impl<V> PrefixMap<V> {
-    /// The empty map, without room.
+    /// The empty map.
     pub fn new(alloc: Global) -> PrefixMap<V>
         ensures { result.map ≡ map.empty }
     {
@@ -113,12 +113,10 @@ impl<V: Drop> PrefixMap<V> {
     {
         match place(&self.entries, key) {
             Ok(at) => Some(mem::replace(&mut self.entries[at].1, value)),
-            Err(at) => {
-                if self.entries.insert(at, (key, value)).is_err() {
-                    unreachable!();
-                }
-                None
-            }
+            Err(at) => match self.entries.insert(at, (key, value)) {
+                Ok(()) => None,
+                Err(_) => unreachable!(),
+            },
         }
     }
 
