@@ -1,6 +1,6 @@
 //! The map, over a vector of entries whose prefixes rise.
 
-ghost use Rattle.std.specs.Prelude.{◌≡◌, ◌≢◌, ◌≤◌, ◌<◌, ◌+◌, Some, None, IsTrue, IsOk, OnOk, OnErr, IfOk, IfSome, option_copied, is_some, if◌then◌else◌};
+ghost use Rattle.std.specs.Prelude.{◌≡◌, ◌≤◌, ◌<◌, ◌+◌, Some, None, IsTrue, IsOk, OnOk, OnErr, IfOk, IfSome, option_copied, is_some, if◌then◌else◌};
 ghost use Rattle.std.specs.FinMap as map;
 ghost use Rattle.std.specs.Option.{option_map};
 ghost use Rattle.net_types.specs.Prefixes.{covers};
@@ -46,11 +46,12 @@ impl<V> PrefixMap<V> {
         }
     }
 
-    /// Makes room for so many new prefixes.
+    /// Makes room for so many new prefixes. It takes memory only where there is less.
     pub fn reserve(&mut self, entries: usize) -> Result<(), Memory>
         ensures map { self.new.map ≡ self.old.map }
         ensures room { OnOk result (entries ≤ self.new.room) }
         ensures kept { self.old.room ≤ self.new.room }
+        ensures enough { entries ≤ self.old.room → IsOk result }
     {
         self.entries.reserve(entries)?;
         Ok(())
@@ -89,14 +90,14 @@ impl<V> PrefixMap<V> {
 }
 
 impl<V: Drop> PrefixMap<V> {
-    /// Gives a prefix a value, and answers the one before. It takes memory only for a new prefix, and after want of
-    /// it the map is as it was.
+    /// Gives a prefix a value, and answers the one before. It takes memory only for a new prefix without room, and
+    /// after want of it the map is as it was.
     pub fn insert(&mut self, key: Prefix, value: V) -> Result<Option<V>, Memory>
         ensures value { IfOk result (λ before. before ≡ map.get self.old.map key) }
         ensures map { OnOk result (self.new.map ≡ map.insert self.old.map key value) }
         ensures unchanged { OnErr result (self.new.map ≡ self.old.map) }
-        ensures known { map.get self.old.map key ≢ None → IsOk result }
         ensures room { self.old.room ≤ self.new.room + (if is_some (map.get self.old.map key) then 0 else 1) }
+        ensures enough { (map.get self.old.map key ≡ None → 0 < self.old.room) → IsOk result }
     {
         if self.get(key).is_none() {
             self.reserve(1)?;
