@@ -43,7 +43,7 @@ fn a_prefix_is_given_a_value_twice(rt: HostRuntime) -> Result<(), Fail> {
     assert!(rt; map.insert(ten, 1)? == Some(1));
     map.reserve(1)?;
     assert!(rt; map.put(Prefix::any(), 2) == None);
-    assert!(rt; map.put(Prefix::any(), 3) == Some(2));
+    assert!(rt; map.insert(Prefix::any(), 3)? == Some(2));
     assert!(rt; map.get(Prefix::any()) == Some(&3));
     Ok(())
 }

@@ -1,4 +1,4 @@
-use Rattle.std.proofs.Common.{◌≡◌, rules}
+use Rattle.std.proofs.Common.{rules}
 use Rattle.std.proofs.lemmas.Fn.{always_returns_same}
 use Rattle.net_types.specs.Keys.{prefix_cmp}
 use Rattle.prefix_map.proofs.SearchLemmas.{searched}

@@ -1,4 +1,4 @@
-use Rattle.std.proofs.Common.{◌≡◌, ◌-◌, ◌+◌, Some, None, sym, ap, subst, ◌∙◌, arith}
+use Rattle.std.proofs.Common.{◌≡◌, ◌-◌, ◌+◌, sym, ap, subst, ◌∙◌, arith}
 use Rattle.std.specs.Prelude.{option_copied}
 use Rattle.net_types.proofs.CoverLemmas.{NoneFrom, none_from, none_longest, first_longest}
 use Rattle.prefix_map.proofs.map.PrefixMap.longest.Goals as goal

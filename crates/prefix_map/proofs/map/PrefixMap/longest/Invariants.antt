@@ -1,4 +1,3 @@
-use Rattle.std.proofs.Common.{◌≤◌}
 use Rattle.net_types.proofs.CoverLemmas.{NoneFrom}
 use Rattle.prefix_map.proofs.map.PrefixMap.longest.Given as goal
 

@@ -1,10 +1,4 @@
-use Rattle.std.proofs.Common.{◌≡◌, Some, true, not, cond, set, sym, ap, subst, ◌∙◌, arith}
-use Rattle.std.proofs.lemmas.Bool.{false≢true}
-use Rattle.std.proofs.lemmas.List.{get_or_default}
-use Rattle.std.specs.List as List
-use Rattle.std.specs.FinMap.{from_sorted}
-use Rattle.std.specs.FinMap.Entries.{is_sorted}
-use Rattle.net_types.specs.Keys.{prefix_cmp}
+use Rattle.std.proofs.Common.{Some, set, sym, ap, ◌∙◌, arith}
 use Rattle.net_types.specs.declared.prefix.Prefix.{Prefix}
 use Rattle.prefix_map.proofs.SearchLemmas.{get_at, get_gap, set_at, insert_gap, carried, seen}
 use Rattle.prefix_map.proofs.map.PrefixMap.put.Goals as goal

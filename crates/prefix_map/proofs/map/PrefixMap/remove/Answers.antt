@@ -1,7 +1,4 @@
-use Rattle.std.proofs.Common.{◌≡◌, Some, true, sym, ap, subst, ◌∙◌}
-use Rattle.std.specs.FinMap.{from_sorted}
-use Rattle.std.specs.FinMap.Entries.{is_sorted}
-use Rattle.net_types.specs.Keys.{prefix_cmp}
+use Rattle.std.proofs.Common.{Some, sym, ap, ◌∙◌}
 use Rattle.net_types.specs.declared.prefix.Prefix.{Prefix}
 use Rattle.prefix_map.proofs.SearchLemmas.{get_at, get_gap, remove_at, remove_gap, carried, seen}
 use Rattle.prefix_map.proofs.map.PrefixMap.remove.Goals as goal
