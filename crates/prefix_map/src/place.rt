@@ -16,7 +16,7 @@ fn order(a: Prefix, b: Prefix) -> Ordering
 }
 
 /// The place of the entry that has the key, or else the place where it would go.
-pub fn place<V>(entries: &[(Prefix, V)], key: Prefix) -> Result<usize, usize>
+pub(crate) fn place<V>(entries: &[(Prefix, V)], key: Prefix) -> Result<usize, usize>
     requires rising { IsTrue (is_sorted prefix_cmp entries.now) }
     ensures found { IfOk result (IsAt entries.now key) }
     ensures absent { IfErr result (IsGapFor entries.now key) }
