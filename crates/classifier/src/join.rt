@@ -25,12 +25,6 @@ pub fn join_results(join: Join, a: &Results, b: &Results) -> Result<Results, Mem
             both.push_all(b)?;
             Ok(both)
         }
-        Join::Otherwise => {
-            if a.is_empty() {
-                b.copy()
-            } else {
-                a.copy()
-            }
-        }
+        Join::Otherwise => { if a.is_empty() { b.copy() } else { a.copy() } }
     }
 }

@@ -32,12 +32,7 @@ fn push_row(
 }
 
 /// The rules of both lists, joined, without those that can't be reached.
-pub fn product_of(
-    alloc: Global,
-    join: Join,
-    xs: &[Line],
-    ys: &[Line],
-) -> Result<Vec<Line>, Memory>
+pub fn product_of(alloc: Global, join: Join, xs: &[Line], ys: &[Line]) -> Result<Vec<Line>, Memory>
     ensures { IfOk result (λ v. v.items ≡ add_lines [] (product join xs.now ys.now)) }
 {
     let mut lines = Vec::new(alloc);

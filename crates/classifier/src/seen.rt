@@ -19,11 +19,7 @@ fn is_hidden(seen: &HashSet<Cube>, cube: &Cube) -> bool
 }
 
 /// Puts a rule last that can be reached.
-fn push_reached(
-    lines: &mut Vec<Line>,
-    seen: &mut HashSet<Cube>,
-    next: Line,
-) -> Result<(), Memory>
+fn push_reached(lines: &mut Vec<Line>, seen: &mut HashSet<Cube>, next: Line) -> Result<(), Memory>
     requires agrees { Agrees lines.old.items seen.old }
     requires reached { (contains cube_eq seen.old next.cube || contains cube_eq seen.old everything) ≡ false }
     ensures lines { OnOk result (lines.new.items ≡ add_line lines.old.items next) }
@@ -35,11 +31,7 @@ fn push_reached(
 }
 
 /// Puts a rule last, where it can be reached.
-pub fn push_line(
-    lines: &mut Vec<Line>,
-    seen: &mut HashSet<Cube>,
-    next: Line,
-) -> Result<(), Memory>
+pub fn push_line(lines: &mut Vec<Line>, seen: &mut HashSet<Cube>, next: Line) -> Result<(), Memory>
     requires { Agrees lines.old.items seen.old }
     ensures lines { OnOk result (lines.new.items ≡ add_line lines.old.items next) }
     ensures agrees { OnOk result (Agrees lines.new.items seen.new) }
