@@ -1,3 +1,4 @@
+-- What the lists of the operations decide for headers.
 use Rattle.std.proofs.Common.{◌≡◌, Bool, true, false, ◌&&◌, cond, Option, Some, None, unwrap_or, List, [], ◌∷◌, ◌++◌, map, refl, inl, inr, sym, ap, ◌∙◌, subst}
 use Rattle.std.specs.Option.{option_map}
 use Rattle.std.proofs.lemmas.Bool.{cases_Bool, or_cases, and_parts, false≢true}
@@ -12,8 +13,8 @@ use Rattle.classifier.specs.declared.line.Line.{Line}
 use Rattle.classifier.specs.declared.join.Join.{Join}
 use Rattle.classifier.specs.declared.join.Join.TheVariants.{Union}
 use Rattle.classifier.specs.Items.{Item, is_among, add, add_all}
-use Rattle.classifier.specs.Lines.{decide, same_cube, shadows, is_shadowed, add_line, add_lines, joined, line, cons_line, row, product, after, after_all, pulled, block, composed}
-use Rattle.classifier.specs.Meaning.{given, ends_with_everything}
+use Rattle.classifier.specs.Lines.{same_cube, shadows, is_shadowed, add_line, add_lines, joined, line, cons_line, row, product, after, after_all, pulled, block, composed}
+use Rattle.classifier.specs.Meaning.{given, ends_with_everything, decide}
 use Rattle.classifier.proofs.ItemLemmas.{among-member, Member-push}
 
 -- ---- options

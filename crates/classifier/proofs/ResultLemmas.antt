@@ -1,3 +1,4 @@
+-- What the operations make of a packet, and which cubes and assignments stand in them.
 use Rattle.std.proofs.Common.{◌≡◌, ℕ, ◌⊎◌, cond, Option, Some, None, unwrap_or, List, [], ◌∷◌, ◌++◌, map, refl, inl, inr, sym, ap, ◌∙◌, subst}
 use Rattle.std.specs.Option.{option_map}
 use Rattle.net_types.specs.declared.address.Ip.{Ip}
@@ -16,8 +17,8 @@ use Rattle.classifier.specs.declared.line.Line.{Line}
 use Rattle.classifier.specs.declared.join.Join.{Join}
 use Rattle.classifier.specs.declared.join.Join.TheVariants.{Union, Otherwise}
 use Rattle.classifier.specs.Items.{Item}
-use Rattle.classifier.specs.Lines.{tested, turned, negated, decide, add_lines, joined, line, product, after, composed}
-use Rattle.classifier.specs.Meaning.{only_where_none, otherwise, Follows, Packet, given, carried, meaning, cubes_of, assigns_of}
+use Rattle.classifier.specs.Lines.{tested, turned, negated, add_lines, joined, line, product, after, composed}
+use Rattle.classifier.specs.Meaning.{only_where_none, otherwise, Follows, Packet, given, carried, meaning, cubes_of, assigns_of, decide}
 use Rattle.classifier.proofs.DecideLemmas.{Given, given_is, decide-add_lines, decide-product, decide-composed, gathered, same_add_all, same_gathered}
 use Rattle.std.proofs.lemmas.Bool.{cases_Bool}
 use Rattle.net_types.proofs.CubeLemmas.{has-everything}

@@ -1,3 +1,4 @@
+-- The set of the cubes seen tells which lines can be reached.
 use Rattle.std.proofs.Common.{◌≡◌, Bool, true, false, eqb, ◌&&◌, ◌||◌, cond, Option, Some, None, List, [], ◌∷◌, ◌++◌, refl, inl, inr, sym, ap, ◌∙◌}
 use Rattle.std.specs.Option.{option_eq}
 use Rattle.std.specs.HashSet.{HashSet, contains}
@@ -11,19 +12,10 @@ use Rattle.net_types.proofs.PrefixLemmas.{prefix_ext}
 use Rattle.net_types.proofs.CubeLemmas.{cubes_antisym, within_refl, within-from_has, has-everything, built, ports_exact}
 use Rattle.classifier.specs.declared.line.Line.{Line}
 use Rattle.classifier.specs.Lines.{same_cube, is_shadowed, add_line}
+use Rattle.classifier.proofs.ItemLemmas.{option_eq_exact, option_eq_refl}
 use Rattle.classifier.specs.Seen.{is_there, prefix_eq, cube_eq, Agrees}
 
 -- ---- the set's equality
-
-option_eq_exact : {A : Type 0} (same : A → A → Bool) → ((x y : A) → same x y ≡ true → x ≡ y) → (a b : Option A) → option_eq same a b ≡ true → a ≡ b
-option_eq_exact same exact None None h = refl
-option_eq_exact same exact None (Some y) h = absurd (false≢true h)
-option_eq_exact same exact (Some x) None h = absurd (false≢true h)
-option_eq_exact same exact (Some x) (Some y) h = ap Some (exact x y h)
-
-option_eq_refl : {A : Type 0} (same : A → A → Bool) → ((x : A) → same x x ≡ true) → (a : Option A) → option_eq same a a ≡ true
-option_eq_refl same alike None = refl
-option_eq_refl same alike (Some x) = alike x
 
 prefix_eq_exact : (p q : Prefix) → prefix_eq p q ≡ true → p ≡ q
 prefix_eq_exact p q h = let parts = and_parts (eqb p.address.0 q.address.0) (eqb p.len q.len) h in prefix_ext p q (eqb-true _ _ parts.0) (eqb-true _ _ parts.1)

@@ -1,3 +1,4 @@
+-- The set of the cubes of a list of rules.
 use Rattle.std.specs.Prelude.{◌≡◌, ◌==◌, nat_eq, Bool, false, ◌&&◌, ◌||◌, List, [], ◌∷◌}
 use Rattle.std.specs.Option.{option_eq}
 use Rattle.std.specs.HashSet.{HashSet, contains}
@@ -14,6 +15,7 @@ abbrev pub is_there : List Line → Cube → Bool
 is_there [] c = false
 is_there (x ∷ xs) c = same_cube x.cube c || is_there xs c
 
+-- the prefixes are equal, field by field
 abbrev pub prefix_eq : Prefix → Prefix → Bool
 prefix_eq p q = (p.address.0 == q.address.0) && (p.len == q.len)
 

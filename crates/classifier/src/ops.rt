@@ -7,11 +7,11 @@ ghost use Rattle.net_types.specs.declared.headers.Loc.{Loc as AnyLoc};
 ghost use Rattle.net_types.specs.declared.headers.Assign.{Assign as AnyAssign};
 ghost use Rattle.net_types.specs.Meets.{IsMeet, behind};
 ghost use Rattle.net_types.specs.Sets.{Member, SameMembers, union_over};
-ghost use Rattle.classifier.specs.Lines.{add_lines, product, composed, IsTight};
+ghost use Rattle.classifier.specs.Lines.{add_lines, product, composed};
 ghost use Rattle.classifier.specs.declared.line.Line.{Line as AnyLine};
 ghost use Rattle.net_types.specs.Headers.{no_change};
 ghost use Rattle.net_types.specs.Cubes.{has, everything};
-ghost use Rattle.classifier.specs.Meaning.{otherwise, only_where_none, Follows, carried};
+ghost use Rattle.classifier.specs.Meaning.{otherwise, only_where_none, Follows, carried, IsTight};
 ghost use Rattle.classifier.specs.Classifiers.{lines_of, meaning, cubes_of, assigns_of};
 
 use crate::classifier::Classifier;

@@ -1,8 +1,8 @@
 use Rattle.std.proofs.Common.{◌≡◌, ◌≤◌, List, [], ◌+◌, length, sym, ap, ◌∙◌, subst, arith}
 use Rattle.net_types.specs.Sets.{Member}
 use Rattle.classifier.specs.declared.line.Line.{Line}
-use Rattle.classifier.specs.Lines.{tightened, IsTight}
-use Rattle.classifier.specs.Meaning.{HasDistinctCubes, ends_with_everything}
+use Rattle.classifier.specs.Lines.{tightened}
+use Rattle.classifier.specs.Meaning.{HasDistinctCubes, ends_with_everything, IsTight}
 use Rattle.classifier.specs.Meaning as lines
 use Rattle.classifier.specs.Classifiers.{lines_of}
 use Rattle.classifier.proofs.TightLemmas.{distinct-tightened, ends-tightened, tight-tightened, length-tightened, each-tightened, decide-tightened}
