@@ -1,0 +1,7 @@
+use Rattle.std.proofs.Common.{◌≡◌, [], ◌∷◌, drop}
+use Rattle.classifier.specs.Lines.{block, line}
+use Rattle.classifier.proofs.composition.block_of.Given as goal
+
+-- what is left makes the whole
+abbrev pub invariant-loop-pair : goal.invariant-loop-pair
+invariant-loop-pair l = block l.lines.items (drop l.pair-index l.pair-items) l.ys ≡ block (line [] l.x.cube ∷ []) l.x.results l.ys

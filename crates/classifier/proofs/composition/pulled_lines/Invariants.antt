@@ -1,0 +1,7 @@
+use Rattle.std.proofs.Common.{◌≡◌, ◌++◌, drop}
+use Rattle.classifier.specs.Lines.{pulled}
+use Rattle.classifier.proofs.composition.pulled_lines.Given as goal
+
+-- what is left makes the whole
+abbrev pub invariant-loop-y : goal.invariant-loop-y
+invariant-loop-y l = l.lines.items ++ pulled l.first (drop l.y-index l.ys) ≡ pulled l.first l.ys

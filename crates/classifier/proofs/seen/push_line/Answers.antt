@@ -1,0 +1,7 @@
+use Rattle.std.proofs.Common.{sym, ◌∙◌}
+use Rattle.classifier.proofs.SeenLemmas.{hidden}
+use Rattle.classifier.proofs.seen.push_line.Goals as goal
+
+pub returns-else-not-is_hidden-clause-lines : goal.returns-else-not-is_hidden-clause-lines
+returns-else-not-is_hidden-clause-lines c =
+    hidden c.args.lines.now.items c.args.seen.now c.requires c.args.next (sym c.is_hidden.ensures ∙ c.if-not-is_hidden.false)

@@ -1,0 +1,30 @@
+//! The results of two rules, joined.
+
+ghost use Rattle.std.specs.Prelude.{◌≡◌, IfOk};
+ghost use Rattle.classifier.specs.Lines.{joined};
+
+use crate::results::Results;
+use net_types::{Memory, TryCopy};
+
+/// How the results of two rules are joined.
+#[derive(Clone, Copy, Debug, PartialEq, Eq)]
+pub enum Join {
+    /// Those of both.
+    Union,
+    /// Those of the second where the first has none.
+    Otherwise,
+}
+
+/// The results of two rules, joined.
+pub fn join_results(join: Join, a: &Results, b: &Results) -> Result<Results, Memory>
+    ensures { IfOk result (λ r. r ≡ joined join a.now b.now) }
+{
+    match join {
+        Join::Union => {
+            let mut both = a.copy()?;
+            both.push_all(b)?;
+            Ok(both)
+        }
+        Join::Otherwise => { if a.is_empty() { b.copy() } else { a.copy() } }
+    }
+}

@@ -1,0 +1,18 @@
+//! Ordered rules over cubes of headers, with the operations of policies on them.
+#![tactic(auto)]
+
+mod classifier;
+mod composition;
+mod filters;
+mod join;
+mod line;
+mod ops;
+mod product;
+mod results;
+mod seen;
+mod tight;
+
+pub use classifier::Classifier;
+pub use line::{Line, Lines};
+pub use ops::{choose, negate, parallel, sequence, single, test, tighten};
+pub use results::Results;

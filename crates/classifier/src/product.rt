@@ -1,0 +1,44 @@
+//! Each rule of one list joined with each of another.
+
+ghost use Rattle.std.specs.Prelude.{◌≡◌, [], IfOk, OnOk};
+ghost use Rattle.classifier.specs.Lines.{add_lines, row, product};
+ghost use Rattle.classifier.specs.Seen.{Agrees};
+
+use crate::join::Join;
+use crate::line::Line;
+use crate::seen::push_joined;
+use net_types::{Cube, Memory};
+use std::alloc::Global;
+use std::collections::HashSet;
+
+/// Adds a rule joined with each of a list.
+fn push_row(
+    lines: &mut Vec<Line>,
+    seen: &mut HashSet<Cube>,
+    join: Join,
+    x: &Line,
+    ys: &[Line],
+) -> Result<(), Memory>
+    requires { Agrees lines.old.items seen.old }
+    ensures lines { OnOk result (lines.new.items ≡ add_lines lines.old.items (row join x.now ys.now)) }
+    ensures agrees { OnOk result (Agrees lines.new.items seen.new) }
+{
+    for y in ys {
+        if let Some(cube) = cube::meet(&x.cube, &y.cube) {
+            push_joined(lines, seen, cube, join, x, y)?;
+        }
+    }
+    Ok(())
+}
+
+/// The rules of both lists, joined, without those that can't be reached.
+pub fn product_of(alloc: Global, join: Join, xs: &[Line], ys: &[Line]) -> Result<Vec<Line>, Memory>
+    ensures { IfOk result (λ v. v.items ≡ add_lines [] (product join xs.now ys.now)) }
+{
+    let mut lines = Vec::new(alloc);
+    let mut seen = HashSet::new(alloc);
+    for x in xs {
+        push_row(&mut lines, &mut seen, join, x, ys)?;
+    }
+    Ok(lines)
+}
