@@ -10,6 +10,8 @@ mod ops;
 mod product;
 mod results;
 mod seen;
+#[cfg(test)]
+mod tests;
 mod tight;
 
 pub use classifier::Classifier;
