@@ -1,7 +1,6 @@
 -- UPDATE messages, check by check (RFC 4271 4.1, 4.3, 6.1, 6.3). The first line that fails gives the fault.
 use Rattle.std.specs.Prelude.{◌≡◌, IsTrue, ℕ, ◌+◌, ◌-◌, ◌*◌, ◌/◌, ◌%◌, ◌^◌, min, Bool, true, false, not, ◌&&◌, ◌||◌, ◌==◌, nat_le, nat_lt, List, [], ◌∷◌, ◌++◌, length, map, take, drop, slice_index, Option, Some, None, is_some, if◌then◌else◌}
 use Rattle.std.specs.List.{list_all}
-use Rattle.grammar.specs.Octets.{among}
 use Rattle.grammar.specs.Formats.{Format, pure, octet, octets, ensure, ◌>>=◌, ◌>>◌, block, items, to_end}
 use Rattle.grammar.specs.Numbers.{big_endian, two_octets}
 use Rattle.net_types.specs.Bits.{same_bits}
@@ -34,8 +33,8 @@ first_bits n a = record { Spells = λ s p. (s ≡ []) × (p.len ≡ n) × IsTrue
 abbrev pub prefix : Format Fault Prefix
 prefix = do
   len ← octet faults.Network
-  ensure (nat_le len 32) faults.Network
   bits ← octets ((len + 7) / 8) faults.Network
+  ensure (nat_le len 32) faults.Network
   first_bits len (padded bits)
 
 -- the numbers in two octets each
@@ -120,14 +119,14 @@ value (Some type) number flags inner = do
   ensure (has_length (type_length type) (length inner)) faults.Length
   known_value type (is_partial flags) inner
 
--- an attribute, of a type that hasn't come before: check 6, and then its value
-abbrev pub attribute : List ℕ → Format Fault Attribute
+-- an attribute, of a type that isn't among those that have come: check 6, and then its value
+abbrev pub attribute : (ℕ → Bool) → Format Fault Attribute
 attribute seen = do
   flags ← octet faults.Malformed
   number ← octet faults.Malformed
   len ← value_length (is_long flags)
   inner ← octets len faults.Malformed
-  ensure (not (among seen number)) faults.Malformed
+  ensure (not (seen number)) faults.Malformed
   value (type_of number) number flags inner
 
 -- the type of an attribute
@@ -143,9 +142,13 @@ number_of (Communities partial ns) = 8
 number_of (attributes.Unknown u) = u.kind
 number_of (Ignored number) = number
 
--- the types that have come
-abbrev pub with_type : List ℕ → Attribute → List ℕ
-with_type seen a = number_of a ∷ seen
+-- no type has come
+abbrev pub no_types : ℕ → Bool
+no_types number = false
+
+-- the types that have come, with that of one attribute more
+abbrev pub with_type : (ℕ → Bool) → Attribute → (ℕ → Bool)
+with_type seen a = λ number. (number == number_of a) || seen number
 
 -- what stands in front of the announced prefixes
 pub record Head : Type 0 where
@@ -175,7 +178,7 @@ head n = do
   ensure (nat_le (withdrawn_len + attributes_len + 23) len) faults.Malformed
   prefixes ← items prefix withdrawn
   attributes ← octets attributes_len faults.Malformed
-  all ← block attribute with_type [] attributes
+  all ← block attribute with_type no_types attributes
   pure (record { withdrawn = prefixes; attributes = all })
 
 -- where a prefix is announced, ORIGIN, AS_PATH and NEXT_HOP are there

@@ -1,5 +1,5 @@
 -- What the parts of an UPDATE message say, whatever order they stand in (RFC 4271 4.3; RFC 1997).
-use Rattle.std.specs.Prelude.{◌≡◌, ℕ, Bool, true, false, not, ◌&&◌, ◌==◌, nat_lt, List, [], ◌∷◌, length, Option, Some, None}
+use Rattle.std.specs.Prelude.{◌≡◌, ℕ, Bool, true, false, not, ◌&&◌, ◌==◌, nat_lt, List, [], ◌∷◌, ◌++◌, length, Option, Some, None}
 use Rattle.std.specs.List.{fold}
 use Rattle.net_types.specs.declared.address.Ip.{Ip}
 use Rattle.net_types.specs.declared.attribute.Attribute.{Attribute}
@@ -34,7 +34,7 @@ with_attribute s LocalPref = s
 with_attribute s AtomicAggregate = record s { atomic = true }
 with_attribute s (attributes.Aggregator a) = record s { aggregator = Some a }
 with_attribute s (Communities partial ns) = record s { communities = ns; communities_partial = partial && not (length ns == 0) }
-with_attribute s (attributes.Unknown u) = record s { unknown = u ∷ s.unknown }
+with_attribute s (attributes.Unknown u) = record s { unknown = s.unknown ++ u ∷ [] }
 with_attribute s (Ignored number) = s
 
 abbrev pub said : List Attribute → Said

@@ -1,6 +1,7 @@
 //! The path attributes that the exchange knows, and attributes as they stand in a message (RFC 4271 4.3, 5; RFC 1997).
 
 ghost use Rattle.std.specs.Prelude.{◌≡◌};
+ghost use Rattle.net_types.specs.UpdateFormat.{number_of};
 ghost use Rattle.net_types.specs.AttributeTypes.{type_of, type_number, type_flags, type_length, has_length};
 
 use crate::address::Ip;
@@ -129,4 +130,24 @@ pub enum Attribute {
     Unknown(Unknown),
     /// Optional and not transitive, of a type that the exchange doesn't know: its type alone.
     Ignored(u8),
+}
+
+impl Attribute {
+    /// The number of its type.
+    pub fn number(&self) -> u8
+        ensures { result ≡ number_of self.now }
+    {
+        match self {
+            Attribute::Origin(_) => 1,
+            Attribute::AsPath(_) => 2,
+            Attribute::NextHop(_) => 3,
+            Attribute::MultiExitDisc(_) => 4,
+            Attribute::LocalPref => 5,
+            Attribute::AtomicAggregate => 6,
+            Attribute::Aggregator(_) => 7,
+            Attribute::Communities(_, _) => 8,
+            Attribute::Unknown(unknown) => unknown.kind,
+            Attribute::Ignored(number) => *number,
+        }
+    }
 }
