@@ -1,5 +1,5 @@
 -- UPDATE messages, check by check (RFC 4271 4.1, 4.3, 6.1, 6.3). The first line that fails gives the fault.
-use Rattle.std.specs.Prelude.{◌≡◌, IsTrue, ℕ, ◌+◌, ◌-◌, ◌*◌, ◌/◌, ◌%◌, ◌^◌, min, Bool, true, false, not, ◌&&◌, ◌||◌, ◌==◌, nat_le, nat_lt, List, [], ◌∷◌, ◌++◌, length, map, take, drop, slice_index, Option, Some, None, is_some, if◌then◌else◌}
+use Rattle.std.specs.Prelude.{◌≡◌, IsTrue, ℕ, ◌+◌, ◌-◌, ◌*◌, ◌/◌, ◌%◌, ◌<◌, Bool, true, false, not, ◌&&◌, ◌||◌, ◌==◌, nat_le, nat_lt, List, [], ◌∷◌, ◌++◌, length, map, take, drop, slice_index, Option, Some, None, is_some, if◌then◌else◌}
 use Rattle.std.specs.List.{list_all}
 use Rattle.grammar.specs.Formats.{Format, pure, octet, octets, ensure, ◌>>=◌, ◌>>◌, block, items, to_end}
 use Rattle.grammar.specs.Numbers.{big_endian, two_octets}
@@ -25,16 +25,15 @@ padded bits = big_endian (take 4 (bits ++ (0 ∷ 0 ∷ 0 ∷ 0 ∷ [])))
 abbrev pub address : List ℕ → Ip
 address octets = record { 0 = big_endian octets }
 
--- no octet, which spells the prefix of so many bits of an address
+-- no octet, which spells the prefix of the first n bits of an address; it has 32 bits at most
 abbrev pub first_bits : ℕ → ℕ → Format Fault Prefix
-first_bits n a = record { Spells = λ s p. (s ≡ []) × (p.len ≡ n) × IsTrue (same_bits n p.address.0 a); Fails = λ s e. ⊥ }
+first_bits n a = record { Spells = λ s p. (s ≡ []) × (p.len ≡ n) × IsTrue (same_bits n p.address.0 a); Fails = λ s e. (32 < n) × (e ≡ faults.Network) }
 
--- a length of at most 32 bits, and the fewest octets that hold them; bits past the length are ignored
+-- a length in bits, and the fewest octets that hold them; bits past the length are ignored
 abbrev pub prefix : Format Fault Prefix
 prefix = do
   len ← octet faults.Network
   bits ← octets ((len + 7) / 8) faults.Network
-  ensure (nat_le len 32) faults.Network
   first_bits len (padded bits)
 
 -- the numbers in two octets each

@@ -1,0 +1,2 @@
+pub mod UpdateReading
+pub mod Answers
