@@ -8,3 +8,4 @@ mod UnknownLists
 mod Finished
 mod OneUpdate
 mod Decoded
+mod LengthSums

@@ -8,10 +8,14 @@
 
 mod attributes;
 mod decoding;
+mod encoding;
 mod fault;
+mod lengths;
 mod octets;
 mod prefixes;
 mod said;
 
 pub use decoding::decode;
+pub use encoding::encode;
 pub use fault::UpdateFault;
+pub use lengths::encoded_len;
