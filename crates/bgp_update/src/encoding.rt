@@ -5,7 +5,6 @@ ghost use Rattle.std.specs.List.{flat_map};
 ghost use Rattle.net_types.specs.Octets.{address_octets, word};
 ghost use Rattle.net_types.specs.AttributeTypes.{type_flags, type_number};
 ghost use Rattle.net_types.specs.Updates.{aggregator_octets, atomic_octets, attribute, attrs_octets, canonical, communities_octets, long, med_octets, optional_attrs_octets, passed_on, prefix_octets, prefixes_octets, segment_octets, unknown_octets, update_message};
-ghost use Rattle.net_types.specs.SoundUpdates.{IsSoundUpdate};
 ghost use Rattle.net_types.specs.declared.route.Unknown.{Unknown as Foreign};
 
 use net_types::{Aggregator, AttributeType, Attrs, Ip, Memory, Prefix, Segment, Unknown, Update};
@@ -304,9 +303,8 @@ fn message(
     Ok(out)
 }
 
-/// The canonical message of a sound update, which has 4096 octets at most.
+/// The canonical message of an update, where it has 4096 octets at most.
 pub fn encode(alloc: Global, update: &Update) -> Result<Vec<u8>, Memory>
-    requires sound { IsSoundUpdate update.now }
     requires short { length (canonical update.now) ≤ 4096 }
     ensures canonical { IfOk result (λ m. m.items ≡ canonical update.now) }
 {

@@ -14,6 +14,8 @@ mod lengths;
 mod octets;
 mod prefixes;
 mod said;
+#[cfg(test)]
+mod tests;
 
 pub use decoding::decode;
 pub use encoding::encode;
