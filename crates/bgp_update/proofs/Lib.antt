@@ -9,3 +9,4 @@ mod Finished
 mod OneUpdate
 mod Decoded
 mod LengthSums
+mod SpelledAttributes

@@ -1,2 +1,3 @@
 pub mod UpdateReading
 pub mod Answers
+pub mod RoundTrip
