@@ -10,3 +10,4 @@ mod OneUpdate
 mod Decoded
 mod LengthSums
 mod SpelledAttributes
+mod SpelledMessages
