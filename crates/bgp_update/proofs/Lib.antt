@@ -11,3 +11,4 @@ mod Decoded
 mod LengthSums
 mod SpelledAttributes
 mod SpelledMessages
+mod ReadBack

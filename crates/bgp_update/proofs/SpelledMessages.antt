@@ -1,4 +1,4 @@
--- The canonical message of a sound update spells it.
+-- The attributes and prefixes of a sound update, as they are written, spell it.
 use Rattle.std.proofs.Common.{◌≡◌, ℕ, zero, suc, ◌+◌, ◌-◌, ◌*◌, ◌/◌, ◌%◌, ◌^◌, ◌<◌, ◌≤◌, Bool, true, false, not, cond, List, [], ◌∷◌, ◌++◌, length, take, map, filter, flat_map, min, leb, eqb, refl, sym, ap, subst, ◌∙◌, append_assoc, arith, inl, inr}
 use Rattle.std.specs.Prelude.{◌⊎◌, Option, Some, None, ◌&&◌, ◌||◌, ◌==◌, IsTrue, nat_le, nat_lt}
 use Rattle.std.specs.List.{fold}
@@ -104,11 +104,11 @@ lows a = filter (λ (u : Unknown). nat_lt u.kind 1) a.unknown
 abbrev highs : Attrs → List Unknown
 highs a = filter (λ (u : Unknown). nat_le 1 u.kind) a.unknown
 
-abbrev attributes_of : Attrs → List Attribute
+abbrev pub attributes_of : Attrs → List Attribute
 attributes_of a = unknowns (lows a) ++ (attributes.Origin a.origin ∷ attributes.AsPath a.path ∷ attributes.NextHop a.next_hop ∷
     (med_of a.med ++ (atomic_of a.atomic ++ (aggregator_of a.aggregator ++ (communities_of a.communities_partial a.communities ++ unknowns (highs a))))))
 
-abbrev optional_of : Option Attrs → List Attribute
+abbrev pub optional_of : Option Attrs → List Attribute
 optional_of None = []
 optional_of (Some a) = attributes_of a
 
@@ -143,14 +143,21 @@ nine l o p n m a g c r = simp append_assoc refl
 
 attrs_are_written : (a : Attrs) → flat_map octets_of (attributes_of a) ≡ attrs_octets a
 attrs_are_written a =
-    rw (flat_append (unknowns (lows a)) (attributes.Origin a.origin ∷ attributes.AsPath a.path ∷ attributes.NextHop a.next_hop ∷ (med_of a.med ++ (atomic_of a.atomic ++ (aggregator_of a.aggregator ++ (communities_of a.communities_partial a.communities ++ unknowns (highs a)))))),
-        flat_append (med_of a.med) (atomic_of a.atomic ++ (aggregator_of a.aggregator ++ (communities_of a.communities_partial a.communities ++ unknowns (highs a)))),
-        flat_append (atomic_of a.atomic) (aggregator_of a.aggregator ++ (communities_of a.communities_partial a.communities ++ unknowns (highs a))),
-        flat_append (aggregator_of a.aggregator) (communities_of a.communities_partial a.communities ++ unknowns (highs a)),
-        flat_append (communities_of a.communities_partial a.communities) (unknowns (highs a)),
-        unknowns_written (lows a), unknowns_written (highs a), med_written a.med, atomic_written a.atomic, aggregator_written a.aggregator, communities_written a.communities_partial a.communities)
+    rw (
+      flat_append (unknowns (lows a)) (attributes.Origin a.origin ∷ attributes.AsPath a.path ∷ attributes.NextHop a.next_hop ∷ (med_of a.med ++ (atomic_of a.atomic ++ (aggregator_of a.aggregator ++ (communities_of a.communities_partial a.communities ++ unknowns (highs a)))))),
+      flat_append (med_of a.med) (atomic_of a.atomic ++ (aggregator_of a.aggregator ++ (communities_of a.communities_partial a.communities ++ unknowns (highs a)))),
+      flat_append (atomic_of a.atomic) (aggregator_of a.aggregator ++ (communities_of a.communities_partial a.communities ++ unknowns (highs a))),
+      flat_append (aggregator_of a.aggregator) (communities_of a.communities_partial a.communities ++ unknowns (highs a)),
+      flat_append (communities_of a.communities_partial a.communities) (unknowns (highs a)),
+      unknowns_written (lows a),
+      unknowns_written (highs a),
+      med_written a.med,
+      atomic_written a.atomic,
+      aggregator_written a.aggregator,
+      communities_written a.communities_partial a.communities,
+    )
     (nine (unknown_octets (lows a)) (written.attribute 64 1 (a.origin ∷ [])) (written.attribute 64 2 (flat_map written.segment_octets a.path)) (written.attribute 64 3 (address_octets a.next_hop))
-        (med_octets a.med) (atomic_octets a.atomic) (aggregator_octets a.aggregator) (communities_octets a.communities_partial a.communities) (unknown_octets (highs a)))
+    (med_octets a.med) (atomic_octets a.atomic) (aggregator_octets a.aggregator) (communities_octets a.communities_partial a.communities) (unknown_octets (highs a)))
 
 pub optional_written : (a : Option Attrs) → flat_map octets_of (optional_of a) ≡ optional_attrs_octets a
 optional_written None = refl
@@ -186,15 +193,22 @@ communities_taken : (partial : Bool) (cs : List ℕ) → Each (λ n. n < 4294967
 communities_taken partial [] h = tt
 communities_taken partial (c ∷ cs) h = (h, tt)
 
-attrs_taken : (a : Attrs) → AreSoundAttrs a → FitAttrs a → Each IsTaken (attributes_of a)
+pub attrs_taken : (a : Attrs) → AreSoundAttrs a → FitAttrs a → Each IsTaken (attributes_of a)
 attrs_taken a s f =
-    each_append IsTaken (unknowns (lows a)) _ (unknowns_taken (λ u. nat_lt u.kind 1) (lows a) (each_filter _ (λ (u : Unknown). nat_lt u.kind 1) a.unknown s.unknown))
-    (s.origin, (s.path, (s.next_hop,
-    each_append IsTaken (med_of a.med) _ (med_taken a.med f.med)
-    (each_append IsTaken (atomic_of a.atomic) _ (atomic_taken a.atomic)
-    (each_append IsTaken (aggregator_of a.aggregator) _ (aggregator_taken a.aggregator s.aggregator f.aggregator)
-    (each_append IsTaken (communities_of a.communities_partial a.communities) _ (communities_taken a.communities_partial a.communities f.communities)
-    (unknowns_taken (λ u. nat_le 1 u.kind) (highs a) (each_filter _ (λ (u : Unknown). nat_le 1 u.kind) a.unknown s.unknown))))))))
+    each_append IsTaken (unknowns (lows a)) _ (unknowns_taken (λ u. nat_lt u.kind 1) (lows a) (each_filter _ (λ (u : Unknown). nat_lt u.kind 1) a.unknown s.unknown)) (
+      s.origin,
+      (
+        s.path,
+        (
+          s.next_hop,
+          each_append IsTaken (med_of a.med) _ (med_taken a.med f.med)
+              (each_append IsTaken (atomic_of a.atomic) _ (atomic_taken a.atomic)
+              (each_append IsTaken (aggregator_of a.aggregator) _ (aggregator_taken a.aggregator s.aggregator f.aggregator)
+              (each_append IsTaken (communities_of a.communities_partial a.communities) _ (communities_taken a.communities_partial a.communities f.communities)
+              (unknowns_taken (λ u. nat_le 1 u.kind) (highs a) (each_filter _ (λ (u : Unknown). nat_le 1 u.kind) a.unknown s.unknown))))),
+        ),
+      ),
+    )
 
 -- ---- each has a type of its own
 
@@ -295,16 +309,16 @@ attrs_ascend a s =
     let highest = high_each (highs a) (each_filter _ (λ (u : Unknown). nat_le 1 u.kind) a.unknown s.unknown) in
     let last : (k : ℕ) → k ≤ 9 → Ascends k (unknowns (highs a)) = λ k le. unknowns_ascend k (highs a) (rising_filter (λ (u : Unknown). nat_le 1 u.kind) a.unknown s.rising) (weaker k (highs a) le highest) in
     let fourth : (k : ℕ) → k ≤ 8 → Ascends k (communities_of a.communities_partial a.communities ++ unknowns (highs a)) =
-        λ k le. ascends_append k 9 _ _ (communities_ascend k a.communities_partial a.communities le).0 (communities_ascend k a.communities_partial a.communities le).1 (omega (arith, le)) last in
+    λ k le. ascends_append k 9 _ _ (communities_ascend k a.communities_partial a.communities le).0 (communities_ascend k a.communities_partial a.communities le).1 (omega (arith, le)) last in
     let third : (k : ℕ) → k ≤ 7 → Ascends k (aggregator_of a.aggregator ++ (communities_of a.communities_partial a.communities ++ unknowns (highs a))) =
-        λ k le. ascends_append k 8 _ _ (aggregator_ascends k a.aggregator le).0 (aggregator_ascends k a.aggregator le).1 (omega (arith, le)) fourth in
+    λ k le. ascends_append k 8 _ _ (aggregator_ascends k a.aggregator le).0 (aggregator_ascends k a.aggregator le).1 (omega (arith, le)) fourth in
     let second : (k : ℕ) → k ≤ 5 → Ascends k (atomic_of a.atomic ++ (aggregator_of a.aggregator ++ (communities_of a.communities_partial a.communities ++ unknowns (highs a)))) =
-        λ k le. ascends_append k 7 _ _ (atomic_ascends k a.atomic le).0 (atomic_ascends k a.atomic le).1 (omega (arith, le)) third in
+    λ k le. ascends_append k 7 _ _ (atomic_ascends k a.atomic le).0 (atomic_ascends k a.atomic le).1 (omega (arith, le)) third in
     let first : Ascends 4 (med_of a.med ++ (atomic_of a.atomic ++ (aggregator_of a.aggregator ++ (communities_of a.communities_partial a.communities ++ unknowns (highs a))))) =
-        ascends_append 4 5 _ _ (med_ascends 4 a.med (omega arith)).0 (med_ascends 4 a.med (omega arith)).1 (omega arith) second in
+    ascends_append 4 5 _ _ (med_ascends 4 a.med (omega arith)).0 (med_ascends 4 a.med (omega arith)).1 (omega arith) second in
     ascends_append 0 1 (unknowns (lows a)) _ (unknowns_ascend 0 (lows a) (rising_filter (λ (u : Unknown). nat_lt u.kind 1) a.unknown s.rising) (from_zero (lows a)))
-        (low_each (lows a) (each_filter _ (λ (u : Unknown). nat_lt u.kind 1) a.unknown s.unknown)) (omega arith)
-        (λ k le. (le, (omega arith, (omega arith, first))))
+    (low_each (lows a) (each_filter _ (λ (u : Unknown). nat_lt u.kind 1) a.unknown s.unknown)) (omega arith)
+    (λ k le. (le, (omega arith, (omega arith, first))))
 
 pub attrs_new : (a : Attrs) → AreSoundAttrs a → AreNew no_types (attributes_of a)
 attrs_new a s = new_from no_types 0 (attributes_of a) (λ q le. refl) (attrs_ascend a s)
@@ -350,7 +364,7 @@ attrs_said a s =
     let W : Said → List Attribute → Said = λ x y. fold with_attribute x y in
     fold_append nothing_said (unknowns (lows a)) _
     ∙ ap (λ (x : Said). fold with_attribute x (attributes.Origin a.origin ∷ attributes.AsPath a.path ∷ attributes.NextHop a.next_hop ∷ (med_of a.med ++ (atomic_of a.atomic ++ (aggregator_of a.aggregator ++ (communities_of a.communities_partial a.communities ++ unknowns (highs a)))))))
-        (unknowns_said None None None None false None [] false [] (lows a))
+    (unknowns_said None None None None false None [] false [] (lows a))
     ∙ fold_append (made (Some a.origin) (Some a.path) (Some a.next_hop) None false None [] false (lows a)) (med_of a.med) _
     ∙ ap (λ (x : Said). fold with_attribute x (atomic_of a.atomic ++ (aggregator_of a.aggregator ++ (communities_of a.communities_partial a.communities ++ unknowns (highs a))))) (med_said (Some a.origin) (Some a.path) (Some a.next_hop) (lows a) a.med)
     ∙ fold_append (made (Some a.origin) (Some a.path) (Some a.next_hop) a.med false None [] false (lows a)) (atomic_of a.atomic) _

@@ -5,6 +5,9 @@ ghost use Rattle.std.specs.List.{flat_map};
 ghost use Rattle.net_types.specs.Octets.{address_octets, word};
 ghost use Rattle.net_types.specs.AttributeTypes.{type_flags, type_number};
 ghost use Rattle.net_types.specs.Updates.{aggregator_octets, atomic_octets, attribute, attrs_octets, canonical, communities_octets, long, med_octets, optional_attrs_octets, passed_on, prefix_octets, prefixes_octets, segment_octets, unknown_octets, update_message};
+ghost use Rattle.net_types.specs.SoundUpdates.{IsSoundUpdate};
+ghost use Rattle.net_types.specs.UpdateSpelling.{Spells};
+ghost use Rattle.bgp_update.specs.RoundTrip.{FitOptional};
 ghost use Rattle.net_types.specs.declared.route.Unknown.{Unknown as Foreign};
 
 use net_types::{Aggregator, AttributeType, Attrs, Ip, Memory, Prefix, Segment, Unknown, Update};
@@ -307,6 +310,8 @@ fn message(
 pub fn encode(alloc: Global, update: &Update) -> Result<Vec<u8>, Memory>
     requires short { length (canonical update.now) ≤ 4096 }
     ensures canonical { IfOk result (λ m. m.items ≡ canonical update.now) }
+    // A sound update is what the message spells, so it is what decoding the message answers.
+    ensures reads_back { IsSoundUpdate update.now → FitOptional update.now.attrs → IfOk result (λ m. Spells m.items update.now) }
 {
     let mut withdrawn = Vec::new(alloc);
     push_prefixes(&mut withdrawn, update.withdrawn.items())?;
@@ -314,10 +319,11 @@ pub fn encode(alloc: Global, update: &Update) -> Result<Vec<u8>, Memory>
     push_optional_attrs(alloc, &mut attributes, &update.attrs)?;
     let mut announced = Vec::new(alloc);
     push_prefixes(&mut announced, update.announced.items())?;
-    message(
+    let message = message(
         alloc,
         withdrawn.as_slice(),
         attributes.as_slice(),
         announced.as_slice(),
-    )
+    )?;
+    Ok(message)
 }
