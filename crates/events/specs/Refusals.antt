@@ -27,7 +27,7 @@ use Rattle.events.specs.After.{with_route}
 use Rattle.events.specs.Restricted.{announced_attrs, announced_prefix}
 use Rattle.events.specs.State.{State, port_of}
 use Rattle.events.specs.Tags.{is_live_pair, free_tags, groups, retagged, tags}
-use Rattle.events.specs.Updates.{first_as}
+use Rattle.net_types.specs.Updates.{first_as}
 
 -- which lines are in place in a phase: only `exchange` at the start, then all but `exchange`, and after the declarations
 -- neither `participant` nor `port`

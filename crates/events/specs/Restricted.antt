@@ -6,7 +6,7 @@ use Rattle.net_types.specs.Octets.{same_octets, word_at, address_at}
 use Rattle.net_types.specs.declared.prefix.Prefix.{Prefix}
 use Rattle.net_types.specs.declared.route.Attrs.{Attrs}
 use Rattle.net_types.specs.declared.route.Segment.TheVariants.{Sequence}
-use Rattle.events.specs.Updates.{marker}
+use Rattle.net_types.specs.Updates.{marker}
 
 -- an UPDATE of 43 octets that announces one prefix of eight bits with ORIGIN, a path of one AS, and NEXT_HOP
 abbrev pub is_announcement : List ℕ → Bool

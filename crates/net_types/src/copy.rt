@@ -8,6 +8,7 @@ use crate::memory::Memory;
 use crate::prefix::Prefix;
 use crate::route::{Attrs, Offer, Part, Segment, Unknown};
 use crate::rule::{Action, Rule};
+use crate::update::Update;
 
 /// A value of which an equal one can be made.
 pub trait TryCopy {
@@ -75,6 +76,22 @@ impl TryCopy for Attrs {
             communities: self.communities.copy()?,
             communities_partial: self.communities_partial,
             unknown: self.unknown.copy()?,
+        })
+    }
+}
+
+impl TryCopy for Update {
+    fn copy(&self) -> Result<Update, Memory> {
+        let withdrawn = self.withdrawn.copy()?;
+        let announced = self.announced.copy()?;
+        let attrs = match &self.attrs {
+            Some(attrs) => Some(attrs.copy()?),
+            None => None,
+        };
+        Ok(Update {
+            withdrawn,
+            attrs,
+            announced,
         })
     }
 }

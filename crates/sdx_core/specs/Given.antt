@@ -10,6 +10,7 @@ use Rattle.sdx_core.specs.declared.given.Given.{Given}
 abbrev pub given_to : ℕ → Announcement → Option Given
 given_to asn a = if not (nat_eq asn a.asn) then option_map (λ t. record { announcement = a; tag = t }) a.tag else None
 
+-- the prefix of an announcement that is given
 abbrev pub given_prefix : Given → Prefix
 given_prefix g = g.announcement.prefix
 
@@ -17,5 +18,6 @@ given_prefix g = g.announcement.prefix
 abbrev pub all_given : ℕ → List Announcement → List Given
 all_given asn anns = filter_map (given_to asn) anns
 
+-- the prefixes that a participant of an AS is given
 abbrev pub given_prefixes : ℕ → List Announcement → List Prefix
 given_prefixes asn anns = map given_prefix (all_given asn anns)

@@ -1,7 +1,7 @@
 //! UPDATE messages as they are written (RFC 4271 4.1, 4.3).
 
 ghost use Rattle.std.specs.Prelude.{◌≡◌, IfOk};
-ghost use Rattle.events.specs.Updates.{announcement, attrs_octets};
+ghost use Rattle.net_types.specs.Updates.{announcement, attrs_octets};
 ghost use Rattle.net_types.specs.Octets.{address_octets, word};
 ghost use Rattle.sdx_core.specs.View.{attrs_of};
 

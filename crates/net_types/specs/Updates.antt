@@ -8,6 +8,7 @@ use Rattle.net_types.specs.declared.route.Attrs.{Attrs}
 use Rattle.net_types.specs.declared.route.Segment.{Segment}
 use Rattle.net_types.specs.declared.route.Segment.TheVariants.{Set, Sequence}
 use Rattle.net_types.specs.declared.route.Unknown.{Unknown}
+use Rattle.net_types.specs.declared.update.Update.{Update}
 
 -- sixteen octets of ones (RFC 4271 4.1)
 abbrev pub marker : List ℕ
@@ -69,6 +70,20 @@ prefix_octets p = p.len ∷ take ((p.len + 7) / 8) (address_octets p.address)
 abbrev pub update_message : List ℕ → List ℕ → List ℕ → List ℕ
 update_message withdrawn attrs announced =
     marker ++ word (23 + length withdrawn + length attrs + length announced) ++ 2 ∷ word (length withdrawn) ++ withdrawn ++ word (length attrs) ++ attrs ++ announced
+
+-- prefixes, one after another
+abbrev pub prefixes_octets : List Prefix → List ℕ
+prefixes_octets ps = flat_map prefix_octets ps
+
+-- the attributes of a message that may have none
+abbrev pub optional_attrs_octets : Option Attrs → List ℕ
+optional_attrs_octets None = []
+optional_attrs_octets (Some a) = attrs_octets a
+
+-- The canonical message of an update (this exchange's own rule): withdrawn prefixes, attributes and announced prefixes in
+-- their order, flags as in the table, and two octets for a length only where one doesn't hold it.
+abbrev pub canonical : Update → List ℕ
+canonical u = update_message (prefixes_octets u.withdrawn) (optional_attrs_octets u.attrs) (prefixes_octets u.announced)
 
 -- the canonical message that announces one prefix with another NEXT_HOP
 abbrev pub announcement : Prefix → Attrs → Ip → List ℕ

@@ -1,0 +1,14 @@
+mod PrefixReading
+mod NumberLists
+mod Marks
+mod UpdateExact
+mod NewTypes
+mod PrefixLists
+mod UnknownLists
+mod Finished
+mod OneUpdate
+mod Decoded
+mod LengthSums
+mod SpelledAttributes
+mod SpelledMessages
+mod ReadBack

@@ -1,0 +1,21 @@
+-- Reading is exact, and a message has one value.
+use Rattle.bgp_update.proofs.Decoded.{fault_said, found_said, only_said, refused_said, sound_said, spells_said}
+use Rattle.bgp_update.proofs.decoding.decode.Goals as goal
+
+pub returns-clause-spells : goal.returns-clause-spells
+returns-clause-spells c = spells_said c.args.bytes.now c.read.result c.read.ensures
+
+pub returns-clause-only : goal.returns-clause-only
+returns-clause-only c = only_said c.args.bytes.now c.read.result c.read.ensures
+
+pub returns-clause-sound : goal.returns-clause-sound
+returns-clause-sound c = sound_said c.args.bytes.now c.read.result c.read.ensures
+
+pub returns-clause-fault : goal.returns-clause-fault
+returns-clause-fault c = fault_said c.args.bytes.now c.read.result c.read.ensures
+
+pub returns-clause-refused : goal.returns-clause-refused
+returns-clause-refused c = refused_said c.args.bytes.now c.read.result c.read.ensures
+
+pub returns-clause-found : goal.returns-clause-found
+returns-clause-found c = found_said c.args.bytes.now c.read.result c.read.ensures

@@ -1,0 +1,7 @@
+-- The ones so far are written.
+use Rattle.std.proofs.Common.{◌≡◌, ◌++◌, take, flat_map}
+use Rattle.net_types.specs.Updates.{long}
+use Rattle.bgp_update.proofs.encoding.push_longs.Given as goal
+
+abbrev pub invariant-loop-number : goal.invariant-loop-number
+invariant-loop-number l = l.out.items ≡ l.fn.out.items ++ flat_map long (take l.number-index l.numbers)

@@ -1,0 +1,3 @@
+pub mod UpdateReading
+pub mod Answers
+pub mod RoundTrip

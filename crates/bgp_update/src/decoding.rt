@@ -1,0 +1,78 @@
+//! Reading a whole message.
+
+ghost use Rattle.std.specs.Prelude.{◌≡◌, ◌==◌, ◌⊎◌, length, Err, IfOk, MatchResult};
+ghost use Rattle.std.specs.List.{list_all};
+ghost use Rattle.net_types.specs.UpdateFormat.{no_types};
+ghost use Rattle.net_types.specs.UpdateSpelling.{IsFault, Spells};
+ghost use Rattle.net_types.specs.declared.update.Update.{Update as Value};
+ghost use Rattle.net_types.specs.declared.update.Fault.{Fault as Cause};
+ghost use Rattle.bgp_update.specs.Answers.{AreNew, Gives, IsDecoded, head_of};
+ghost use Rattle.bgp_update.specs.UpdateReading.{read_head};
+
+use crate::attributes::attributes;
+use crate::fault::UpdateFault;
+use crate::octets::{ensure, octet, octets, two_octets};
+use crate::prefixes::prefixes;
+use crate::said::update;
+use net_types::{Attribute, Fault, Prefix, Update};
+use std::alloc::Global;
+
+fn all_ones(octets: &[u8]) -> bool
+    ensures { result ≡ list_all (λ c. c == 255) octets.now }
+{
+    octets.iter().all(|octet| *octet == 255)
+}
+
+/// What stands in front of the announced prefixes: withdrawn prefixes and attributes.
+#[tactic(auto, unfolding(crate::specs::UpdateReading::read_head))]
+fn head(alloc: Global, bytes: &[u8]) -> Result<(Vec<Prefix>, Vec<Attribute>, &[u8]), UpdateFault>
+    ensures reads { Gives (λ x. (head_of x.0.items x.1.items, x.2.now)) result (read_head (length bytes.now) bytes.now) }
+    ensures new { IfOk result (λ x. AreNew no_types x.1.items) }
+{
+    let (marker, rest) = octets(16, bytes, Fault::BadHeader)?;
+    ensure(all_ones(marker), Fault::BadHeader)?;
+    let (len, rest) = two_octets(rest, Fault::BadHeader)?;
+    ensure(
+        19 <= len && len <= 4096 && len == bytes.len(),
+        Fault::BadHeader,
+    )?;
+    let (kind, rest) = octet(rest, Fault::BadHeader)?;
+    ensure(kind == 2, Fault::NotUpdate)?;
+    ensure(23 <= len, Fault::BadHeader)?;
+    let (withdrawn_len, rest) = two_octets(rest, Fault::Malformed)?;
+    ensure(withdrawn_len + 23 <= len, Fault::Malformed)?;
+    let (withdrawn, rest) = octets(withdrawn_len, rest, Fault::Malformed)?;
+    let (attributes_len, rest) = two_octets(rest, Fault::Malformed)?;
+    ensure(withdrawn_len + attributes_len + 23 <= len, Fault::Malformed)?;
+    let withdrawn = prefixes(alloc, withdrawn)?;
+    let (inner, rest) = octets(attributes_len, rest, Fault::Malformed)?;
+    let all = attributes(alloc, inner)?;
+    Ok((withdrawn, all, rest))
+}
+
+#[tactic(auto, unfolding(crate::specs::UpdateReading::read_message, crate::specs::UpdateReading::read_prefixes, grammar::specs::FormatReading::read_to_end))]
+fn read(alloc: Global, bytes: &[u8]) -> Result<Update, UpdateFault>
+    ensures { IsDecoded bytes.now result }
+{
+    let (withdrawn, attributes, rest) = head(alloc, bytes)?;
+    let announced = prefixes(alloc, rest)?;
+    update(alloc, withdrawn, attributes, announced)
+}
+
+/// The update that a message spells, or the first check that it fails.
+pub fn decode(alloc: Global, bytes: &[u8]) -> Result<Update, UpdateFault>
+    // The octets spell this update.
+    ensures spells { IfOk result (Spells bytes.now) }
+    // They spell no other one.
+    ensures only { IfOk result (λ u. (v : Value) → Spells bytes.now v → v ≡ u) }
+    // No check fails.
+    ensures sound { IfOk result (λ u. (f : Cause) → IsFault bytes.now f → ⊥) }
+    // A fault is that of the first check that fails, and of no other.
+    ensures fault { (f : Cause) → result ≡ Err (UpdateFault.Bad f) → IsFault bytes.now f }
+    // A message that fails a check is refused by its fault, unless memory runs out.
+    ensures refused { (f : Cause) → IsFault bytes.now f → MatchResult result (λ u. ⊥) (λ e. (e ≡ UpdateFault.Bad f) ⊎ (e ≡ UpdateFault.Memory)) }
+    // An update that the octets spell is answered, unless memory runs out.
+    ensures found { (u : Value) → Spells bytes.now u → MatchResult result (λ v. v ≡ u) (λ e. e ≡ UpdateFault.Memory) }
+{
+    read(alloc, bytes)
+}

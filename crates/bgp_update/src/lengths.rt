@@ -1,0 +1,125 @@
+//! How long a message is that an update is written as, without writing it; lengths over 65535 are told as 65535.
+
+ghost use Rattle.std.specs.Prelude.{◌≡◌, ◌+◌, ◌*◌, ◌^◌, nat_le, min, length, if◌then◌else◌};
+ghost use Rattle.std.specs.List.{flat_map};
+ghost use Rattle.net_types.specs.Updates.{aggregator_octets, atomic_octets, attrs_octets, communities_octets, med_octets, canonical, optional_attrs_octets, prefixes_octets, segment_octets, unknown_octets};
+ghost use Rattle.net_types.specs.SoundUpdates.{IsSoundUpdate};
+
+use net_types::{Aggregator, Attrs, Prefix, Segment, Unknown, Update};
+
+/// The sum, or 65535.
+fn add(a: usize, b: usize) -> usize
+    ensures { result ≡ min 65535 (a + b) }
+{
+    let sum = a.saturating_add(b);
+    if sum < 65535 { sum } else { 65535 }
+}
+
+/// The length of an attribute whose value has so many octets.
+fn attribute_len(len: usize) -> usize
+    ensures { result ≡ min 65535 (if nat_le len 255 then 3 + len else 4 + len) }
+{
+    if len <= 255 { add(3, len) } else { add(4, len) }
+}
+
+fn prefixes_len(prefixes: &[Prefix]) -> usize
+    ensures { result ≡ min 65535 (length (prefixes_octets prefixes.now)) }
+{
+    let mut total = 0;
+    for prefix in prefixes {
+        total = add(total, 1 + (prefix.len as usize + 7) / 8);
+    }
+    total
+}
+
+#[tactic(auto, using(crate::proofs::LengthSums::words_len))]
+fn segment_len(segment: &Segment) -> usize
+    ensures { result ≡ min 65535 (length (segment_octets segment.now)) }
+{
+    match segment {
+        Segment::Set(asns) => add(2, add(asns.len(), asns.len())),
+        Segment::Sequence(asns) => add(2, add(asns.len(), asns.len())),
+    }
+}
+
+fn path_len(path: &[Segment]) -> usize
+    ensures { result ≡ min 65535 (length (flat_map segment_octets path.now)) }
+{
+    let mut total = 0;
+    for segment in path {
+        total = add(total, segment_len(segment));
+    }
+    total
+}
+
+fn unknown_len(unknown: &[Unknown]) -> usize
+    ensures { result ≡ min 65535 (length (unknown_octets unknown.now)) }
+{
+    let mut total = 0;
+    for attribute in unknown {
+        total = add(total, attribute_len(attribute.value.len()));
+    }
+    total
+}
+
+fn med_len(med: Option<u32>) -> usize
+    ensures { result ≡ length (med_octets med) }
+{
+    match med {
+        None => 0,
+        Some(_) => 7,
+    }
+}
+
+fn atomic_len(atomic: bool) -> usize
+    ensures { result ≡ length (atomic_octets atomic) }
+{
+    if atomic { 3 } else { 0 }
+}
+
+fn aggregator_len(aggregator: Option<Aggregator>) -> usize
+    ensures { result ≡ length (aggregator_octets aggregator) }
+{
+    match aggregator {
+        None => 0,
+        Some(_) => 9,
+    }
+}
+
+fn communities_len(partial: bool, communities: &[u32]) -> usize
+    ensures { result ≡ min 65535 (length (communities_octets partial communities.now)) }
+{
+    match communities {
+        [] => 0,
+        [_, ..] => {
+            let two = add(communities.len(), communities.len());
+            attribute_len(add(two, two))
+        }
+    }
+}
+
+fn attrs_len(attrs: &Attrs) -> usize
+    ensures { result ≡ min 65535 (length (attrs_octets attrs.now)) }
+{
+    let path = attribute_len(path_len(attrs.path.items()));
+    let unknown = unknown_len(attrs.unknown.items());
+    let communities = communities_len(attrs.communities_partial, attrs.communities.items());
+    let small = 11
+        + med_len(attrs.med)
+        + atomic_len(attrs.atomic)
+        + aggregator_len(attrs.aggregator);
+    add(add(unknown, path), add(small, communities))
+}
+
+/// How many octets the canonical message of an update has, or 65535 where it has more. No memory is taken.
+pub fn encoded_len(update: &Update) -> usize
+    ensures { result ≡ min 65535 (length (canonical update.now)) }
+{
+    let withdrawn = prefixes_len(update.withdrawn.items());
+    let announced = prefixes_len(update.announced.items());
+    let prefixes = add(add(23, withdrawn), announced);
+    match &update.attrs {
+        None => prefixes,
+        Some(attrs) => add(prefixes, attrs_len(attrs)),
+    }
+}
