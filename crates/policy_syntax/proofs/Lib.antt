@@ -1,0 +1,5 @@
+pub mod FieldsExact
+pub mod PolicyExact
+pub mod PolicyFronts
+pub mod FirstBits
+pub mod Answered
