@@ -11,6 +11,8 @@ use Rattle.policy_syntax.specs.PolicyGrammar.{policy}
 use Rattle.policy_syntax.specs.PolicyReading.{read_start}
 use Rattle.policy_syntax.specs.After.{after_policy}
 use Rattle.policy_syntax.specs.Answers.{cause_of, Gives, IsCause, FindsText}
+use Rattle.policy_syntax.specs.ReadsBack.{EachPart, ReadsBack}
+use Rattle.policy_syntax.proofs.SpelledFits.{text_back}
 use Rattle.policy_syntax.proofs.PolicyExact.{start_exact}
 
 module _ {X : Type 0} (view : X → Policy) (max_len limit : ℕ) (text : List ℕ) (short : length text ≤ max_len) (result : Result X SyntaxFault) (h : Gives view result (read_whole (read_start limit) text)) where
@@ -20,6 +22,14 @@ module _ {X : Type 0} (view : X → Policy) (max_len limit : ℕ) (text : List �
     where
       go : (r : Result X SyntaxFault) → IfOk r (λ x. IsText policy limit text (view x)) → IfOk r (λ x. (length text ≤ max_len) × IsText policy limit text (view x))
       go (Ok x) k = (short, k)
+      go (Err e) k = tt
+
+  -- each part of what is answered reads back
+  pub back_said : IfOk result (λ x. EachPart (λ p. ReadsBack limit p) (view x))
+  back_said = go result ok_said
+    where
+      go : (r : Result X SyntaxFault) → IfOk r (λ x. (length text ≤ max_len) × IsText policy limit text (view x)) → IfOk r (λ x. EachPart (λ p. ReadsBack limit p) (view x))
+      go (Ok x) k = text_back limit text (view x) k.1.spells
       go (Err e) k = tt
 
   -- the fault is why the text was refused

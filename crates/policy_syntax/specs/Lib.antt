@@ -6,3 +6,4 @@ pub mod Answers
 pub mod Nodes
 pub mod Canonical
 pub mod Levels
+pub mod ReadsBack

@@ -217,7 +217,7 @@ fn push_address_field(
     name: &str,
     field: Option<Ip>,
 ) -> Result<(), AllocError>
-    ensures { OnOk result (string_bytes out.new ≡ string_bytes out.old ++ field_text first name.now field address_text) }
+    ensures { OnOk result (string_bytes out.new ≡ string_bytes out.old ++ field_text first name.now field ip_text) }
 {
     match field {
         None => Ok(()),

@@ -5,6 +5,7 @@ ghost use Rattle.grammar.specs.Texts.{IsText, read_whole};
 ghost use Rattle.policy_syntax.specs.PolicyGrammar.{policy};
 ghost use Rattle.policy_syntax.specs.PolicyReading.{read_start};
 ghost use Rattle.policy_syntax.specs.Answers.{Gives, IsCause, FindsText};
+ghost use Rattle.policy_syntax.specs.ReadsBack.{EachPart, ReadsBack};
 ghost use Rattle.policy_syntax.specs.Views.{policy_of};
 
 use crate::fault::SyntaxFault;
@@ -38,6 +39,8 @@ pub fn parse<'a>(
     ensures err { IfErr result (λ fault. IsCause 8192 64 text.now fault) }
     // A text that is short enough and spells a policy without too many groups is read, unless memory runs out.
     ensures found { FindsText 8192 64 text.now policy_of result }
+    // The canonical text of the tree and of each of its parts spells the same, but for the spans.
+    ensures back { IfOk result (λ tree. EachPart (λ p. ReadsBack 64 p) (policy_of tree)) }
 {
     if text.len() > 8192 {
         return Err(SyntaxFault::TextLong);

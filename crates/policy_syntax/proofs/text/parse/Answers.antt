@@ -1,5 +1,5 @@
 use Rattle.policy_syntax.specs.Views.{policy_of}
-use Rattle.policy_syntax.proofs.Answered.{ok_said, err_said, found_said}
+use Rattle.policy_syntax.proofs.Answered.{ok_said, err_said, found_said, back_said}
 use Rattle.policy_syntax.proofs.text.parse.Goals as goal
 
 pub returns-clause-ok : goal.returns-clause-ok
@@ -10,3 +10,6 @@ returns-clause-err c = err_said policy_of 8192 64 c.args.text.now c.if-text-gt81
 
 pub returns-clause-found : goal.returns-clause-found
 returns-clause-found c = found_said policy_of 8192 64 c.args.text.now c.if-text-gt8192.false c.read.result c.read.ensures
+
+pub returns-clause-back : goal.returns-clause-back
+returns-clause-back c = back_said policy_of 8192 64 c.args.text.now c.if-text-gt8192.false c.read.result c.read.ensures
