@@ -8,6 +8,8 @@ mod policies;
 mod preds;
 mod printing;
 mod rule;
+#[cfg(test)]
+mod tests;
 mod text;
 mod tokens;
 mod tree;
