@@ -1,0 +1,13 @@
+//! Isolation: which policies a participant may have, as the outbound and the inbound one.
+#![tactic(auto)]
+
+mod fault;
+mod inbound;
+mod names;
+mod outbound;
+mod ports;
+
+pub use fault::{IsolateFault, Kind};
+pub use inbound::check_in;
+pub use names::Names;
+pub use outbound::check_out;

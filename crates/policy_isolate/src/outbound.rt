@@ -1,0 +1,98 @@
+//! What a participant may do with the packets that it sends.
+
+ghost use Rattle.std.specs.Prelude.{◌≡◌};
+ghost use Rattle.policy_syntax.specs.Views.{test_of, target_of, pred_of, policy_of};
+ghost use Rattle.policy_syntax.specs.Nodes.{node_of};
+ghost use Rattle.policy_isolate.specs.Isolation.{first_of, pred_faults, out_test, out_target, out_faults};
+
+use crate::fault::{IsolateFault, Kind, refused};
+use crate::names::Names;
+use crate::ports::own_port;
+use net_types::{Pid, Span};
+use policy_syntax::{Node, Pred, Target, Test, Tree};
+
+fn tested<N: Names>(names: &N, me: Pid, test: Test, span: Span) -> Result<(), IsolateFault>
+    ensures { result ≡ first_of (out_test (N.owner_of names.now) me (test_of test) span) }
+{
+    match test {
+        Test::Inport(port) => own_port(names, me, port, span),
+        Test::Src(_) => Ok(()),
+        Test::Dst(_) => Ok(()),
+        Test::Proto(_) => Ok(()),
+        Test::Sport(_) => Ok(()),
+        Test::Dport(_) => Ok(()),
+    }
+}
+
+#[tactic(auto, using(crate::proofs::FirstFault::first_then, crate::proofs::FirstFault::first_stays))]
+fn matched<N: Names>(names: &N, me: Pid, pred: &Pred<'_>) -> Result<(), IsolateFault>
+    ensures { result ≡ first_of (pred_faults (out_test (N.owner_of names.now) me) (pred_of pred.now)) }
+{
+    match pred {
+        Pred::Yes => Ok(()),
+        Pred::Is(test, span) => tested(names, me, *test, *span),
+        Pred::Not(inner) => matched(names, me, inner),
+        Pred::And(first, second) => {
+            matched(names, me, first)?;
+            matched(names, me, second)
+        }
+        Pred::Or(first, second) => {
+            matched(names, me, first)?;
+            matched(names, me, second)
+        }
+    }
+}
+
+fn forwarded<N: Names>(
+    names: &N,
+    me: Pid,
+    target: Target<'_>,
+    span: Span,
+) -> Result<(), IsolateFault>
+    ensures { result ≡ first_of (out_target (N.pid_of names.now) me (target_of target.entry) span) }
+{
+    match target {
+        Target::Number(_) => refused(Kind::FwdKind, span),
+        Target::Name(name) => match names.find(name) {
+            None => refused(Kind::UnknownName, span),
+            Some(who) => {
+                if who.0 == me.0 {
+                    refused(Kind::OwnName, span)
+                } else {
+                    Ok(())
+                }
+            }
+        },
+    }
+}
+
+#[cycle(outbound)]
+#[tactic(auto, using(crate::proofs::FirstFault::first_then, crate::proofs::FirstFault::first_stays))]
+fn passed<N: Names>(names: &N, me: Pid, node: Node<'_, '_>) -> Result<(), IsolateFault>
+    ensures { result ≡ first_of (out_faults (N.pid_of names.now) (N.owner_of names.now) me (node_of node.entry)) }
+{
+    match node {
+        Node::Drop => Ok(()),
+        Node::Pass => Ok(()),
+        Node::Block => Ok(()),
+        Node::Fwd(target, span) => forwarded(names, me, target, span),
+        Node::Test(pred) => matched(names, me, pred),
+        Node::Set(_, span) => refused(Kind::ModifyOutbound, span),
+        Node::Both(first, second) => {
+            check_out(first, names, me)?;
+            check_out(second, names, me)
+        }
+        Node::Then(first, second) => {
+            check_out(first, names, me)?;
+            check_out(second, names, me)
+        }
+    }
+}
+
+/// Whether a participant may have the policy as its outbound one; the first fault in the text where it may not.
+#[cycle(outbound)]
+pub fn check_out<N: Names>(tree: &Tree<'_>, names: &N, me: Pid) -> Result<(), IsolateFault>
+    ensures { result ≡ first_of (out_faults (N.pid_of names.now) (N.owner_of names.now) me (policy_of tree.now)) }
+{
+    passed(names, me, tree.node())
+}

@@ -1,0 +1,35 @@
+//! Why a text is no policy.
+
+ghost use Rattle.std.specs.Prelude.{◌≡◌};
+ghost use Rattle.policy_syntax.specs.declared.fault.SyntaxFault.TheVariants.{Memory};
+
+use std::alloc::{AllocError, AllocFailed};
+
+/// What is wrong with a text.
+#[derive(Clone, Copy, Debug, PartialEq, Eq)]
+pub enum SyntaxFault {
+    /// It has more than 8192 octets.
+    TextLong,
+    /// No policy goes on so from this octet on.
+    Syntax { at: u32 },
+    /// This octet opens the 65th group that is open at once.
+    TooDeep { at: u32 },
+    /// Memory ran out.
+    Memory,
+}
+
+impl From<AllocError> for SyntaxFault {
+    ghost from_gives = { λ _ e. e ≡ Memory };
+
+    fn from(_: AllocError) -> SyntaxFault {
+        SyntaxFault::Memory
+    }
+}
+
+impl<T: Drop> From<AllocFailed<T>> for SyntaxFault {
+    ghost from_gives = { λ _ e. e ≡ Memory };
+
+    fn from(_: AllocFailed<T>) -> SyntaxFault {
+        SyntaxFault::Memory
+    }
+}

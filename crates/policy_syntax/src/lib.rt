@@ -1,0 +1,22 @@
+//! The texts of policies: what they spell, where they are wrong, and their canonical form.
+#![tactic(auto)]
+
+mod fault;
+mod fields;
+mod node;
+mod policies;
+mod preds;
+mod printing;
+mod rule;
+#[cfg(test)]
+mod tests;
+mod text;
+mod tokens;
+mod tree;
+
+pub use fault::SyntaxFault;
+pub use node::Node;
+pub use printing::print;
+pub use rule::PolicyText;
+pub use text::parse;
+pub use tree::{Pred, Target, Test, Tree};
