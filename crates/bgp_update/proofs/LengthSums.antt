@@ -1,14 +1,13 @@
 -- Lengths of what is written one after another.
-use Rattle.std.proofs.Common.{◌≡◌, ℕ, ◌+◌, ◌*◌, ◌≤◌, Bool, true, false, not, List, [], ◌∷◌, ◌++◌, length, inl, inr, min, flat_map, filter, cond, refl, ap, sym, ◌∙◌, append_assoc, leb, arith}
-use Rattle.std.specs.Prelude.{nat_le, nat_lt, Option, Some, None}
+use Rattle.std.proofs.Common.{◌≡◌, ℕ, ◌+◌, ◌*◌, ◌≤◌, Bool, true, false, not, List, [], ◌∷◌, ◌++◌, length, inl, inr, min, flat_map, filter, cond, refl, ap, ◌∙◌, append_assoc, leb, arith}
+use Rattle.std.specs.Prelude.{nat_le, nat_lt}
 use Rattle.std.proofs.lemmas.Bool.{cases_lt, cond_both, false_from_ne_true, leb-true}
 use Rattle.std.proofs.lemmas.Bool.Decides.{nat_tests}
 use Rattle.std.proofs.lemmas.List.{length-append}
 use Rattle.net_types.specs.Octets.{address_octets, word}
-use Rattle.net_types.specs.Updates.{aggregator_octets, atomic_octets, attribute, attrs_octets, canonical, communities_octets, long, med_octets, optional_attrs_octets, prefixes_octets, segment_octets, unknown_octets}
+use Rattle.net_types.specs.Updates.{aggregator_octets, atomic_octets, attribute, attrs_octets, communities_octets, long, med_octets, segment_octets, unknown_octets}
 use Rattle.net_types.specs.declared.route.Attrs.{Attrs}
 use Rattle.net_types.specs.declared.route.Unknown.{Unknown}
-use Rattle.net_types.specs.declared.update.Update.{Update}
 
 pub words_len : (ns : List ℕ) → length (flat_map word ns) ≡ 2 * length ns
 words_len [] = refl

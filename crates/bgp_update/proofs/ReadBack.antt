@@ -1,13 +1,13 @@
 -- The canonical message of a sound update spells it.
-use Rattle.std.proofs.Common.{◌≡◌, ℕ, ◌+◌, ◌<◌, ◌≤◌, Bool, true, List, [], ◌∷◌, ◌++◌, length, flat_map, leb, refl, sym, ap, subst, ◌∙◌, append_assoc, arith}
-use Rattle.std.specs.Prelude.{Option, Some, None, ◌&&◌, ◌==◌, nat_le}
+use Rattle.std.proofs.Common.{◌≡◌, ℕ, ◌+◌, ◌<◌, ◌≤◌, true, List, [], ◌∷◌, ◌++◌, length, flat_map, leb, refl, sym, ap, subst, ◌∙◌, append_assoc, arith}
+use Rattle.std.specs.Prelude.{Option, Some, None, ◌&&◌, ◌==◌}
 use Rattle.std.proofs.lemmas.Bool.{and_from, eq-eqb, le-leb}
 use Rattle.std.proofs.lemmas.List.{append-nil, length-append}
-use Rattle.grammar.specs.Formats.{AllSpell, Format, ItemsSpell, ◌>>=◌}
+use Rattle.grammar.specs.Formats.{AllSpell, ItemsSpell}
 use Rattle.net_types.proofs.SetLemmas.{same_refl}
 use Rattle.net_types.specs.Octets.{word}
 use Rattle.net_types.specs.SoundUpdates.{Each, HasSoundAttrs, IsSoundUpdate}
-use Rattle.net_types.specs.UpdateFormat.{Head, Parts, attribute, head, is_complete, message, no_types, prefix, with_type}
+use Rattle.net_types.specs.UpdateFormat.{Parts, attribute, head, is_complete, message, no_types, prefix, with_type}
 use Rattle.net_types.specs.UpdateSpelling.{AreAttrs, Spells}
 use Rattle.net_types.specs.UpdateValue.{said}
 use Rattle.net_types.specs.Updates.{announcement, canonical, marker, optional_attrs_octets, prefix_octets, prefixes_octets, update_message, withdrawal}

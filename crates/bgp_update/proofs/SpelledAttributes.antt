@@ -1,13 +1,13 @@
 -- What is written of an attribute spells it.
-use Rattle.std.proofs.Common.{◌≡◌, ℕ, zero, suc, ◌+◌, ◌-◌, ◌*◌, ◌/◌, ◌%◌, ◌<◌, ◌≤◌, Bool, true, false, not, cond, List, [], ◌∷◌, ◌++◌, length, take, drop, flat_map, leb, ltb, eqb, refl, sym, ap, subst, ◌∙◌, append_assoc, ◌||◌, arith}
-use Rattle.std.specs.Prelude.{Option, Some, None, ◌&&◌, ◌==◌, slice_index}
-use Rattle.std.proofs.lemmas.Bool.{and_from, cond_both, eq-eqb, le-leb, leb-true, lt-ltb}
+use Rattle.std.proofs.Common.{◌≡◌, ℕ, ◌+◌, ◌*◌, ◌/◌, ◌%◌, ◌<◌, ◌≤◌, Bool, true, false, not, cond, List, [], ◌∷◌, ◌++◌, length, flat_map, leb, ltb, refl, sym, ap, subst, ◌∙◌, ◌||◌, arith}
+use Rattle.std.specs.Prelude.{None, ◌==◌}
+use Rattle.std.proofs.lemmas.Bool.{and_from, cond_both, eq-eqb, le-leb, lt-ltb}
 use Rattle.std.proofs.lemmas.List.{append-nil, length-append}
-use Rattle.grammar.specs.Formats.{AllSpell, Format, ItemsSpell, ◌>>=◌, ensure, items, octet, octets}
+use Rattle.grammar.specs.Formats.{AllSpell, Format, ItemsSpell, ◌>>=◌, octet}
 use Rattle.grammar.specs.Numbers.{big_endian, two_octets}
 use Rattle.net_types.specs.AttributeTypes.{type_of}
 use Rattle.net_types.specs.Octets.{address_octets, word}
-use Rattle.net_types.specs.SoundUpdates.{Each, IsSoundAggregator, IsSoundNextHop, IsSoundSegment, asns_of}
+use Rattle.net_types.specs.SoundUpdates.{Each, IsSoundNextHop, IsSoundSegment}
 use Rattle.net_types.specs.UpdateFormat.{attribute, is_long, known_value, longs, segment, segment_of, value, number_of, value_length, with_type, words}
 use Rattle.net_types.specs.Updates as written
 use Rattle.net_types.specs.Updates.{long, passed_on, segment_octets}
@@ -15,7 +15,6 @@ use Rattle.net_types.specs.declared.address.Ip.{Ip}
 use Rattle.net_types.specs.declared.attribute.Attribute.{Attribute}
 use Rattle.net_types.specs.declared.attribute.Attribute.TheVariants as attributes
 use Rattle.net_types.specs.declared.attribute.AttributeType.TheVariants as types
-use Rattle.net_types.specs.declared.route.Aggregator.{Aggregator}
 use Rattle.net_types.specs.declared.route.Segment.{Segment}
 use Rattle.net_types.specs.declared.route.Segment.TheVariants.{Set, Sequence}
 use Rattle.net_types.specs.declared.route.Unknown.{Unknown}

@@ -1,21 +1,21 @@
 -- The attributes and prefixes of a sound update, as they are written, spell it.
-use Rattle.std.proofs.Common.{◌≡◌, ℕ, zero, suc, ◌+◌, ◌-◌, ◌*◌, ◌/◌, ◌%◌, ◌^◌, ◌<◌, ◌≤◌, Bool, true, false, not, cond, List, [], ◌∷◌, ◌++◌, length, take, map, filter, flat_map, min, leb, eqb, refl, sym, ap, subst, ◌∙◌, append_assoc, arith, inl, inr}
-use Rattle.std.specs.Prelude.{◌⊎◌, Option, Some, None, ◌&&◌, ◌||◌, ◌==◌, IsTrue, nat_le, nat_lt}
+use Rattle.std.proofs.Common.{◌≡◌, ℕ, zero, suc, ◌+◌, ◌-◌, ◌*◌, ◌/◌, ◌%◌, ◌^◌, ◌<◌, ◌≤◌, Bool, true, false, not, cond, List, [], ◌∷◌, ◌++◌, length, take, map, filter, flat_map, refl, sym, ap, subst, ◌∙◌, append_assoc, arith, inl, inr}
+use Rattle.std.specs.Prelude.{Option, Some, None, ◌&&◌, ◌==◌, IsTrue, nat_le, nat_lt}
 use Rattle.std.specs.List.{fold}
-use Rattle.std.proofs.lemmas.Bool.{and_from, cases_Bool, cases_eq, cases_lt, eq-eqb, le-leb, leb-true, ltb-true, lt-ltb, ne_eqb}
-use Rattle.std.proofs.lemmas.List.{append-nil, length-append, length-take}
+use Rattle.std.proofs.lemmas.Bool.{cases_Bool, cases_lt, le-leb, leb-true, ltb-true, lt-ltb, ne_eqb}
+use Rattle.std.proofs.lemmas.List.{append-nil, length-take}
 use Rattle.std.proofs.lemmas.Nat.{pow-add}
 use Rattle.std.proofs.Math.Nat.{div-add-mod, mul-mod_right, mul_assoc}
-use Rattle.grammar.specs.Formats.{AllSpell, Format, ItemsSpell, ◌>>=◌}
+use Rattle.grammar.specs.Formats.{ItemsSpell}
 use Rattle.net_types.proofs.PrefixLemmas.{same_bits_refl}
-use Rattle.net_types.proofs.SetLemmas.{Member-append_cases, Member-append_left, Member-append_right, same_refl}
+use Rattle.net_types.proofs.SetLemmas.{Member-append_cases, Member-append_left, Member-append_right}
 use Rattle.net_types.specs.AttributeTypes.{type_of}
 use Rattle.net_types.specs.Bits.{same_bits}
-use Rattle.net_types.specs.Octets.{address_octets, word}
+use Rattle.net_types.specs.Octets.{address_octets}
 use Rattle.net_types.specs.Sets.{IsRising, Member, SameMembers}
-use Rattle.net_types.specs.SoundUpdates.{AreSoundAttrs, Each, HasSoundAttrs, IsSoundAggregator, IsSoundUpdate}
-use Rattle.net_types.specs.UpdateFormat.{Head, Parts, attribute, head, is_complete, message, no_types, number_of, padded, prefix, with_type}
-use Rattle.net_types.specs.UpdateSpelling.{AreAttrs, AreSaid, IsLeft, IsOrdered, IsOrderedWithout, IsUpdateOf, Spells, is_type_before}
+use Rattle.net_types.specs.SoundUpdates.{AreSoundAttrs, Each, IsSoundAggregator}
+use Rattle.net_types.specs.UpdateFormat.{no_types, number_of, padded, prefix, with_type}
+use Rattle.net_types.specs.UpdateSpelling.{AreSaid, is_type_before}
 use Rattle.net_types.specs.UpdateValue.{Said, nothing_said, said, with_attribute}
 use Rattle.net_types.specs.Updates as written
 use Rattle.net_types.specs.Updates.{aggregator_octets, atomic_octets, attrs_octets, canonical, communities_octets, marker, med_octets, optional_attrs_octets, prefix_octets, prefixes_octets, unknown_octets, update_message}
@@ -27,12 +27,9 @@ use Rattle.net_types.specs.declared.route.Aggregator.{Aggregator}
 use Rattle.net_types.specs.declared.route.Attrs.{Attrs}
 use Rattle.net_types.specs.declared.route.Segment.{Segment}
 use Rattle.net_types.specs.declared.route.Unknown.{Unknown}
-use Rattle.net_types.specs.declared.update.Fault.{Fault}
-use Rattle.net_types.specs.declared.update.Update.{Update}
-use Rattle.bgp_update.proofs.LengthSums.{words_len}
-use Rattle.bgp_update.proofs.SpelledAttributes.{IsTaken, all_spell, octets_of, then_spells, two_spells}
+use Rattle.bgp_update.proofs.SpelledAttributes.{IsTaken, octets_of, then_spells}
 use Rattle.bgp_update.specs.Answers.{AreNew}
-use Rattle.bgp_update.specs.RoundTrip.{FitAttrs, FitOptional, FitsAggregator, FitsMed}
+use Rattle.bgp_update.specs.RoundTrip.{FitAttrs, FitsAggregator, FitsMed}
 
 -- ---- prefixes
 

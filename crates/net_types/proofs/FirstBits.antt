@@ -56,10 +56,10 @@ first_bits_of-bits n a le =
     let e : min n 32 ≡ n = omega arith in
     let small : a % 2 ^ 32 < 2 ^ 32 = mod-lt a (lit< tt) in
     let quotient : cleared_address n a / 2 ^ (32 - n) ≡ a % 2 ^ 32 / 2 ^ (32 - n) =
-        ap (λ (m : ℕ). a % 2 ^ 32 / 2 ^ (32 - m) * 2 ^ (32 - m) / 2 ^ (32 - n)) e ∙ mul-div_left (a % 2 ^ 32 / 2 ^ (32 - n)) (pow_pos (32 - n)) in
+    ap (λ (m : ℕ). a % 2 ^ 32 / 2 ^ (32 - m) * 2 ^ (32 - m) / 2 ^ (32 - n)) e ∙ mul-div_left (a % 2 ^ 32 / 2 ^ (32 - n)) (pow_pos (32 - n)) in
     same_bits_trans n (cleared_address n a) (a % 2 ^ 32) a
-        (same_bits-quotient n (cleared_address n a) (a % 2 ^ 32) le (in_range n a) small ∙ eq-eqb _ _ quotient)
-        (same_low_bits n a le)
+    (same_bits-quotient n (cleared_address n a) (a % 2 ^ 32) le (in_range n a) small ∙ eq-eqb _ _ quotient)
+    (same_low_bits n a le)
 
 -- prefixes of one length that have the first bits of one address are one
 pub one_of_bits : (p q : Prefix) (a : ℕ) → p.len ≡ q.len → IsTrue (same_bits p.len p.address.0 a) → IsTrue (same_bits q.len q.address.0 a) → p ≡ q

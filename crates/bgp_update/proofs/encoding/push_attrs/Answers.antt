@@ -1,5 +1,5 @@
 -- The pieces are the attributes in their order.
-use Rattle.std.proofs.Common.{◌≡◌, ◌++◌, ◌∙◌, [], List, ap, flat_map}
+use Rattle.std.proofs.Common.{◌++◌, ◌∙◌, [], List, ap, flat_map}
 use Rattle.std.specs.Prelude.{nat_le, nat_lt, if◌then◌else◌}
 use Rattle.net_types.specs.Updates.{attribute}
 use Rattle.net_types.specs.declared.route.Unknown.{Unknown}

@@ -1,6 +1,6 @@
 -- The ones so far are written.
 use Rattle.std.proofs.Common.{◌≡◌, ◌++◌, [], take, flat_map}
-use Rattle.std.specs.Prelude.{nat_le, nat_lt, if◌then◌else◌}
+use Rattle.std.specs.Prelude.{nat_lt, if◌then◌else◌}
 use Rattle.net_types.specs.Updates.{attribute}
 use Rattle.net_types.specs.declared.route.Unknown.{Unknown}
 use Rattle.bgp_update.proofs.encoding.push_lowest.Given as goal

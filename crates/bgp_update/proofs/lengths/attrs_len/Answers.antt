@@ -1,6 +1,6 @@
 -- The lengths of all attributes together.
 use Rattle.std.proofs.Common.{◌≡◌, ◌+◌, ℕ, List, length, min, flat_map, ap, sym, ◌∙◌, arith}
-use Rattle.net_types.specs.Updates.{aggregator_octets, atomic_octets, attribute, attrs_octets, communities_octets, med_octets, segment_octets, unknown_octets}
+use Rattle.net_types.specs.Updates.{attribute, attrs_octets, communities_octets, segment_octets, unknown_octets}
 use Rattle.net_types.specs.declared.route.Segment.{Segment}
 use Rattle.net_types.specs.declared.route.Unknown.{Unknown}
 use Rattle.bgp_update.proofs.LengthSums.{attribute_capped, attribute_length, attrs_length, attrs_sum}
