@@ -2,7 +2,7 @@
 use Rattle.std.proofs.Common.{◌≡◌, ℕ, ◌≤◌, List, length, Result, Ok, Err, refl}
 use Rattle.std.specs.Prelude.{IfOk, IfErr, MatchResult}
 use Rattle.grammar.specs.Texts.{IsText, IsTextCause, read_whole}
-use Rattle.grammar.specs.Reading.{OutOfMemory, Cause}
+use Rattle.grammar.specs.Reading.{OutOfMemory}
 use Rattle.grammar.proofs.TextAnswers.{text_ok, text_err, text_found}
 use Rattle.net_types.specs.Policies.{Policy}
 use Rattle.policy_syntax.specs.declared.fault.SyntaxFault.{SyntaxFault}

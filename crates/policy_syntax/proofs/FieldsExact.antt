@@ -1,7 +1,7 @@
 -- Targets, addresses, prefixes and fields are read exactly.
 use Rattle.grammar.proofs.DottedAddresses as dotted
-use Rattle.std.proofs.Common.{◌≡◌, ℕ, zero, suc, ◌+◌, ◌*◌, ◌≤◌, Bool, true, false, List, [], ◌∷◌, ◌++◌, length, refl, sym, ap, ◌∙◌, arith, inl, inr, leb, eqb}
-use Rattle.std.specs.Prelude.{◌⊎◌, ◌||◌, ◌&&◌, not, codes}
+use Rattle.std.proofs.Common.{◌≡◌, ℕ, ◌≤◌, Bool, true, false, List, [], ◌∷◌, ◌++◌, refl, sym, ap, arith, inl, inr, leb, eqb}
+use Rattle.std.specs.Prelude.{◌⊎◌, ◌&&◌, not, codes}
 use Rattle.std.proofs.lemmas.Bool.{or_left, eq-eqb, both_ways, or_cases, and_parts, leb-true, eqb-true, not_from_false, not-true, false_from_ne_true}
 use Rattle.grammar.specs.Rules as rules
 use Rattle.grammar.specs.Rules.{Rule, ◌>>=◌, either, maybe, word}
@@ -9,31 +9,28 @@ use Rattle.grammar.specs.Tokens.{name, number, is_letter, is_digit, is_name_octe
 use Rattle.grammar.specs.TextReading as reading
 use Rattle.grammar.specs.TextReading.{Reader, read_word, read_maybe, read_either}
 use Rattle.grammar.specs.TokenReading.{read_name, read_number, read_spaces, read_sign}
-use Rattle.net_types.specs.Policies.{Target, Name, Number, Test, Inport, Src, Dst, Proto, Sport, Dport}
-use Rattle.net_types.specs.declared.prefix.Prefix.{Prefix}
-use Rattle.policy_syntax.specs.PolicyGrammar.{inport_is, number_is, Field, SrcIs, DstIs, SportIs, DportIs, target, prefix, prefix_of, field, test, assign}
+use Rattle.net_types.specs.Policies.{Name, Src, Dst, Proto, Sport, Dport}
+use Rattle.policy_syntax.specs.PolicyGrammar.{inport_is, number_is, SrcIs, DstIs, SportIs, DportIs, target, prefix, prefix_of, field, test, assign}
 use Rattle.grammar.specs.Tokens.{address}
 use Rattle.grammar.specs.Octets.{among}
 use Rattle.policy_syntax.specs.PolicyReading.{read_target, read_prefix, read_prefix_len, read_lead, read_field, read_end, read_test, read_assign}
 use Rattle.grammar.specs.TokenReading.{read_address}
-use Rattle.grammar.proofs.Exact.{same_reader, on_read-on_read, both, both_exact, tighter}
-use Rattle.grammar.specs.Exactness.{Family, IsExact}
-use Rattle.grammar.proofs.Firsts.{Leads}
+use Rattle.grammar.proofs.Exact.{same_reader, on_read-on_read, both_exact, tighter}
+use Rattle.grammar.specs.Exactness.{IsExact}
 use Rattle.grammar.proofs.Firsts.{Heads, Heads-leads}
 use Rattle.grammar.proofs.OctetKinds.{Apart, Within}
-use Rattle.grammar.proofs.Nothing.{pure_exact, pure_leads}
-use Rattle.grammar.proofs.Tokens.{token_heads}
+use Rattle.grammar.proofs.Nothing.{pure_leads}
 use Rattle.grammar.proofs.Choices.{one_of, either_exact, either_heads}
-use Rattle.grammar.proofs.Names.{name_exact, names}
-use Rattle.grammar.proofs.Numbers.{number_exact, numbers}
-use Rattle.grammar.proofs.OctetKinds.{besides, all_pass, any, among_within, among_apart, besides_apart, besides_rest}
-use Rattle.grammar.proofs.Firsts.{any_leads, Heads-within, word_heads}
+use Rattle.grammar.proofs.Names.{name_exact}
+use Rattle.grammar.proofs.Numbers.{number_exact}
+use Rattle.grammar.proofs.OctetKinds.{besides, among_within, among_apart, besides_apart, besides_rest}
+use Rattle.grammar.proofs.Firsts.{Heads-within, word_heads}
 use Rattle.grammar.proofs.Exact.{both_heads, both_leads}
 use Rattle.grammar.proofs.Words.{word_then}
-use Rattle.grammar.proofs.Spaces.{spaces_then, sign_then, sign_exact, no_space}
+use Rattle.grammar.proofs.Spaces.{spaces_then, sign_then, no_space}
 use Rattle.grammar.proofs.Optional.{maybe_exact, maybe_leads}
-use Rattle.grammar.proofs.Same.{Same, same_exact}
-use Rattle.grammar.proofs.CommonFronts.{after, common_front}
+use Rattle.grammar.proofs.Same.{same_exact}
+use Rattle.grammar.proofs.CommonFronts.{common_front}
 use Rattle.grammar.proofs.DottedAddresses.{address_heads}
 use Rattle.grammar.proofs.Spaces.{digits_no_space}
 use Rattle.grammar.proofs.OctetKinds.{flip}

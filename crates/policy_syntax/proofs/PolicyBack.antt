@@ -1,19 +1,18 @@
 -- The canonical text of a policy is read as the policy, but for its spans.
-use Rattle.std.proofs.Common.{◌≡◌, ℕ, zero, suc, ◌+◌, ◌≤◌, ◌<◌, ◌^◌, Bool, true, false, List, [], ◌∷◌, ◌++◌, length, refl, sym, ap, subst, ◌∙◌, append_assoc, arith, inl, inr}
-use Rattle.std.specs.Prelude.{◌⊎◌, codes}
+use Rattle.std.proofs.Common.{◌≡◌, ℕ, zero, suc, ◌+◌, false, List, [], ◌∷◌, ◌++◌, length, refl, sym, ap, subst, ◌∙◌, append_assoc, arith, inl, inr}
+use Rattle.std.specs.Prelude.{codes}
 use Rattle.std.specs.Fmt.{decimal}
 use Rattle.std.proofs.lemmas.List.{append-nil}
-use Rattle.grammar.specs.Rules as rules
-use Rattle.grammar.specs.Rules.{Rule, place, word, ◌>>=◌, many}
+use Rattle.grammar.specs.Rules.{Rule, place, word, ◌>>=◌}
 use Rattle.grammar.specs.Octets.{AllPass}
-use Rattle.grammar.specs.Tokens.{is_space, IsName, number, name, sign, spaces}
+use Rattle.grammar.specs.Tokens.{is_space, number, name, spaces}
 use Rattle.net_types.specs.declared.headers.Span.{Span}
-use Rattle.policy_syntax.specs.PolicyGrammar.{number_is, span, target, pred_with, pred_group, policy_group, fwd, match_with, modify, keyword, atom_from, atom_with, chain_with, policy_with, then_atom, plus_chain}
+use Rattle.policy_syntax.specs.PolicyGrammar.{number_is, span, target, pred_with, pred_group, policy_group, fwd, match_with, modify, atom_from, atom_with, chain_with, policy_with, then_atom, plus_chain}
 use Rattle.net_types.specs.declared.headers.Assign.{Assign}
 use Rattle.net_types.specs.Policies.{Target, Name, Number, Pred, Policy, Drop, Pass, Block, Fwd, Match, Set, Both, Then}
 use Rattle.grammar.specs.Tokens.{parens}
-use Rattle.policy_syntax.specs.Canonical.{Level, Loose, Middle, Tight, Single, group_first, group_second, grouped, target_text, pred_text, assign_text, policy_text}
-use Rattle.policy_syntax.specs.ReadsBack.{bare_pred, Inside, FitsPred, SoundTarget, bare, FitsPolicy}
+use Rattle.policy_syntax.specs.Canonical.{Level, Loose, Middle, Tight, Single, grouped, target_text, pred_text, assign_text, policy_text}
+use Rattle.policy_syntax.specs.ReadsBack.{bare_pred, FitsPred, SoundTarget, bare, FitsPolicy}
 use Rattle.policy_syntax.proofs.ReadBack.{both, ended, no_spaces, signed, one_more, alone, decimal_number, Anywhere, word_back, sign_back, one_space, between, pred_back}
 
 target_back : (x : Target) → SoundTarget x → Anywhere target (target_text x) x

@@ -1,53 +1,42 @@
 -- Policies are read exactly.
-use Rattle.std.proofs.Common.{◌≡◌, ℕ, zero, suc, ◌+◌, ◌≤◌, Bool, true, false, List, [], ◌∷◌, ◌++◌, length, refl, sym, ap, subst, ◌∙◌, arith, inl, inr, eqb, leb}
-use Rattle.std.specs.Prelude.{◌⊎◌, ◌||◌, ◌&&◌, not, codes}
-use Rattle.std.proofs.lemmas.Bool.{or_cases, eqb-true, and_parts, leb-true, not_from_false, false_from_ne_true}
+use Rattle.std.proofs.Common.{◌≡◌, ℕ, Bool, true, false, List, [], ◌∷◌, refl, sym, ap, arith, inl, inr, eqb}
+use Rattle.std.specs.Prelude.{◌⊎◌, ◌||◌, codes}
+use Rattle.std.proofs.lemmas.Bool.{or_cases, eqb-true}
 use Rattle.grammar.specs.Rules as rules
 use Rattle.grammar.specs.Rules.{Rule, ◌>>=◌, place, pure, either, many, word}
 use Rattle.grammar.specs.Tokens.{sign, spaces, is_space, is_digit, is_letter}
-use Rattle.grammar.specs.TextReading as reading
-use Rattle.grammar.specs.TextReading.{Reader, read_word, read_either, read_many}
-use Rattle.grammar.specs.TokenReading.{read_spaces, read_sign}
-use Rattle.net_types.specs.Policies.{Target, Test, Pred, Yes, Is, Not, And, Or, Policy, Drop, Pass, Block, Fwd, Match, Set, Both, Then}
-use Rattle.net_types.specs.declared.headers.Span.{Span}
+use Rattle.grammar.specs.TextReading.{Reader, read_either}
+use Rattle.net_types.specs.Policies.{Pred, Yes, Is, Not, And, Or, Policy, Drop, Pass, Block, Fwd, Match, Set, Both, Then}
 use Rattle.net_types.specs.declared.headers.Assign.{Assign}
 use Rattle.net_types.specs.Headers.{no_change}
-use Rattle.policy_syntax.specs.PolicyGrammar.{Field, span, with_field, target, test, assign, truth, tested, prim_with, negation, lit_with, and_lit, or_conj, assigned, more_assigned, atom_from, then_atom, plus_chain, conj_with, pred_with, pred_group, fwd, match_with, modify, keyword, atom_with, chain_with, policy_with, policy_group, policy}
-use Rattle.grammar.specs.Tokens.{parens}
+use Rattle.policy_syntax.specs.PolicyGrammar.{span, with_field, target, test, truth, tested, prim_with, negation, lit_with, and_lit, or_conj, assigned, more_assigned, atom_from, then_atom, plus_chain, conj_with, pred_with, pred_group, fwd, match_with, modify, keyword, atom_with, chain_with, policy_with, policy_group, policy}
 use Rattle.grammar.specs.Octets.{among}
-use Rattle.policy_syntax.specs.PolicyReading.{read_target, read_test, read_assign, read_is, read_true, read_prim, read_not, read_lit, read_and, read_ands, read_conj, read_or, read_ors, read_pred, read_pred_group, read_fwd, read_match, read_assign_spaces, read_set, read_sets, read_modify, read_keyword, read_m, read_atom_from, read_atom, read_then, read_thens, read_chain, read_plus, read_pluses, read_policy, read_policy_group, read_start}
-use Rattle.grammar.specs.TokenReading.{read_too_deep, read_parens}
-use Rattle.grammar.proofs.Exact.{both, both_exact, tighter}
+use Rattle.policy_syntax.specs.PolicyReading.{read_is, read_true, read_prim, read_not, read_lit, read_and, read_ands, read_conj, read_or, read_ors, read_pred, read_pred_group, read_fwd, read_match, read_assign_spaces, read_set, read_sets, read_modify, read_keyword, read_m, read_atom_from, read_atom, read_then, read_thens, read_chain, read_plus, read_pluses, read_policy, read_policy_group, read_start}
+use Rattle.grammar.proofs.Exact.{both_exact}
 use Rattle.grammar.specs.Exactness.{Family, IsExact}
 use Rattle.grammar.proofs.Firsts.{Leads}
-use Rattle.grammar.specs.Octets.{Follows}
-use Rattle.grammar.specs.Octets.{StartsIn}
 use Rattle.grammar.proofs.Firsts.{Heads, Heads-leads}
 use Rattle.grammar.proofs.OctetKinds.{Apart, Within}
-use Rattle.grammar.proofs.Nothing.{pure_exact, pure_leads, place_exact, place_leads}
-use Rattle.grammar.proofs.Words.{word_exact}
+use Rattle.grammar.proofs.Nothing.{pure_exact, pure_leads, place_exact}
 use Rattle.grammar.proofs.Runs.{run_leads}
 use Rattle.grammar.proofs.Choices.{one_of, either_heads}
 use Rattle.grammar.proofs.Repeats.{many_of, many_exact, many_leads}
-use Rattle.grammar.proofs.OctetKinds.{besides, all_pass, any, among_within, among_apart}
+use Rattle.grammar.proofs.OctetKinds.{any, among_within, among_apart}
 use Rattle.grammar.proofs.Firsts.{any_leads, Heads-within, word_heads}
 use Rattle.grammar.proofs.Exact.{both_heads, both_leads}
 use Rattle.grammar.proofs.Words.{word_then}
-use Rattle.grammar.proofs.Spaces.{spaces_then, sign_then, sign_exact, spaces_exact, no_space}
+use Rattle.grammar.proofs.Spaces.{spaces_then, sign_then, sign_exact, no_space}
 use Rattle.grammar.proofs.Same.{Same, same_exact}
 use Rattle.grammar.proofs.CommonFronts.{after, common_front}
-use Rattle.grammar.proofs.Groups.{deeper_of, is_open, deeper_heads, inside, too_deep_exact}
+use Rattle.grammar.proofs.Groups.{is_open}
 use Rattle.grammar.proofs.Names.{name_heads}
 use Rattle.grammar.proofs.Numbers.{number_heads}
 use Rattle.grammar.proofs.Spaces.{digits_no_space}
 use Rattle.policy_syntax.proofs.FieldsExact.{after_value, after_target, target_exact, test_heads, test_exact, assign_heads, assign_exact}
-use Rattle.grammar.proofs.OctetKinds.{flip}
 use Rattle.grammar.proofs.Choices.{pick}
 use Rattle.grammar.proofs.Firsts.{headed}
 use Rattle.grammar.proofs.Spaces.{sign_heads}
 use Rattle.grammar.proofs.Spaces.{sign_opens, ends_exact, ends_leads, placed_exact, placed_leads, letters_no_space}
-use Rattle.grammar.proofs.Groups.{parens_heads, parens_exact, parens_opens, parens_empty}
-use Rattle.grammar.proofs.Same.{same_heads}
 use Rattle.grammar.proofs.Firsts.{wider}
 use Rattle.grammar.proofs.Nothing.{place_heads}
 use Rattle.grammar.proofs.Groups.{groups_heads, groups_exact}

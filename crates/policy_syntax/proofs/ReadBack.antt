@@ -8,15 +8,15 @@ use Rattle.std.proofs.lemmas.Bool.{le-leb, and_from, cases_Bool, eqb-true, cond-
 use Rattle.grammar.specs.Rules as rules
 use Rattle.grammar.specs.Rules.{Rule, word, ◌>>=◌, many, SpellsTimes}
 use Rattle.grammar.specs.Octets.{AllPass}
-use Rattle.grammar.specs.Tokens.{is_digit, is_space, number_from, number_of, IsNumber, number, sign, spaces}
+use Rattle.grammar.specs.Tokens.{is_digit, is_space, number_of, IsNumber, number, sign, spaces}
 use Rattle.grammar.specs.Rules.{place}
 use Rattle.net_types.specs.declared.prefix.Prefix.{Prefix}
-use Rattle.policy_syntax.specs.PolicyGrammar.{inport_is, prefix_of, span, field, prefix, test, tested, truth, negation, prim_with, lit_with, conj_with, pred_with, and_lit, or_conj, pred_group}
+use Rattle.policy_syntax.specs.PolicyGrammar.{inport_is, prefix_of, span, field, prefix, test, tested, prim_with, lit_with, conj_with, pred_with, and_lit, or_conj, pred_group}
 use Rattle.net_types.specs.declared.headers.Span.{Span}
 use Rattle.net_types.specs.Policies.{Test, Inport, Src, Dst, Proto, Sport, Dport, Pred, Yes, Is, Not, And, Or}
 use Rattle.grammar.specs.Tokens.{address, parens}
-use Rattle.policy_syntax.specs.Canonical.{Level, Loose, Middle, Tight, Single, group_first, group_second, group_third, grouped, opening, closing, address_text, len_text, prefix_text, test_text, pred_text}
-use Rattle.policy_syntax.specs.ReadsBack.{SoundTest, bare_pred, Inside, FitsPred}
+use Rattle.policy_syntax.specs.Canonical.{Level, Loose, Middle, Tight, Single, group_third, grouped, address_text, len_text, prefix_text, test_text, pred_text}
+use Rattle.policy_syntax.specs.ReadsBack.{SoundTest, bare_pred, FitsPred}
 use Rattle.grammar.proofs.Numbers.{number_from-append}
 use Rattle.net_types.proofs.PrefixLemmas.{same_bits_refl}
 use Rattle.policy_syntax.proofs.FirstBits.{is_prefix_of}

@@ -1,22 +1,20 @@
 -- The canonical text of a modification is read as the modification.
-use Rattle.std.proofs.Common.{◌≡◌, ℕ, zero, suc, ◌+◌, ◌≤◌, ◌<◌, ◌^◌, Option, Some, None, List, [], ◌∷◌, ◌++◌, length, refl, sym, ap, subst, ◌∙◌, append_assoc, arith, inl, inr}
-use Rattle.std.specs.Prelude.{codes, IfSome}
+use Rattle.std.proofs.Common.{◌≡◌, ℕ, ◌+◌, ◌≤◌, Option, Some, None, List, [], ◌∷◌, ◌++◌, length, refl, sym, subst, append_assoc, arith, inl, inr}
+use Rattle.std.specs.Prelude.{codes}
 use Rattle.std.specs.Fmt.{decimal}
 use Rattle.net_types.specs.declared.address.Ip.{Ip}
 use Rattle.std.proofs.lemmas.List.{append-nil}
-use Rattle.grammar.specs.Rules as rules
-use Rattle.grammar.specs.Rules.{Rule, place, word, ◌>>=◌, many, SpellsTimes}
+use Rattle.grammar.specs.Rules.{place, word, ◌>>=◌, many, SpellsTimes}
 use Rattle.grammar.specs.Octets.{AllPass}
-use Rattle.grammar.specs.Tokens.{is_space, number, sign, spaces}
-use Rattle.net_types.specs.declared.headers.Span.{Span}
+use Rattle.grammar.specs.Tokens.{is_space, number, spaces}
 use Rattle.policy_syntax.specs.PolicyGrammar.{span, with_field, Field, SrcIs, DstIs, SportIs, DportIs, assign, assigned, more_assigned, modify}
 use Rattle.net_types.specs.declared.headers.Assign.{Assign}
 use Rattle.net_types.specs.Headers.{no_change}
-use Rattle.net_types.specs.Policies.{Policy, Set}
+use Rattle.net_types.specs.Policies.{Set}
 use Rattle.grammar.specs.Tokens.{address}
 use Rattle.policy_syntax.specs.Canonical.{address_text, assign_text}
 use Rattle.policy_syntax.proofs.ReadBack.{both, ended, no_spaces, signed, decimal_number, Anywhere, field_back, ip_back}
-use Rattle.policy_syntax.specs.ReadsBack.{SoundField, AllSound, fields_of, some_src, some_dst, some_sport, some_dport, IsNonEmpty, SoundAssign}
+use Rattle.policy_syntax.specs.ReadsBack.{SoundField, AllSound, fields_of, IsNonEmpty, SoundAssign}
 use Rattle.policy_syntax.proofs.PolicyBack.{SetsBack}
 
 abbrev field_string : Field → List ℕ

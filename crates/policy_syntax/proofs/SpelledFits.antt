@@ -1,14 +1,14 @@
 -- What a text with at most d groups spells has a canonical text with at most d groups, and its numbers are in range.
-use Rattle.std.proofs.Common.{◌≡◌, ℕ, zero, suc, ◌+◌, ◌*◌, ◌≤◌, ◌<◌, ◌^◌, Bool, true, false, Option, Some, None, List, [], ◌∷◌, ◌++◌, length, refl, sym, ap, subst, ◌∙◌, arith, inl, inr}
-use Rattle.std.specs.Prelude.{◌⊎◌, codes, IfSome}
+use Rattle.std.proofs.Common.{ℕ, zero, suc, ◌≤◌, ◌<◌, ◌^◌, Bool, true, false, Option, Some, None, List, [], ◌∷◌, ◌++◌, sym, ap, subst, ◌∙◌, arith, inl, inr}
+use Rattle.std.specs.Prelude.{codes, IfSome}
 use Rattle.grammar.specs.Rules.{Rule, ◌>>=◌, many, SpellsTimes}
-use Rattle.grammar.specs.Tokens.{number, name, address, IsNumber, number_of, parens}
+use Rattle.grammar.specs.Tokens.{number, address, parens}
 use Rattle.net_types.specs.declared.address.Ip.{Ip}
 use Rattle.net_types.specs.declared.headers.Assign.{Assign}
 use Rattle.net_types.specs.Headers.{no_change}
-use Rattle.net_types.specs.Policies.{Target, Name, Number, Test, Inport, Src, Dst, Proto, Sport, Dport, Pred, Yes, Is, Not, And, Or, Policy, Drop, Pass, Block, Fwd, Match, Set, Both, Then}
-use Rattle.policy_syntax.specs.PolicyGrammar.{Field, SrcIs, DstIs, SportIs, DportIs, with_field, inport_is, number_is, target, prefix, field, test, assign, truth, tested, prim_with, negation, lit_with, and_lit, conj_with, or_conj, pred_with, pred_group, fwd, match_with, assigned, more_assigned, modify, keyword, atom_from, atom_with, then_atom, chain_with, plus_chain, policy_with, policy_group, policy}
-use Rattle.policy_syntax.specs.Canonical.{Level, Loose, Middle, Tight, Single, group_first, group_second, group_third, canonical}
+use Rattle.net_types.specs.Policies.{Target, Name, Test, Src, Dst, Proto, Sport, Dport, Pred, Yes, Is, Not, And, Or, Policy, Drop, Pass, Block, Fwd, Match, Set, Both, Then}
+use Rattle.policy_syntax.specs.PolicyGrammar.{Field, SrcIs, DstIs, SportIs, DportIs, with_field, inport_is, target, prefix, field, test, assign, truth, tested, prim_with, negation, lit_with, and_lit, conj_with, or_conj, pred_with, pred_group, fwd, match_with, assigned, more_assigned, modify, keyword, atom_from, atom_with, then_atom, chain_with, plus_chain, policy_with, policy_group, policy}
+use Rattle.policy_syntax.specs.Canonical.{Level, Loose, Middle, Tight, Single, group_first, group_second, group_third}
 use Rattle.policy_syntax.specs.ReadsBack.{SoundTest, SoundTarget, SoundField, AllSound, some_src, some_dst, some_sport, some_dport, fields_of, IsNonEmpty, SoundAssign, Inside, FitsPred, FitsPolicy, ReadsBack, EachPart}
 use Rattle.policy_syntax.proofs.Canonized.{canonical_back}
 

@@ -1,5 +1,5 @@
 -- What a function of the program answered, beside what reading gives, and why a text is refused.
-use Rattle.std.specs.Prelude.{◌≡◌, ℕ, ◌≤◌, ◌<◌, List, length, Result, Ok, Err, MatchResult}
+use Rattle.std.specs.Prelude.{◌≡◌, ℕ, ◌≤◌, ◌<◌, List, length, Result, MatchResult}
 use Rattle.grammar.specs.Reading as reading
 use Rattle.grammar.specs.Reading.{Cause, Met, OutOfMemory, Unread}
 use Rattle.grammar.specs.TextReading.{Fault, Wrong, Deep}

@@ -1,11 +1,10 @@
 -- Reading a policy from left to right, one octet ahead.
-use Rattle.std.specs.Prelude.{ℕ, zero, suc, ◌+◌, ◌-◌, ◌*◌, Bool, true, false, ◌||◌, ◌==◌, List, [], ◌∷◌, length, codes, Result, Ok, Err, if◌then◌else◌}
-use Rattle.grammar.specs.Tokens.{is_letter, is_digit}
-use Rattle.grammar.specs.TextReading.{Fault, Wrong, Deep, Read, Reader, ◌>>=◌, ◌>>◌, pure, place, read_word, read_either, read_maybe, read_many}
+use Rattle.std.specs.Prelude.{ℕ, zero, suc, List, length, codes}
+use Rattle.grammar.specs.Tokens.{is_letter}
+use Rattle.grammar.specs.TextReading.{Reader, ◌>>=◌, ◌>>◌, pure, place, read_word, read_either, read_maybe, read_many}
 use Rattle.grammar.specs.Octets.{among}
 use Rattle.grammar.specs.TokenReading.{read_parens, read_too_deep, read_address, read_sign, read_spaces, read_name, read_number}
-use Rattle.net_types.specs.Policies.{Target, Name, Number, Test, Inport, Src, Dst, Proto, Sport, Dport, Pred, Yes, Is, Not, And, Or, Policy, Drop, Pass, Block, Fwd, Match, Set, Both, Then}
-use Rattle.net_types.specs.declared.headers.Span.{Span}
+use Rattle.net_types.specs.Policies.{Target, Name, Test, Src, Dst, Proto, Sport, Dport, Pred, Yes, Is, Not, And, Or, Policy, Drop, Pass, Block, Fwd, Match, Set, Both, Then}
 use Rattle.net_types.specs.declared.prefix.Prefix.{Prefix}
 use Rattle.net_types.specs.declared.headers.Assign.{Assign}
 use Rattle.net_types.specs.Headers.{no_change}

@@ -28,11 +28,7 @@ fn read<'a>(arena: &'a Bump, text: &'a str) -> Result<Tree<'a>, SyntaxFault>
 }
 
 /// The policy that a text spells, with its nodes in the arena and its names as slices of the text.
-pub fn parse<'a>(
-    _alloc: Global,
-    arena: &'a Bump,
-    text: &'a str,
-) -> Result<Tree<'a>, SyntaxFault>
+pub fn parse<'a>(_alloc: Global, arena: &'a Bump, text: &'a str) -> Result<Tree<'a>, SyntaxFault>
     // The tree is the one policy that the text spells.
     ensures ok { IfOk result (λ tree. (length text.now ≤ 8192) × IsText policy 64 text.now (policy_of tree)) }
     // Each fault is the right one, at its place.

@@ -1,11 +1,9 @@
-use Rattle.std.proofs.Common.{arith, sym, ◌∙◌, ◌≤◌, length}
+use Rattle.std.proofs.Common.{arith}
 use Rattle.std.specs.Prelude.{codes}
-use Rattle.std.proofs.lemmas.Result.{err_from_is_err_and}
 use Rattle.policy_syntax.specs.PolicyGrammar.{with_field}
 use Rattle.grammar.specs.Octets.{among}
 use Rattle.policy_syntax.specs.PolicyReading.{read_set, read_sets}
-use Rattle.policy_syntax.specs.Views.{field_of}
-use Rattle.grammar.proofs.RepeatLoops.{starts_reading, reads_on, stops_reading, has_read}
+use Rattle.grammar.proofs.RepeatLoops.{starts_reading}
 use Rattle.policy_syntax.proofs.fields.all_assigned.Goals as goal
 
 pub loop-left-init : goal.loop-left-init

@@ -4,7 +4,7 @@ use Rattle.net_types.specs.Policies.{And, Or}
 use Rattle.grammar.specs.Octets.{among}
 use Rattle.policy_syntax.specs.PolicyReading.{read_and, read_ands, read_or, read_ors, read_pred_group}
 use Rattle.policy_syntax.specs.Views.{pred_of}
-use Rattle.grammar.proofs.RepeatLoops.{starts_reading, reads_on, stops_reading, has_read}
+use Rattle.grammar.proofs.RepeatLoops.{starts_reading}
 use Rattle.policy_syntax.proofs.preds.+preds.Goals as goal
 
 pub ands-loop-left-init : goal.ands-loop-left-init

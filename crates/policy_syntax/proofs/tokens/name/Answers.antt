@@ -1,4 +1,4 @@
-use Rattle.std.proofs.Common.{sym, ◌∙◌, ap, subst}
+use Rattle.std.proofs.Common.{sym, ◌∙◌, subst}
 use Rattle.std.specs.Str.{IsUtf8}
 use Rattle.grammar.proofs.TokenLoops.{name_utf8}
 use Rattle.policy_syntax.proofs.tokens.name.Goals as goal
