@@ -71,7 +71,10 @@ fn outbound_policies_of_a(rt: HostRuntime) -> Result<(), Fail> {
         ("modify(dstport=80)", broken(Kind::ModifyOutbound, 0, 18)),
         ("match(!inport=2)", broken(Kind::ForeignPort, 7, 15)),
         ("match(inport=9)", broken(Kind::ForeignPort, 6, 14)),
-        ("(fwd(B) + fwd(X)) >> fwd(2)", broken(Kind::UnknownName, 10, 16)),
+        (
+            "(fwd(B) + fwd(X)) >> fwd(2)",
+            broken(Kind::UnknownName, 10, 16),
+        ),
     ];
     for (text, answer) in texts {
         let arena = Bump::new(rt.alloc());
@@ -90,8 +93,14 @@ fn inbound_policies_of_b(rt: HostRuntime) -> Result<(), Fail> {
         ("modify(dstport=80) >> fwd(3)", Ok(())),
         ("fwd(4)", broken(Kind::ForeignPort, 0, 6)),
         ("fwd(A)", broken(Kind::FwdKind, 0, 6)),
-        ("match(inport=2) >> fwd(2)", broken(Kind::InportInbound, 6, 14)),
-        ("match(dstport=80) >> fwd( C ) + fwd(4)", broken(Kind::FwdKind, 21, 29)),
+        (
+            "match(inport=2) >> fwd(2)",
+            broken(Kind::InportInbound, 6, 14),
+        ),
+        (
+            "match(dstport=80) >> fwd( C ) + fwd(4)",
+            broken(Kind::FwdKind, 21, 29),
+        ),
     ];
     for (text, answer) in texts {
         let arena = Bump::new(rt.alloc());
