@@ -1,5 +1,5 @@
 -- The first fault of two parts, one behind the other.
-use Rattle.std.proofs.Common.{◌≡◌, List, [], ◌∷◌, ◌++◌, Result, Ok, Err, refl, sym, ◌∙◌}
+use Rattle.std.proofs.Common.{◌≡◌, List, [], ◌∷◌, ◌++◌, Result, Ok, Err}
 use Rattle.policy_isolate.specs.declared.fault.IsolateFault.{IsolateFault}
 use Rattle.policy_isolate.specs.Isolation.{first_of}
 

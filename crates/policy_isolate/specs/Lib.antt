@@ -1,2 +1,3 @@
 pub mod Isolation
 pub mod Measures
+pub mod SmallExchange

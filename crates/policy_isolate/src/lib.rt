@@ -6,6 +6,8 @@ mod inbound;
 mod names;
 mod outbound;
 mod ports;
+#[cfg(test)]
+mod tests;
 
 pub use fault::{IsolateFault, Kind};
 pub use inbound::check_in;
