@@ -6,7 +6,7 @@ ghost use Rattle.classifier.specs.Meaning.{HasDistinctCubes, HasDistinctCubes-pr
 use crate::line::{Line, Lines};
 use net_types::Items;
 
-/// Rules in order, of which the first with a packet's headers decides.
+/// Rules in order, of which the first with a packet's headers decides. Their cubes differ, and the last has all headers.
 #[derive(Drop)]
 pub struct Classifier {
     lines: Lines,
