@@ -12,7 +12,7 @@ use Rattle.net_types.specs.declared.update.Update.{Update}
 use Rattle.bgp_update.proofs.OneUpdate.{one_update}
 use Rattle.bgp_update.proofs.UpdateExact.{message_said}
 use Rattle.bgp_update.specs.Answers.{IsDecoded, IsFinished, head_of, parts_of}
-use Rattle.bgp_update.specs.UpdateReading.{read_head, read_message, read_prefixes}
+use Rattle.net_types.specs.UpdateReading.{read_head, read_message, read_prefixes}
 use Rattle.bgp_update.specs.declared.fault.UpdateFault.{UpdateFault}
 use Rattle.bgp_update.specs.declared.fault.UpdateFault.TheVariants.{Bad, Memory}
 

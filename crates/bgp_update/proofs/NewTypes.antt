@@ -13,7 +13,7 @@ use Rattle.net_types.specs.declared.attribute.AttributeType.TheVariants as types
 use Rattle.net_types.specs.declared.update.Fault.{Fault}
 use Rattle.bgp_update.proofs.UpdateExact.{attribute_exact}
 use Rattle.bgp_update.specs.Answers.{AreNew}
-use Rattle.bgp_update.specs.UpdateReading.{read_attribute, read_attributes}
+use Rattle.net_types.specs.UpdateReading.{read_attribute, read_attributes}
 
 pick : (n k : ℕ) (t u : AttributeType) (more : Option AttributeType) (b : Bool) → eqb n k ≡ b → type_number t ≡ k → (more ≡ Some u → type_number u ≡ n) → cond b (Some t) more ≡ Some u → type_number u ≡ n
 pick n k t u more true e is later h = let same : u ≡ t = cc in ap type_number same ∙ is ∙ sym (eqb-true n k e)

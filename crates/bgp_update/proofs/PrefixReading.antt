@@ -10,7 +10,7 @@ use Rattle.net_types.specs.UpdateFormat.{first_bits, padded, prefix}
 use Rattle.net_types.specs.declared.prefix.Prefix.{Prefix}
 use Rattle.net_types.specs.declared.update.Fault.{Fault}
 use Rattle.net_types.specs.declared.update.Fault.TheVariants.{Network}
-use Rattle.bgp_update.specs.UpdateReading.{read_first_bits, read_prefix}
+use Rattle.net_types.specs.UpdateReading.{read_first_bits, read_prefix}
 
 -- a prefix of n bits that has those of the address is the first bits
 pub is_first_bits : (n a : ℕ) (p : Prefix) → n ≤ 32 → p.len ≡ n → IsTrue (same_bits n p.address.0 a) → p ≡ first_bits_of n a

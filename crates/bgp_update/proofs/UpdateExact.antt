@@ -15,7 +15,7 @@ use Rattle.net_types.specs.declared.attribute.AttributeType.{AttributeType}
 use Rattle.net_types.specs.declared.attribute.AttributeType.TheVariants as types
 use Rattle.net_types.specs.declared.update.Fault.TheVariants as faults
 use Rattle.bgp_update.proofs.PrefixReading.{prefix_exact}
-use Rattle.bgp_update.specs.UpdateReading.{read_attribute, read_attributes, read_head, read_known_value, read_message, read_prefix, read_prefixes, read_segment, read_segments, read_value, read_value_length}
+use Rattle.net_types.specs.UpdateReading.{read_attribute, read_attributes, read_head, read_known_value, read_message, read_prefix, read_prefixes, read_segment, read_segments, read_value, read_value_length}
 
 segment_exact : IsExact segment read_segment
 unfolding read_segment

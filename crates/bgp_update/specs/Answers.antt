@@ -6,7 +6,7 @@ use Rattle.net_types.specs.Keys.{prefix_cmp}
 use Rattle.std.specs.List.Sorted.{IsNonDecreasingBy, IsPermutation}
 use Rattle.grammar.specs.Reading as reading
 use Rattle.grammar.specs.Reading.{Cause, Met, OutOfMemory, Tells}
-use Rattle.bgp_update.specs.UpdateReading.{read_message}
+use Rattle.net_types.specs.UpdateReading.{read_message}
 use Rattle.bgp_update.specs.declared.fault.UpdateFault.{UpdateFault}
 use Rattle.bgp_update.specs.declared.fault.UpdateFault.TheVariants.{Bad, Memory}
 use Rattle.bgp_update.specs.declared.said.Said as said

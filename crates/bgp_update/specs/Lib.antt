@@ -1,3 +1,2 @@
-pub mod UpdateReading
 pub mod Answers
 pub mod RoundTrip

@@ -5,7 +5,7 @@ ghost use Rattle.net_types.specs.AttributeTypes.{has_length, type_length, type_o
 ghost use Rattle.net_types.specs.UpdateFormat.{address, is_long, is_partial, no_types, segment_of, unknown_value, words};
 ghost use Rattle.grammar.specs.Numbers.{big_endian};
 ghost use Rattle.bgp_update.specs.Answers.{AreNew, Gives, marked};
-ghost use Rattle.bgp_update.specs.UpdateReading.{read_attribute, read_attributes, read_known_value, read_segment, read_segments, read_value, read_value_length};
+ghost use Rattle.net_types.specs.UpdateReading.{read_attribute, read_attributes, read_known_value, read_segment, read_segments, read_value, read_value_length};
 
 use crate::fault::UpdateFault;
 use crate::octets::{ensure, longs, number, octet, octets, two_octets, words};
@@ -14,7 +14,7 @@ use net_types::{
 };
 use std::alloc::Global;
 
-#[tactic(auto, unfolding(crate::specs::UpdateReading::read_segment))]
+#[tactic(auto, unfolding(net_types::specs::UpdateReading::read_segment))]
 fn segment(alloc: Global, rest: &[u8]) -> Result<(Segment, &[u8]), UpdateFault>
     ensures reads { Gives (λ x. (x.0, x.1.now)) result (read_segment rest.now) }
     ensures left { IfOk result (λ x. length x.1.now < length rest.now) }
@@ -54,7 +54,7 @@ fn segments(alloc: Global, block: &[u8]) -> Result<Segments, UpdateFault>
 }
 
 /// A length has two octets where the flag 0x10 is set.
-#[tactic(auto, unfolding(crate::specs::UpdateReading::read_value_length))]
+#[tactic(auto, unfolding(net_types::specs::UpdateReading::read_value_length))]
 fn value_length(flags: u8, rest: &[u8]) -> Result<(usize, &[u8]), UpdateFault>
     ensures reads { Gives (λ x. (x.0, x.1.now)) result (read_value_length (is_long flags) rest.now) }
     ensures left { IfOk result (λ x. length x.1.now ≤ length rest.now) }
@@ -68,7 +68,7 @@ fn value_length(flags: u8, rest: &[u8]) -> Result<(usize, &[u8]), UpdateFault>
 }
 
 /// A value of a type in the table, whose length is right.
-#[tactic(auto, unfolding(crate::specs::UpdateReading::read_known_value))]
+#[tactic(auto, unfolding(net_types::specs::UpdateReading::read_known_value))]
 fn known_value<'a>(
     alloc: Global,
     kind: AttributeType,
@@ -133,7 +133,7 @@ fn unknown_value(
     Ok(Attribute::Unknown(Unknown { kind, value }))
 }
 
-#[tactic(auto, unfolding(crate::specs::UpdateReading::read_value))]
+#[tactic(auto, unfolding(net_types::specs::UpdateReading::read_value))]
 fn value<'a>(
     alloc: Global,
     number: u8,
@@ -156,7 +156,7 @@ fn value<'a>(
 }
 
 /// An attribute of a type that isn't marked.
-#[tactic(auto, unfolding(crate::specs::UpdateReading::read_attribute))]
+#[tactic(auto, unfolding(net_types::specs::UpdateReading::read_attribute))]
 fn attribute<'a>(
     alloc: Global,
     seen: &[bool; 256],

@@ -7,7 +7,7 @@ ghost use Rattle.net_types.specs.UpdateSpelling.{IsFault, Spells};
 ghost use Rattle.net_types.specs.declared.update.Update.{Update as Value};
 ghost use Rattle.net_types.specs.declared.update.Fault.{Fault as Cause};
 ghost use Rattle.bgp_update.specs.Answers.{AreNew, Gives, IsDecoded, head_of};
-ghost use Rattle.bgp_update.specs.UpdateReading.{read_head};
+ghost use Rattle.net_types.specs.UpdateReading.{read_head};
 
 use crate::attributes::attributes;
 use crate::fault::UpdateFault;
@@ -24,7 +24,7 @@ fn all_ones(octets: &[u8]) -> bool
 }
 
 /// What stands in front of the announced prefixes: withdrawn prefixes and attributes.
-#[tactic(auto, unfolding(crate::specs::UpdateReading::read_head))]
+#[tactic(auto, unfolding(net_types::specs::UpdateReading::read_head))]
 fn head(alloc: Global, bytes: &[u8]) -> Result<(Vec<Prefix>, Vec<Attribute>, &[u8]), UpdateFault>
     ensures reads { Gives (λ x. (head_of x.0.items x.1.items, x.2.now)) result (read_head (length bytes.now) bytes.now) }
     ensures new { IfOk result (λ x. AreNew no_types x.1.items) }
@@ -50,7 +50,7 @@ fn head(alloc: Global, bytes: &[u8]) -> Result<(Vec<Prefix>, Vec<Attribute>, &[u
     Ok((withdrawn, all, rest))
 }
 
-#[tactic(auto, unfolding(crate::specs::UpdateReading::read_message, crate::specs::UpdateReading::read_prefixes, grammar::specs::FormatReading::read_to_end))]
+#[tactic(auto, unfolding(net_types::specs::UpdateReading::read_message, net_types::specs::UpdateReading::read_prefixes, grammar::specs::FormatReading::read_to_end))]
 fn read(alloc: Global, bytes: &[u8]) -> Result<Update, UpdateFault>
     ensures { IsDecoded bytes.now result }
 {

@@ -4,14 +4,14 @@ ghost use Rattle.std.specs.Prelude.{◌≡◌, ◌<◌, length, IfOk};
 ghost use Rattle.net_types.specs.UpdateSpelling.{IsOrdered, IsOrderedWithout, is_before};
 ghost use Rattle.net_types.specs.Sets.{IsRising};
 ghost use Rattle.bgp_update.specs.Answers.{Gives, is_among};
-ghost use Rattle.bgp_update.specs.UpdateReading.{read_prefix, read_prefixes};
+ghost use Rattle.net_types.specs.UpdateReading.{read_prefix, read_prefixes};
 
 use crate::fault::UpdateFault;
 use crate::octets::{octet, octets, padded};
 use net_types::{Fault, Ip, Prefix};
 use std::alloc::Global;
 
-#[tactic(auto, unfolding(crate::specs::UpdateReading::read_prefix))]
+#[tactic(auto, unfolding(net_types::specs::UpdateReading::read_prefix))]
 fn prefix(rest: &[u8]) -> Result<(Prefix, &[u8]), UpdateFault>
     ensures reads { Gives (λ x. (x.0, x.1.now)) result (read_prefix rest.now) }
     ensures left { IfOk result (λ x. length x.1.now < length rest.now) }

@@ -6,7 +6,7 @@ use Rattle.net_types.specs.UpdateFormat.{no_types}
 use Rattle.net_types.specs.declared.attribute.Attribute.{Attribute}
 use Rattle.bgp_update.proofs.NewTypes.{read_new}
 use Rattle.bgp_update.specs.Answers.{AreNew, Gives}
-use Rattle.bgp_update.specs.UpdateReading.{read_attributes}
+use Rattle.net_types.specs.UpdateReading.{read_attributes}
 use Rattle.bgp_update.specs.declared.fault.UpdateFault.{UpdateFault}
 use Rattle.bgp_update.proofs.attributes.attributes.Goals as goal
 

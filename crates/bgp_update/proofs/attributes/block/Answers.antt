@@ -2,7 +2,7 @@
 use Rattle.std.proofs.Common.{◌<◌, ℕ, Bool, [], ◌∷◌, ◌++◌, ◌∙◌, refl, sym, subst, length, rules, arith}
 use Rattle.std.proofs.lemmas.List.{length-set}
 use Rattle.net_types.specs.UpdateFormat.{no_types, number_of, with_type}
-use Rattle.bgp_update.specs.UpdateReading.{read_attribute, read_attributes}
+use Rattle.net_types.specs.UpdateReading.{read_attribute, read_attributes}
 use Rattle.grammar.proofs.BlockLoops.{StillReads, reads_on, starts_reading}
 use Rattle.bgp_update.proofs.Marks.{marked-none, marked-set}
 use Rattle.bgp_update.proofs.attributes.block.Goals as goal

@@ -2,7 +2,7 @@
 use Rattle.std.proofs.Common.{◌≡◌, length}
 use Rattle.net_types.specs.UpdateFormat.{with_type}
 use Rattle.bgp_update.specs.Answers.{marked}
-use Rattle.bgp_update.specs.UpdateReading.{read_attribute, read_attributes}
+use Rattle.net_types.specs.UpdateReading.{read_attribute, read_attributes}
 use Rattle.grammar.proofs.BlockLoops.{StillReads}
 use Rattle.bgp_update.proofs.attributes.block.Given as goal
 

@@ -1,6 +1,6 @@
 -- One item more.
 use Rattle.std.proofs.Common.{◌<◌, length, rules}
-use Rattle.bgp_update.specs.UpdateReading.{read_segment, read_segments}
+use Rattle.net_types.specs.UpdateReading.{read_segment, read_segments}
 use Rattle.grammar.proofs.BlockLoops.{reads_on, starts_reading}
 use Rattle.bgp_update.proofs.attributes.segments.Goals as goal
 

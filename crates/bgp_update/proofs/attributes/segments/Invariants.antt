@@ -1,6 +1,6 @@
 -- The items so far and those that are still read make the whole.
 use Rattle.std.proofs.Common.{length}
-use Rattle.bgp_update.specs.UpdateReading.{read_segment, read_segments}
+use Rattle.net_types.specs.UpdateReading.{read_segment, read_segments}
 use Rattle.grammar.proofs.BlockLoops.{StillReads}
 use Rattle.bgp_update.proofs.attributes.segments.Given as goal
 

@@ -1,6 +1,6 @@
 -- One item more.
 use Rattle.std.proofs.Common.{◌<◌, length, rules}
-use Rattle.bgp_update.specs.UpdateReading.{read_prefix, read_prefixes}
+use Rattle.net_types.specs.UpdateReading.{read_prefix, read_prefixes}
 use Rattle.grammar.proofs.BlockLoops.{reads_on, starts_reading}
 use Rattle.bgp_update.proofs.prefixes.prefixes.Goals as goal
 

@@ -1,6 +1,6 @@
 -- The items so far and those that are still read make the whole.
 use Rattle.std.proofs.Common.{length}
-use Rattle.bgp_update.specs.UpdateReading.{read_prefix, read_prefixes}
+use Rattle.net_types.specs.UpdateReading.{read_prefix, read_prefixes}
 use Rattle.grammar.proofs.BlockLoops.{StillReads}
 use Rattle.bgp_update.proofs.prefixes.prefixes.Given as goal
 

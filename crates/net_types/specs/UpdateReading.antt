@@ -1,19 +1,28 @@
 -- Reading an UPDATE message from left to right, with the first fault in the order of the checks.
-use Rattle.std.specs.Prelude.{ℕ, ◌+◌, ◌*◌, ◌/◌, Bool, true, false, not, ◌&&◌, ◌||◌, ◌==◌, nat_le, nat_lt, List, length, take, drop, slice_index, Result, Ok, Err, Option, Some, None, if◌then◌else◌}
-use Rattle.std.specs.List.{list_all}
+use Rattle.std.specs.Prelude.{ℕ, ◌+◌, ◌*◌, ◌/◌, Bool, true, false, not, ◌&&◌, ◌||◌, ◌==◌, nat_le, nat_lt, List, [], ◌∷◌, length, take, drop, filter, slice_index, Result, Ok, Err, Option, Some, None, if◌then◌else◌}
+use Rattle.std.specs.List.{list_all, list_any}
+use Rattle.std.specs.Option.{option_and_then, option_map}
+use Rattle.std.specs.Ordering.{eq_by_cmp}
 use Rattle.grammar.specs.FormatReading.{Reader, ◌>>=◌, ◌>>◌, pure, read_octet, read_octets, read_ensure, read_all, read_items, read_to_end, read_two_octets}
 use Rattle.grammar.specs.Numbers.{big_endian}
 use Rattle.grammar.specs.Reading.{on_read}
 use Rattle.net_types.proofs.FirstBits.{first_bits_of}
 use Rattle.net_types.specs.AttributeTypes.{has_length, type_flags, type_length, type_of}
 use Rattle.net_types.specs.UpdateFormat.{Head, Parts, address, is_complete, is_long, is_optional, is_partial, is_transitive, longs, no_types, padded, segment_of, unknown_value, upper_flags, with_type, words}
-use Rattle.net_types.specs.UpdateValue.{said}
+use Rattle.net_types.specs.Keys.{prefix_cmp}
+use Rattle.net_types.specs.Maps.{ordered}
+use Rattle.net_types.specs.UpdateSpelling.{is_type_before}
+use Rattle.net_types.specs.UpdateValue.{Said, said}
 use Rattle.net_types.specs.declared.attribute.Attribute.{Attribute}
 use Rattle.net_types.specs.declared.attribute.Attribute.TheVariants.{AsPath, AtomicAggregate, Communities, LocalPref, MultiExitDisc, NextHop, Origin}
 use Rattle.net_types.specs.declared.attribute.Attribute.TheVariants as attributes
 use Rattle.net_types.specs.declared.attribute.AttributeType.{AttributeType}
 use Rattle.net_types.specs.declared.attribute.AttributeType.TheVariants as types
 use Rattle.net_types.specs.declared.prefix.Prefix.{Prefix}
+use Rattle.net_types.specs.declared.address.Ip.{Ip}
+use Rattle.net_types.specs.declared.route.Attrs.{Attrs}
+use Rattle.net_types.specs.declared.route.Unknown.{Unknown}
+use Rattle.net_types.specs.declared.update.Update.{Update}
 use Rattle.net_types.specs.declared.route.Segment.{Segment}
 use Rattle.net_types.specs.declared.update.Fault.{Fault}
 use Rattle.net_types.specs.declared.update.Fault.TheVariants as faults
@@ -121,3 +130,55 @@ read_head n = do
 unfoldable pub read_message : List ℕ → Result Parts Fault
 read_message b = read_to_end (read_head (length b)) read_prefix (λ h ps. is_complete (said h.attributes) ps) faults.MissingWellKnown
     (λ h ps. record { withdrawn = h.withdrawn; attributes = h.attributes; announced = ps }) b
+
+-- an unknown attribute among those that ascend by type
+abbrev pub insert_unknown : Unknown → List Unknown → List Unknown
+insert_unknown u [] = u ∷ []
+insert_unknown u (v ∷ vs) = if is_type_before v u then v ∷ insert_unknown u vs else u ∷ v ∷ vs
+
+-- unknown attributes, ascending by type
+abbrev pub by_type : List Unknown → List Unknown
+by_type [] = []
+by_type (u ∷ us) = insert_unknown u (by_type us)
+
+-- the attributes of a route, where ORIGIN, AS_PATH and NEXT_HOP are said
+abbrev pub said_attrs : Said → Option Attrs
+said_attrs s =
+    option_and_then (λ (origin : ℕ). option_and_then (λ (path : List Segment). option_map (λ (next_hop : Ip). record {
+      origin = origin;
+      path = path;
+      next_hop = next_hop;
+      med = s.med;
+      atomic = s.atomic;
+      aggregator = s.aggregator;
+      communities = s.communities;
+      communities_partial = s.communities_partial;
+      unknown = by_type s.unknown;
+    }) s.next_hop) s.path) s.origin
+
+-- attributes are there only where a prefix is announced
+abbrev pub attrs_for : Said → List Prefix → Option Attrs
+attrs_for s [] = None
+attrs_for s (p ∷ ps) = said_attrs s
+
+-- the list has the prefix
+abbrev pub lists : List Prefix → Prefix → Bool
+lists ps p = list_any (eq_by_cmp prefix_cmp p) ps
+
+-- the update of a message's parts
+abbrev pub update_of : Parts → Update
+update_of parts = record {
+  withdrawn = filter (λ p. not (lists parts.announced p)) (ordered prefix_cmp parts.withdrawn);
+  attrs = attrs_for (said parts.attributes) parts.announced;
+  announced = ordered prefix_cmp parts.announced;
+}
+
+-- the update of what was read
+abbrev pub update_read : Result Parts Fault → Result Update Fault
+update_read (Ok parts) = Ok (update_of parts)
+update_read (Err fault) = Err fault
+
+-- The update that a message spells, or the first fault of it. That it agrees with what messages spell and by what they
+-- fail is a law of the codec.
+unfoldable pub decoded : List ℕ → Result Update Fault
+decoded b = update_read (read_message b)
