@@ -4,7 +4,8 @@ use Rattle.std.proofs.lemmas.Bool.{cond_both, le-leb, leb-false, leb-true}
 use Rattle.grammar.specs.FormatReading.{Read, read_octet, read_octets}
 use Rattle.grammar.specs.Messages.{Holds, IsExact}
 use Rattle.grammar.proofs.FormatExact.{octet_exact, octets_exact, then_exact}
-use Rattle.net_types.proofs.FirstBits.{first_bits_of, first_bits_of-bits, first_bits_of-len, one_of_bits}
+use Rattle.net_types.proofs.FirstBits.{first_bits_of-bits, first_bits_of-len, one_of_bits}
+use Rattle.net_types.specs.FirstBits.{first_bits_of}
 use Rattle.net_types.specs.Bits.{same_bits}
 use Rattle.net_types.specs.UpdateFormat.{first_bits, padded, prefix}
 use Rattle.net_types.specs.declared.prefix.Prefix.{Prefix}

@@ -6,7 +6,7 @@ use Rattle.std.specs.Ordering.{eq_by_cmp}
 use Rattle.grammar.specs.FormatReading.{Reader, ◌>>=◌, ◌>>◌, pure, read_octet, read_octets, read_ensure, read_all, read_items, read_to_end, read_two_octets}
 use Rattle.grammar.specs.Numbers.{big_endian}
 use Rattle.grammar.specs.Reading.{on_read}
-use Rattle.net_types.proofs.FirstBits.{first_bits_of}
+use Rattle.net_types.specs.FirstBits.{first_bits_of}
 use Rattle.net_types.specs.AttributeTypes.{has_length, type_flags, type_length, type_of}
 use Rattle.net_types.specs.UpdateFormat.{Head, Parts, address, is_complete, is_long, is_optional, is_partial, is_transitive, longs, no_types, padded, segment_of, unknown_value, upper_flags, with_type, words}
 use Rattle.net_types.specs.Keys.{prefix_cmp}
