@@ -1,24 +1,27 @@
 -- The state after a line (this exchange's own rule).
-use Rattle.std.specs.Prelude.{List, [], ◌∷◌, ◌++◌, codes, slice_set, Option, Some, None, unwrap_or}
+use Rattle.std.specs.Prelude.{List, [], ◌∷◌, ◌++◌, codes, slice_set, Option, Some, None, Result, Ok, Err, unwrap_or}
 use Rattle.std.specs.FinMap.{FinMap, empty, get, insert, remove, retain_keys}
 use Rattle.net_types.specs.Exports.{Routing, pid_of}
-use Rattle.net_types.specs.Keys.{prefix_cmp, pair_cmp}
+use Rattle.net_types.specs.Keys.{RouteKey, prefix_cmp, pair_cmp, route_cmp}
+use Rattle.net_types.specs.UpdateReading.{decoded}
 use Rattle.net_types.specs.declared.address.Pid.{Pid}
 use Rattle.net_types.specs.declared.prefix.Prefix.{Prefix}
 use Rattle.net_types.specs.declared.route.Attrs.{Attrs}
 use Rattle.net_types.specs.declared.route.Participant.{Participant}
 use Rattle.net_types.specs.declared.route.PortInfo.{PortInfo}
+use Rattle.net_types.specs.declared.update.Fault.{Fault}
+use Rattle.net_types.specs.declared.update.Update.{Update as Message}
 use Rattle.net_types.specs.declared.rule.Pair.{Pair}
 use Rattle.net_types.specs.declared.rule.Rule.{Rule}
 use Rattle.events.specs.declared.Event.{Event}
-use Rattle.events.specs.declared.Event.TheVariants.{Bad, Exchange, Participant as DeclaresParticipant, Port as DeclaresPort, Update, Drain, Packet}
+use Rattle.events.specs.declared.Event.TheVariants.{Bad, Exchange, Participant as DeclaresParticipant, Port as DeclaresPort, Update, Drain, Arp, Resolve, Packet, Frame, Table}
 use Rattle.events.specs.declared.Flow.{Flow}
 use Rattle.events.specs.declared.Head.{Head}
-use Rattle.events.specs.declared.Head.TheVariants.{Fine, Unrouted, Refused}
+use Rattle.events.specs.declared.Head.TheVariants.{Fine, Unrouted, Unresolved, Silent, Refused}
 use Rattle.events.specs.declared.Phase.TheVariants.{Declaring, Running}
 use Rattle.events.specs.declared.Reply.{Reply}
-use Rattle.events.specs.Restricted.{announced_attrs, announced_prefix}
-use Rattle.events.specs.State.{State, Entry, present}
+use Rattle.events.specs.Resolving.{unresolved, with_answer, with_resolved}
+use Rattle.events.specs.State.{State, Entry, port_of, present}
 use Rattle.events.specs.Tags.{is_live, retagged}
 
 -- the state with a further participant, whose policies drop
@@ -37,9 +40,33 @@ with_port s q = record s {
   resolved = s.resolved ++ [] ∷ [];
 }
 
--- the routes with one more, in place of an earlier one
-abbrev pub with_route : Routing → Pid → Prefix → Attrs → Routing
-with_route r from p attrs = record r { routes = insert r.routes (record { from = from; prefix = p }) attrs }
+-- the name of a participant's route for a prefix
+abbrev pub route_key : Pid → Prefix → RouteKey
+route_key from p = record { from = from; prefix = p }
+
+-- the routes without those of a participant for these prefixes
+abbrev pub without_routes : FinMap route_cmp Attrs → Pid → List Prefix → FinMap route_cmp Attrs
+without_routes routes from [] = routes
+without_routes routes from (p ∷ ps) = without_routes (remove routes (route_key from p)) from ps
+
+-- the routes with those of a participant for these prefixes, in place of earlier ones
+abbrev pub with_routes : FinMap route_cmp Attrs → Pid → Attrs → List Prefix → FinMap route_cmp Attrs
+with_routes routes from attrs [] = routes
+with_routes routes from attrs (p ∷ ps) = with_routes (insert routes (route_key from p) attrs) from attrs ps
+
+-- nothing is announced where there are no attributes
+abbrev pub with_announced : FinMap route_cmp Attrs → Pid → Option Attrs → List Prefix → FinMap route_cmp Attrs
+with_announced routes from None ps = routes
+with_announced routes from (Some attrs) ps = with_routes routes from attrs ps
+
+-- an update withdraws, and then announces (RFC 4271 3.1, 9)
+abbrev pub with_update : Routing → Pid → Message → Routing
+with_update r from u = record r { routes = with_announced (without_routes r.routes from u.withdrawn) from u.attrs u.announced }
+
+-- the state after what was read of an UPDATE; octets that are none change nothing
+abbrev pub updated : State → Pid → Result Message Fault → State
+updated s who (Ok u) = retagged s (with_update s.routing who u)
+updated s who (Err fault) = s
 
 -- the state in which a participant was told just these
 abbrev pub with_told : State → Pid → FinMap prefix_cmp Entry → State
@@ -64,9 +91,13 @@ after s Bad = s
 after s (Exchange base size capacity) = record s { phase = Declaring; base = base; size = size; capacity = capacity }
 after s (DeclaresParticipant name asn id) = with_participant s (record { name = name; asn = asn; id = id })
 after s (DeclaresPort name number ip mac) = with_known s (pid_of s.routing name) (λ who. with_port s (record { owner = who; number = number; ip = ip; mac = mac }))
-after s (Update name bytes) = with_known s (pid_of s.routing name) (λ who. retagged s (with_route s.routing who (announced_prefix bytes) (announced_attrs bytes)))
+after s (Update name bytes) = with_known s (pid_of s.routing name) (λ who. updated s who (decoded bytes))
 after s (Drain name) = with_known s (pid_of s.routing name) (λ who. settled (running (with_told s who (present s who))))
+after s (Arp port bytes) = with_known s (port_of s port) (λ q. running (with_answer s q bytes))
+after s (Resolve port) = with_known s (port_of s port) (λ q. running (with_resolved s port (unresolved s q)))
 after s (Packet port bytes) = running s
+after s (Frame port bytes) = running s
+after s Table = running s
 
 -- a rule is put behind those of its pair
 abbrev pub put_flow : FinMap pair_cmp (List Rule) → Flow → FinMap pair_cmp (List Rule)
@@ -82,11 +113,22 @@ abbrev pub without_pairs : FinMap pair_cmp (List Rule) → List Pair → FinMap 
 without_pairs table [] = table
 without_pairs table (q ∷ qs) = without_pairs (remove table q) qs
 
--- a refusal changes nothing; else the pairs dropped are taken out of the table, and then the rules added are put in
+-- the rules that a reply puts into the table; those of the line `table` are there already
+abbrev pub rules_put : Event → Reply → List Flow
+rules_put Table r = []
+rules_put e r = r.adds
+
+-- the state after an accepted line: the pairs dropped are taken out of the table, and then the rules added are put in
+abbrev pub accepted : State → Event → Reply → State
+accepted s e r = record (after s e) { table = put_flows (without_pairs s.table r.drops) (rules_put e r) }
+
+-- a refusal changes nothing
 abbrev pub next_by : Head → State → Event → Reply → State
 next_by (Refused refusal) s e r = s
-next_by Fine s e r = record (after s e) { table = put_flows (without_pairs s.table r.drops) r.adds }
-next_by Unrouted s e r = record (after s e) { table = put_flows (without_pairs s.table r.drops) r.adds }
+next_by Fine s e r = accepted s e r
+next_by Unrouted s e r = accepted s e r
+next_by (Unresolved ip) s e r = accepted s e r
+next_by Silent s e r = accepted s e r
 
 -- the state after a line and its reply
 abbrev pub next : State → Event → Reply → State

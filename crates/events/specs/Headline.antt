@@ -1,16 +1,17 @@
 -- What every legal run of lines promises, in terms of policies and routes alone.
-use Rattle.std.specs.Prelude.{◌≡◌, ℕ, List, Some, None, MatchOption}
+use Rattle.std.specs.Prelude.{◌≡◌, ℕ, Bool, true, false, List, Some, None, MatchOption}
 use Rattle.std.specs.FinMap.{get}
 use Rattle.events.specs.After.{next}
 use Rattle.events.specs.Fits.{Fits, bare, destination, tagged_frame, ReachesExporters}
 use Rattle.events.specs.Legal.{Legal, state_after}
 use Rattle.events.specs.Refusals.{refusal}
+use Rattle.events.specs.Resolving.{is_resolved, tag_address}
 use Rattle.events.specs.Sound.{IsSound}
 use Rattle.events.specs.State.{State, ArePolicies, IsDrained, port_of}
 use Rattle.events.specs.Table.{first_match, out}
 use Rattle.events.specs.declared.Event.{Event}
 use Rattle.events.specs.declared.Event.TheVariants.{Drain, Packet}
-use Rattle.events.specs.declared.Head.TheVariants.{Fine, Unrouted}
+use Rattle.events.specs.declared.Head.TheVariants.{Fine, Unrouted, Unresolved}
 use Rattle.events.specs.declared.Reply.{Reply}
 use Rattle.net_types.specs.Answers.{Policies, answer}
 use Rattle.net_types.specs.Exports.{pid_of}
@@ -25,17 +26,24 @@ use Rattle.net_types.specs.declared.route.PortInfo.{PortInfo}
 
 -- A datagram for a prefix: tagged with the prefix's tag it leaves by the table on exactly the ports, with exactly the
 -- octets, that the policies and the present routes give, and reaches only participants that export the prefix.
-pub record LeavesFor (s : State) (q : PortInfo) (bytes : List ℕ) (r : Reply) (p : Prefix) : Type 0 where
-  pub tag : Tag
+pub record LeavesFor (s : State) (q : PortInfo) (bytes : List ℕ) (r : Reply) (p : Prefix) (tag : Tag) : Type 0 where
   pub policies : Policies
   pub headers : Headers
-  pub tagged : get s.tag p ≡ Some tag
   pub read : ArePolicies s policies
   pub has_headers : headers_of q.number (tagged_frame q tag bytes) ≡ Some headers
   pub head : r.head ≡ Fine
   pub by_table : r.frames ≡ out s.routing.ports (tagged_frame q tag bytes) (first_match s.table q.number (tagged_frame q tag bytes))
   pub by_routes : r.frames ≡ out s.routing.ports (tagged_frame q tag bytes) (answer policies s.routing q.owner p headers)
   pub reaches : ReachesExporters s q.owner p (answer policies s.routing q.owner p headers)
+
+-- the router at the port has resolved the tag's address, and the datagram leaves; else it asks for that address first
+abbrev pub LeavesOrAsks : Bool → State → PortInfo → List ℕ → Reply → Prefix → Tag → Type 0
+LeavesOrAsks true s q bytes r p tag = LeavesFor s q bytes r p tag
+LeavesOrAsks false s q bytes r p tag = r ≡ bare (Unresolved (tag_address s tag))
+
+-- the answer to a datagram for a prefix, by the prefix's tag
+abbrev pub IsAnswered : State → PortInfo → List ℕ → Reply → Prefix → Type 0
+IsAnswered s q bytes r p = MatchOption (get s.tag p) ⊥ (λ tag. LeavesOrAsks (is_resolved s q.number (tag_address s tag)) s q bytes r p tag)
 
 -- After any legal run, the answer to a datagram of a drained sender is that of its longest exported prefix; where it has
 -- none, the datagram is unrouted.
@@ -44,7 +52,7 @@ AnswersDrained =
     (es : List Event) (rs : List Reply) → Legal es rs → (port : PortNo) (bytes : List ℕ) (r : Reply) (q : PortInfo)
     → refusal (state_after es rs) (Packet port bytes) ≡ None → Fits (state_after es rs) (Packet port bytes) r
     → port_of (state_after es rs) port ≡ Some q → IsDrained (state_after es rs) q.owner
-    → MatchOption (longest (state_after es rs).routing q.owner (destination bytes)) (r ≡ bare Unrouted) (LeavesFor (state_after es rs) q bytes r)
+    → MatchOption (longest (state_after es rs).routing q.owner (destination bytes)) (r ≡ bare Unrouted) (IsAnswered (state_after es rs) q bytes r)
 
 -- after any legal run, a participant is drained once its session took what was pending
 abbrev pub DrainDrains : Type 0

@@ -1,13 +1,18 @@
 -- The refusals, in the order in which their conditions are looked at (this exchange's own rule).
-use Rattle.std.specs.Prelude.{ℕ, ◌+◌, Bool, true, false, ◌&&◌, ◌||◌, not, nat_eq, nat_le, nat_lt, List, [], ◌∷◌, length, map, filter, take, Option, Some, None, is_some, if◌then◌else◌}
+use Rattle.std.specs.Prelude.{ℕ, ◌+◌, Bool, true, false, ◌&&◌, ◌||◌, not, nat_eq, nat_le, nat_lt, List, [], ◌∷◌, length, map, filter, take, Option, Some, None, Result, Ok, Err, is_some, if◌then◌else◌}
 use Rattle.std.specs.FinMap.{get}
 use Rattle.std.specs.List.{list_any}
+use Rattle.net_types.specs.Arp.{no_mac}
 use Rattle.net_types.specs.Attributes.{same_option}
 use Rattle.net_types.specs.Exports.{asn_of, pid_of}
+use Rattle.net_types.specs.Frames.{has_headers}
 use Rattle.net_types.specs.Keys.{pair_cmp}
 use Rattle.net_types.specs.Maps.{ordered}
 use Rattle.net_types.specs.Octets.{same_octets}
 use Rattle.net_types.specs.Sets.{union_over}
+use Rattle.net_types.specs.UpdateReading.{decoded}
+use Rattle.net_types.specs.declared.update.Fault.{Fault}
+use Rattle.net_types.specs.declared.update.Update.{Update as Message}
 use Rattle.net_types.specs.declared.rule.Pair.{Pair}
 use Rattle.net_types.specs.Routes.{pids}
 use Rattle.net_types.specs.declared.address.Ip.{Ip}
@@ -18,13 +23,14 @@ use Rattle.net_types.specs.declared.prefix.Prefix.{Prefix}
 use Rattle.net_types.specs.declared.route.Attrs.{Attrs}
 use Rattle.net_types.specs.declared.route.PortInfo.{PortInfo}
 use Rattle.events.specs.declared.Event.{Event}
-use Rattle.events.specs.declared.Event.TheVariants.{Bad, Exchange, Participant as DeclaresParticipant, Port as DeclaresPort, Update, Drain, Packet}
+use Rattle.events.specs.declared.Event.TheVariants.{Bad, Exchange, Participant as DeclaresParticipant, Port as DeclaresPort, Update, Drain, Arp, Resolve, Packet, Frame, Table}
 use Rattle.events.specs.declared.Phase.{Phase}
 use Rattle.events.specs.declared.Phase.TheVariants.{Start, Declaring, Running}
 use Rattle.events.specs.declared.Refusal.{Refusal}
-use Rattle.events.specs.declared.Refusal.TheVariants.{BadLine, Misplaced, Unknown}
-use Rattle.events.specs.After.{with_route}
-use Rattle.events.specs.Restricted.{announced_attrs, announced_prefix}
+use Rattle.events.specs.declared.Refusal.TheVariants.{BadLine, Misplaced, Unknown, BadUpdate, FirstAs, NextHop, BadPacket}
+use Rattle.events.specs.After.{with_update}
+use Rattle.events.specs.Resolving.{is_in_pool}
+use Rattle.events.specs.Table.{framed}
 use Rattle.events.specs.State.{State, port_of}
 use Rattle.events.specs.Tags.{is_live_pair, free_tags, groups, retagged, tags}
 use Rattle.net_types.specs.Updates.{first_as}
@@ -51,14 +57,22 @@ is_placed Running (Drain name) = true
 is_placed Start (Packet port bytes) = false
 is_placed Declaring (Packet port bytes) = true
 is_placed Running (Packet port bytes) = true
+is_placed Start (Arp port bytes) = false
+is_placed Declaring (Arp port bytes) = true
+is_placed Running (Arp port bytes) = true
+is_placed Start (Resolve port) = false
+is_placed Declaring (Resolve port) = true
+is_placed Running (Resolve port) = true
+is_placed Start (Frame port bytes) = false
+is_placed Declaring (Frame port bytes) = true
+is_placed Running (Frame port bytes) = true
+is_placed Start Table = false
+is_placed Declaring Table = true
+is_placed Running Table = true
 
 -- a participant has the name
 abbrev pub is_name_taken : State → List ℕ → Bool
 is_name_taken s name = is_some (pid_of s.routing name)
-
--- the addresses of the tags
-abbrev pub is_in_pool : State → Ip → Bool
-is_in_pool s ip = nat_lt s.base.0 ip.0 && nat_le ip.0 (s.base.0 + s.size)
 
 -- a port's number, its address or its MAC is taken, or lies in the pool or among the MACs of tags
 abbrev pub is_port_taken : State → PortNo → Ip → Mac → Bool
@@ -87,17 +101,37 @@ abbrev pub unless : Bool → Refusal → Option Refusal
 unless true refusal = Some refusal
 unless false refusal = None
 
--- An announcement that is refused in this version without a name of its own: its path doesn't begin with the participant's
--- AS, its NEXT_HOP is none of the participant's ports, its prefix has a route already, no tag is free for it, or the pairs
--- that would be live are more than the table's capacity.
-abbrev pub cannot_announce : State → Pid → Prefix → Attrs → Bool
-cannot_announce s who p attrs =
-    let r = with_route s.routing who p attrs in
-    not (same_option nat_eq (first_as attrs.path) (Some (asn_of s.routing who)))
-    || not (has_next_hop s who attrs.next_hop)
-    || has_route s p
+-- An update that is refused in this version without a name of its own: it withdraws a prefix, announces several or one that
+-- has a route already, needs more tags than are free, or the pairs that would be live are more than the table's capacity.
+abbrev pub cannot_take : State → Pid → Message → Bool
+cannot_take s who u =
+    let r = with_update s.routing who u in
+    nat_lt 0 (length u.withdrawn)
+    || nat_lt 1 (length u.announced)
+    || list_any (has_route s) u.announced
     || nat_lt (length (free_tags s)) (length (groups s r))
     || nat_lt s.capacity (length (live_pairs (retagged s r)))
+
+-- the first refusal of two
+abbrev pub or_else : Option Refusal → Option Refusal → Option Refusal
+or_else None b = b
+or_else (Some a) b = Some a
+
+-- where something is announced, the path begins with the announcer's AS, and NEXT_HOP is at one of its ports
+abbrev pub attrs_refusal : State → Pid → Option Attrs → Option Refusal
+attrs_refusal s who None = None
+attrs_refusal s who (Some attrs) =
+    or_else (unless (not (same_option nat_eq (first_as attrs.path) (Some (asn_of s.routing who)))) FirstAs)
+    (unless (not (has_next_hop s who attrs.next_hop)) NextHop)
+
+-- the first refusal of what was read of an UPDATE
+abbrev pub update_refusal : State → Pid → Result Message Fault → Option Refusal
+update_refusal s who (Err fault) = Some (BadUpdate fault)
+update_refusal s who (Ok u) = or_else (attrs_refusal s who u.attrs) (unless (cannot_take s who u) BadLine)
+
+-- a datagram has headers where it is put into a frame, whatever the MACs
+abbrev pub is_datagram : List ℕ → Bool
+is_datagram bytes = has_headers (framed no_mac no_mac bytes)
 
 -- what isn't declared is unknown
 abbrev pub if_known : {X : Type 0} → Option X → (X → Option Refusal) → Option Refusal
@@ -110,9 +144,13 @@ refusal_in_place s Bad = Some BadLine
 refusal_in_place s (Exchange base size capacity) = None
 refusal_in_place s (DeclaresParticipant name asn id) = unless (is_name_taken s name || nat_le 256 (length s.routing.participants)) BadLine
 refusal_in_place s (DeclaresPort name number ip mac) = if_known (pid_of s.routing name) (λ who. unless (is_port_taken s number ip mac) BadLine)
-refusal_in_place s (Update name bytes) = if_known (pid_of s.routing name) (λ who. unless (cannot_announce s who (announced_prefix bytes) (announced_attrs bytes)) BadLine)
+refusal_in_place s (Update name bytes) = if_known (pid_of s.routing name) (λ who. update_refusal s who (decoded bytes))
 refusal_in_place s (Drain name) = if_known (pid_of s.routing name) (λ who. None)
-refusal_in_place s (Packet port bytes) = if_known (port_of s port) (λ q. None)
+refusal_in_place s (Arp port bytes) = if_known (port_of s port) (λ q. None)
+refusal_in_place s (Resolve port) = if_known (port_of s port) (λ q. None)
+refusal_in_place s (Packet port bytes) = if_known (port_of s port) (λ q. unless (not (is_datagram bytes)) BadPacket)
+refusal_in_place s (Frame port bytes) = if_known (port_of s port) (λ q. None)
+refusal_in_place s Table = None
 
 -- the first refusal whose condition holds
 abbrev pub refusal : State → Event → Option Refusal
