@@ -8,9 +8,10 @@ use Rattle.std.specs.Option.{option_map, option_and_then}
 use Rattle.std.specs.Ordering.{eq_by_cmp}
 use Rattle.std.proofs.lemmas.Map.Views.{any-filter_same}
 use Rattle.events.proofs.Reached.{owner_declared, runs_declared, runs_sound}
-use Rattle.events.specs.Fits.{FitsBy, IsAccepted, IsSent, IsForwarded, ReachesExporters, bare, destination, tagged_frame}
-use Rattle.events.specs.Headline.{LeavesFor, AnswersDrained}
+use Rattle.events.specs.Fits.{FitsBy, IsAccepted, IsSent, IsForwarded, IsTagged, ReachesExporters, bare, destination, tagged_frame}
+use Rattle.events.specs.Headline.{IsAnswered, LeavesFor, LeavesOrAsks, AnswersDrained}
 use Rattle.events.specs.Legal.{state_after}
+use Rattle.events.specs.Resolving.{is_resolved, tag_address}
 use Rattle.events.specs.Sound.{IsSound}
 use Rattle.events.specs.State.{State, Entry, ArePolicies, IsDrained, told_to, present, present_entry}
 use Rattle.events.specs.Table.{out}
@@ -104,16 +105,14 @@ entry_parts (Some c) None e is = cc
 entry_parts (Some c) (Some u) e is = (ap (λ (o : Option Entry). option_map (λ x. x.tag) o) is, refl)
 
 -- a datagram that is forwarded by an entry that is present
-leaves_by_headers : (s : State) (q : PortInfo) (bytes : List ℕ) (r : Reply) (p : Prefix) (e : Entry) (ps : Policies) → IsForwarded s q bytes p e r → get s.tag p ≡ Some e.tag → ArePolicies s ps
+leaves_by_headers : (s : State) (q : PortInfo) (bytes : List ℕ) (r : Reply) (p : Prefix) (e : Entry) (ps : Policies) → IsForwarded s q bytes p e r → ArePolicies s ps
     → (o : Option Headers) → headers_of q.number (tagged_frame q e.tag bytes) ≡ o
     → MatchOption o ⊥ (λ h. (r.frames ≡ out s.routing.ports (tagged_frame q e.tag bytes) (answer ps s.routing q.owner p h)) × ReachesExporters s q.owner p (answer ps s.routing q.owner p h))
-    → LeavesFor s q bytes r p
-leaves_by_headers s q bytes r p e ps forwarded tagged read None is none = absurd none
-leaves_by_headers s q bytes r p e ps forwarded tagged read (Some h) is given = record {
-  tag = e.tag;
+    → LeavesFor s q bytes r p e.tag
+leaves_by_headers s q bytes r p e ps forwarded read None is none = absurd none
+leaves_by_headers s q bytes r p e ps forwarded read (Some h) is given = record {
   policies = ps;
   headers = h;
-  tagged = tagged;
   read = read;
   has_headers = is;
   head = ap (λ (x : Reply). x.head) forwarded.by_table;
@@ -122,16 +121,25 @@ leaves_by_headers s q bytes r p e ps forwarded tagged read (Some h) is given = r
   reaches = given.1;
 }
 
-leaves_by_entry : (s : State) (q : PortInfo) (bytes : List ℕ) (r : Reply) (p : Prefix) → IsDrained s q.owner → (o : Option Entry) → get (told_to s q.owner) p ≡ o → MatchOption o ⊥ (λ e. IsForwarded s q bytes p e r) → LeavesFor s q bytes r p
+-- where the router has resolved the tag's address the datagram leaves, and otherwise it asks
+leaves_or_asks : (b : Bool) (s : State) (q : PortInfo) (bytes : List ℕ) (r : Reply) (p : Prefix) (e : Entry) → get s.tag p ≡ Some e.tag → is_some (best s.routing q.owner p) ≡ true
+    → IsTagged b s q bytes p e r → LeavesOrAsks b s q bytes r p e.tag
+leaves_or_asks true s q bytes r p e tagged has forwarded =
+    let routed = forwarded.by_routes tagged has in
+    leaves_by_headers s q bytes r p e routed.0 forwarded routed.1 (headers_of q.number (tagged_frame q e.tag bytes)) refl routed.2
+leaves_or_asks false s q bytes r p e tagged has asks = asks
+
+leaves_by_entry : (s : State) (q : PortInfo) (bytes : List ℕ) (r : Reply) (p : Prefix) → IsDrained s q.owner → (o : Option Entry) → get (told_to s q.owner) p ≡ o
+    → MatchOption o ⊥ (λ e. IsTagged (is_resolved s q.number (tag_address s e.tag)) s q bytes p e r) → IsAnswered s q bytes r p
 leaves_by_entry s q bytes r p drained None is none = absurd none
-leaves_by_entry s q bytes r p drained (Some e) is forwarded =
+leaves_by_entry s q bytes r p drained (Some e) is tagged =
     let there : Bool = list_any (eq_by_cmp prefix_cmp p) (announced s.routing) in
     let present_is : cond there (present_entry s q.owner p) None ≡ Some e = sym (get_present s q.owner p) ∙ ap (λ m. get m p) (sym drained) ∙ is in
     let parts = entry_parts (best s.routing q.owner p) (get s.tag p) e (some_cond there (present_entry s q.owner p) e present_is) in
-    let routed = forwarded.by_routes parts.0 parts.1 in
-    leaves_by_headers s q bytes r p e routed.0 forwarded parts.0 routed.1 (headers_of q.number (tagged_frame q e.tag bytes)) refl routed.2
+    let answered : Option Tag → Type 0 = λ o. MatchOption o ⊥ (λ t. LeavesOrAsks (is_resolved s q.number (tag_address s t)) s q bytes r p t) in
+    subst answered (sym parts.0) (leaves_or_asks (is_resolved s q.number (tag_address s e.tag)) s q bytes r p e parts.0 parts.1 tagged)
 
-leaves_for : (s : State) (q : PortInfo) (bytes : List ℕ) (r : Reply) → IsDrained s q.owner → (o : Option Prefix) → IsSent s q bytes r o → MatchOption o (r ≡ bare Unrouted) (LeavesFor s q bytes r)
+leaves_for : (s : State) (q : PortInfo) (bytes : List ℕ) (r : Reply) → IsDrained s q.owner → (o : Option Prefix) → IsSent s q bytes r o → MatchOption o (r ≡ bare Unrouted) (IsAnswered s q bytes r)
 leaves_for s q bytes r drained None sent = sent
 leaves_for s q bytes r drained (Some p) sent = leaves_by_entry s q bytes r p drained (get (told_to s q.owner) p) refl sent
 
