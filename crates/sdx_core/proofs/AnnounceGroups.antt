@@ -33,7 +33,7 @@ use Rattle.net_types.specs.declared.route.Offer.{Offer}
 use Rattle.net_types.specs.declared.route.Part.{Part}
 use Rattle.net_types.specs.declared.route.Participant.{Participant}
 use Rattle.net_types.specs.declared.route.PortInfo.{PortInfo}
-use Rattle.sdx_core.specs.View.{attrs_of, route_entry, tag_entry, kept_entry, told_entry, told_maps, parts_from, state_of, routing_of, is_announced, announced_in, AreApart, ForEach, AreTagged, IsOwn, IsKept, is_given_on, tag_at_place, tag_count}
+use Rattle.sdx_core.specs.View.{route_entry, tag_entry, kept_entry, told_entry, told_maps, parts_from, state_of, routing_of, is_announced, announced_in, AreApart, ForEach, AreTagged, IsOwn, IsKept, is_given_on, tag_at_place, tag_count}
 use Rattle.net_types.proofs.PassLemmas.{find_more, find_last, find_absent, find_skips, is_some-any, filter_twice, filter_nothing, one_if, some_there}
 use Rattle.sdx_core.proofs.DeclaredKept.{each_more}
 use Rattle.sdx_core.proofs.AnnounceLists.{apart_more, tagged_more, count_more, one_of}
@@ -98,9 +98,9 @@ where_listed f true o x is h = is
 where_listed f false None x is h = refl
 where_listed f false (Some b) x is h = absurd (clash false (h b refl) refl)
 
-module _ (phase : Phase) (base : Ip) (size capacity : ℕ) (ms : List Participant) (qs : List PortInfo) (anns : List Announcement) (ns : List ℕ) (rules : ℕ) (kept : IsKept phase size capacity ms qs anns ns rules base) (a : Announcement) (own : IsOwn ms qs a) (new : is_announced a.prefix anns ≡ false) (tag : a.tag ≡ tag_at_place (is_given_on ms a) (tag_count anns)) where
+module _ (phase : Phase) (base : Ip) (size capacity : ℕ) (ms : List Participant) (qs : List PortInfo) (rs : List (List Ip)) (anns : List Announcement) (ns : List ℕ) (rules : ℕ) (kept : IsKept phase size capacity ms qs rs anns ns rules base) (a : Announcement) (own : IsOwn ms qs a) (new : is_announced a.prefix anns ≡ false) (tag : a.tag ≡ tag_at_place (is_given_on ms a) (tag_count anns)) where
   abbrev before : State
-  before = state_of phase base size capacity ms qs anns ns
+  before = state_of phase base size capacity ms qs rs anns ns
 
   abbrev more : List Announcement
   more = anns ++ a ∷ []
@@ -131,10 +131,10 @@ module _ (phase : Phase) (base : Ip) (size capacity : ℕ) (ms : List Participan
   no_route = sym (get-from_entries routes_total (map route_entry anns) (key_of a.from a.prefix)) ∙ route_kept ms qs anns kept.apart a.from a.prefix ∙ ap (option_and_then (route_from a.from)) (announced_none anns a.prefix new)
 
   -- the routes are those of the longer list
-  pub new_routing : with_route (routing_of ms qs anns) a.from a.prefix (attrs_of a) ≡ routing_of ms qs (anns ++ a ∷ [])
+  pub new_routing : with_route (routing_of ms qs anns) a.from a.prefix a.attrs ≡ routing_of ms qs (anns ++ a ∷ [])
   new_routing =
-      let same : insert (from_entries {R = route_cmp} (map route_entry anns)) (key_of a.from a.prefix) (attrs_of a) ≡ from_entries (map route_entry (anns ++ a ∷ [])) =
-      sym (ap from_entries (map-append route_entry anns (a ∷ [])) ∙ from_entries_push routes_total route_cmp-IsAntisymmetric (map route_entry anns) (key_of a.from a.prefix) (attrs_of a) no_route) in
+      let same : insert (from_entries {R = route_cmp} (map route_entry anns)) (key_of a.from a.prefix) a.attrs ≡ from_entries (map route_entry (anns ++ a ∷ [])) =
+      sym (ap from_entries (map-append route_entry anns (a ∷ [])) ∙ from_entries_push routes_total route_cmp-IsAntisymmetric (map route_entry anns) (key_of a.from a.prefix) a.attrs no_route) in
       λ i. record (routing_of ms qs anns) { routes = same i }
 
   -- ---- what is changed
@@ -234,15 +234,15 @@ module _ (phase : Phase) (base : Ip) (size capacity : ℕ) (ms : List Participan
       by : (given : Bool) → (tag_count anns < size) ⊎ (size ≤ tag_count anns) → nat_lt (length (free_tags before)) (length (cond given (group ∷ []) [])) ≡ (given && nat_le size (tag_count anns))
       by false c = le-ltb (length (free_tags before)) 0 (omega arith)
       by true (inl room) =
-          let some : 1 ≤ length (free_tags before) = nonempty (free_tags before) (tag_of (tag_count anns + 1)) (first_free_tag phase base size capacity ms qs anns ns kept.apart kept.tagged room) in
+          let some : 1 ≤ length (free_tags before) = nonempty (free_tags before) (tag_of (tag_count anns + 1)) (first_free_tag phase base size capacity ms qs rs anns ns kept.apart kept.tagged room) in
           le-ltb (length (free_tags before)) 1 some ∙ sym (lt-leb size (tag_count anns) room)
-      by true (inr full) = ap (λ ts. nat_lt (length ts) 1) (no_free_tag phase base size capacity ms qs anns ns kept.apart kept.tagged full) ∙ sym (le-leb size (tag_count anns) full)
+      by true (inr full) = ap (λ ts. nat_lt (length ts) 1) (no_free_tag phase base size capacity ms qs rs anns ns kept.apart kept.tagged full) ∙ sym (le-leb size (tag_count anns) full)
 
   fresh_is : is_given_on ms a ≡ true → tag_count anns < size → fresh_tag before routing group ≡ Some (tag_of (tag_count anns + 1))
   fresh_is given room =
       ap (λ gs. option_and_then (slice_get (free_tags before)) (position_from (same_group group) 0 gs)) (groups_are ∙ ap (λ b. cond b (group ∷ []) []) given)
       ∙ ap (λ b. option_and_then (slice_get (free_tags before)) (cond b (Some 0) None)) (same_itself group)
-      ∙ first_free_tag phase base size capacity ms qs anns ns kept.apart kept.tagged room
+      ∙ first_free_tag phase base size capacity ms qs rs anns ns kept.apart kept.tagged room
 
   module _ (free : is_given_on ms a ≡ true → tag_count anns < size) where
     abbrev tag_at : Option Announcement → Option Tag
@@ -304,7 +304,7 @@ module _ (phase : Phase) (base : Ip) (size capacity : ℕ) (ms : List Participan
     live_after t =
         ap (λ m. list_any (same_tag t) (values m) || list_any (λ (entries : FinMap prefix_cmp Entry). tells entries t) before.told) tags_are
         ∙ ap (λ ms. list_any (same_tag t) (values (from_entries {R = prefix_cmp} (filter_map tag_entry (anns ++ a ∷ [])))) || list_any (λ (entries : FinMap prefix_cmp Entry). tells entries t) ms) (sym (told_same ms ns anns a kept.fronts))
-        ∙ live_kept Running base size capacity ms qs (anns ++ a ∷ []) ns t more_apart
+        ∙ live_kept Running base size capacity ms qs rs (anns ++ a ∷ []) ns t more_apart
 
     more_tagged : AreTagged ms 0 (anns ++ a ∷ [])
     more_tagged = tagged_more ms 0 anns a kept.tagged (tag ∙ ap (tag_at_place (is_given_on ms a)) (let e : tag_count anns ≡ 0 + tag_count anns = omega arith in e))
@@ -371,7 +371,7 @@ module _ (phase : Phase) (base : Ip) (size capacity : ℕ) (ms : List Participan
             ∙ sym (ap parts (find_absent (has_tag t) (anns ++ a ∷ []) none))
 
     -- the state of the longer list, with the table that was
-    pub retagged_is : retagged before (with_route before.routing a.from a.prefix (attrs_of a)) ≡ record (state_of Running base size capacity ms qs (anns ++ a ∷ []) ns) { table = before.table }
+    pub retagged_is : retagged before (with_route before.routing a.from a.prefix a.attrs) ≡ record (state_of Running base size capacity ms qs rs (anns ++ a ∷ []) ns) { table = before.table }
     retagged_is =
         ap (retagged before) new_routing
         ∙ (λ i. record before { phase = Running; routing = routing; tag = tags_are i; kept = kept_are i; told = sym (told_same ms ns anns a kept.fronts) i })

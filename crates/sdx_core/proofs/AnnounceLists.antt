@@ -105,10 +105,10 @@ no_new_entries ms (q ∷ qs) a is =
     ∙ no_entry a (owner_of ms q) (new_entries ms qs a) (no_new_entries ms qs a is)
 
 -- the lists with one announcement more are kept
-pub kept_more : (phase : Phase) (size capacity : ℕ) (ms : List Participant) (qs : List PortInfo) (anns : List Announcement) (ns : List ℕ) (rules : ℕ) (base : Ip) (a : Announcement) (more room : ℕ) → IsKept phase size capacity ms qs anns ns rules base
+pub kept_more : (phase : Phase) (size capacity : ℕ) (ms : List Participant) (qs : List PortInfo) (rs : List (List Ip)) (anns : List Announcement) (ns : List ℕ) (rules : ℕ) (base : Ip) (a : Announcement) (more room : ℕ) → IsKept phase size capacity ms qs rs anns ns rules base
     → IsOwn ms qs a → is_announced a.prefix anns ≡ false → a.tag ≡ tag_at_place (is_given_on ms a) (tag_count anns) → tag_count anns + one_if (is_given_on ms a) ≤ size
     → more ≡ length (new_entries ms qs a) → rules + more ≤ room → IsKept Running size room ms qs (anns ++ a ∷ []) ns (rules + more) base
-kept_more phase size capacity ms qs anns ns rules base a more room kept own new tag free counted fits = record {
+kept_more phase size capacity ms qs rs anns ns rules base a more room kept own new tag free counted fits = record {
   told = kept.told;
   few = kept.few;
   early = tt;

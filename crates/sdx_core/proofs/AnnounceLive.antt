@@ -106,9 +106,9 @@ where_some : {A B : Type 0} (f : A → Option B) (o : Option A) → is_some (opt
 where_some f None e = absurd (cc)
 where_some f (Some x) e = (x, refl, e)
 
-module _ (phase : Phase) (base : Ip) (size capacity : ℕ) (ms : List Participant) (qs : List PortInfo) (anns : List Announcement) (ns : List ℕ) (rules : ℕ) (kept : IsKept phase size capacity ms qs anns ns rules base) where
+module _ (phase : Phase) (base : Ip) (size capacity : ℕ) (ms : List Participant) (qs : List PortInfo) (rs : List (List Ip)) (anns : List Announcement) (ns : List ℕ) (rules : ℕ) (kept : IsKept phase size capacity ms qs rs anns ns rules base) where
   abbrev s : State
-  s = state_of phase base size capacity ms qs anns ns
+  s = state_of phase base size capacity ms qs rs anns ns
 
   -- a pair of the table is among all pairs
   table_pair : (q : Pair) → is_some (get s.table q) ≡ true → list_any (eq_by_cmp pair_cmp q) (pairs s) ≡ true
@@ -129,7 +129,7 @@ module _ (phase : Phase) (base : Ip) (size capacity : ℕ) (ms : List Participan
       ap is_some (get-tabulate pair_cmp pairs_total (λ k. Some k) (λ x y e. ap Some (sym (same_from_tie pair_cmp pair_cmp-IsAntisymmetric x y e))) (filter (is_live_pair s) (pairs s)) q)
       ∙ some_if (list_any (eq_by_cmp pair_cmp q) (filter (is_live_pair s) (pairs s)))
       ∙ any_filter (eq_by_cmp pair_cmp q) (is_live_pair s) (is_live_pair s q) (pairs s) (λ x e. ap (is_live_pair s) (sym (same_from_tie pair_cmp pair_cmp-IsAntisymmetric q x e)))
-      ∙ ap (λ b. b && list_any (eq_by_cmp pair_cmp q) (pairs s)) (sym (kept_pairs phase base size capacity ms qs anns ns rules kept q))
+      ∙ ap (λ b. b && list_any (eq_by_cmp pair_cmp q) (pairs s)) (sym (kept_pairs phase base size capacity ms qs rs anns ns rules kept q))
       ∙ by (is_some (get s.table q)) (table_pair q)
     where
       some_if : (b : Bool) → is_some (cond b (Some q) None) ≡ b

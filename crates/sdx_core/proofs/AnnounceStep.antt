@@ -38,7 +38,7 @@ use Rattle.net_types.specs.declared.route.Participant.{Participant}
 use Rattle.net_types.specs.declared.route.PortInfo.{PortInfo}
 use Rattle.net_types.specs.declared.route.Segment.TheVariants.{Sequence}
 use Rattle.sdx_core.specs.Building.{is_at, kept_of, has_others, is_inadmissible, IsAdmitted, flow_to, announced_reply}
-use Rattle.sdx_core.specs.View.{attrs_of, state_of, routing_of, is_announced, announced_in, numbers_of, addresses_of, receives, ForEach, IsOwn, IsKept, is_given_on, tag_at_place, tag_count, AreApart}
+use Rattle.sdx_core.specs.View.{state_of, routing_of, is_announced, announced_in, numbers_of, addresses_of, receives, ForEach, IsOwn, IsKept, is_given_on, tag_at_place, tag_count, AreApart}
 use Rattle.sdx_core.proofs.AnnounceGroups.{new_routing, full_pool, retagged_is}
 use Rattle.sdx_core.proofs.AnnounceLists.{entry_for, new_entries, receiving, kept_more}
 use Rattle.sdx_core.proofs.AnnounceLive.{live_count}
@@ -56,18 +56,18 @@ use Rattle.sdx_core.specs.declared.bgp_update.ShortUpdate.{ShortUpdate}
 -- ---- who has a route
 
 -- somebody has a route exactly for what is announced
-pub has_route_kept : (phase : Phase) (base : Ip) (size capacity : ℕ) (ms : List Participant) (qs : List PortInfo) (anns : List Announcement) (ns : List ℕ) → AreApart anns → ForEach (IsOwn ms qs) anns → (p : Prefix) → has_route (state_of phase base size capacity ms qs anns ns) p ≡ is_announced p anns
-has_route_kept phase base size capacity ms qs anns ns apart own p = by (announced_in anns p) refl ∙ is_some-any (λ (a : Announcement). eq_by_cmp prefix_cmp p a.prefix) anns
+pub has_route_kept : (phase : Phase) (base : Ip) (size capacity : ℕ) (ms : List Participant) (qs : List PortInfo) (rs : List (List Ip)) (anns : List Announcement) (ns : List ℕ) → AreApart anns → ForEach (IsOwn ms qs) anns → (p : Prefix) → has_route (state_of phase base size capacity ms qs rs anns ns) p ≡ is_announced p anns
+has_route_kept phase base size capacity ms qs rs anns ns apart own p = by (announced_in anns p) refl ∙ is_some-any (λ (a : Announcement). eq_by_cmp prefix_cmp p a.prefix) anns
   where
     has : (o : Option Announcement) → announced_in anns p ≡ o → (who : Pid) → is_some (route (routing_of ms qs anns) who p) ≡ is_some (option_and_then (route_from who) o)
     has o there who = ap is_some (route_kept ms qs anns apart who p ∙ ap (option_and_then (route_from who)) there)
 
-    by : (o : Option Announcement) → announced_in anns p ≡ o → has_route (state_of phase base size capacity ms qs anns ns) p ≡ is_some (announced_in anns p)
+    by : (o : Option Announcement) → announced_in anns p ≡ o → has_route (state_of phase base size capacity ms qs rs anns ns) p ≡ is_some (announced_in anns p)
     by None none = same_any (λ who. is_some (route (routing_of ms qs anns) who p)) (λ who. false) (pids (routing_of ms qs anns)) (has None none) ∙ any_false (pids (routing_of ms qs anns)) ∙ sym (ap is_some none)
     by (Some a) there =
         let declared : a.from.0 < length ms = own_declared ms qs a (is_own ms qs anns own p a there) in
         any_at (λ who. is_some (route (routing_of ms qs anns) who p)) (pids (routing_of ms qs anns)) a.from (place_member (λ n. let who : Pid = record { 0 = n } in who) 0 (length ms) a.from.0 (omega arith) (omega arith))
-        (has (Some a) there a.from ∙ ap (λ b. is_some (cond b (Some (attrs_of a)) None)) (eq-eqb a.from.0 a.from.0 refl))
+        (has (Some a) there a.from ∙ ap (λ b. is_some (cond b (Some a.attrs) None)) (eq-eqb a.from.0 a.from.0 refl))
         ∙ sym (ap is_some there)
 
 -- ---- the port of a next hop
@@ -113,9 +113,9 @@ mapped : {A B : Type 0} (f : A → B) (o : Option A) (y : B) → option_map f o 
 mapped f None y e = absurd (cc)
 mapped f (Some x) y e = (x, refl, (cc))
 
-module _ (phase : Phase) (base : Ip) (size capacity : ℕ) (ms : List Participant) (qs : List PortInfo) (anns : List Announcement) (ns : List ℕ) (rules : ℕ) (kept : IsKept phase size capacity ms qs anns ns rules base) (who : Pid) (u : ShortUpdate) (declared : who.0 < length ms) where
+module _ (phase : Phase) (base : Ip) (size capacity : ℕ) (ms : List Participant) (qs : List PortInfo) (rs : List (List Ip)) (anns : List Announcement) (ns : List ℕ) (rules : ℕ) (kept : IsKept phase size capacity ms qs rs anns ns rules base) (who : Pid) (u : ShortUpdate) (declared : who.0 < length ms) where
   abbrev before : State
-  before = state_of phase base size capacity ms qs anns ns
+  before = state_of phase base size capacity ms qs rs anns ns
 
   abbrev other_as : Bool
   other_as = not (nat_eq u.asn (option_map_or (λ (m : Participant). m.asn) (slice_get ms who.0) 0))
@@ -130,7 +130,7 @@ module _ (phase : Phase) (base : Ip) (size capacity : ℕ) (ms : List Participan
   is_over = nat_lt capacity (length (live_pairs (retagged before (with_route before.routing who u.prefix (attrs_in u)))))
 
   cannot_is : cannot_announce before who u.prefix (attrs_in u) ≡ (((other_as || no_next_hop) || is_announced u.prefix anns) || is_full || is_over)
-  cannot_is = ap (λ b. ((other_as || no_next_hop) || b) || is_full || is_over) (has_route_kept phase base size capacity ms qs anns ns kept.apart kept.own u.prefix)
+  cannot_is = ap (λ b. ((other_as || no_next_hop) || b) || is_full || is_over) (has_route_kept phase base size capacity ms qs rs anns ns kept.apart kept.own u.prefix)
 
   -- an announcement that passes the first tests is the participant's own
   own_passed : (port : PortNo) → option_map (λ (q : PortInfo). q.number) (find (is_at who u.next_hop) qs) ≡ Some port → other_as ≡ false → IsOwn ms qs (ann_of ms anns who u port)
@@ -141,8 +141,8 @@ module _ (phase : Phase) (base : Ip) (size capacity : ℕ) (ms : List Participan
   full_is : (port : PortNo) → option_map (λ (q : PortInfo). q.number) (find (is_at who u.next_hop) qs) ≡ Some port → other_as ≡ false → is_announced u.prefix anns ≡ false → is_full ≡ (has_others ms u.asn && nat_le size (tag_count anns))
   full_is port there same new =
       let a : Announcement = ann_of ms anns who u port in
-      ap (λ r. nat_lt (length (free_tags before)) (length (groups before r))) (new_routing phase base size capacity ms qs anns ns rules kept a (own_passed port there same) new refl)
-      ∙ full_pool phase base size capacity ms qs anns ns rules kept a (own_passed port there same) new refl
+      ap (λ r. nat_lt (length (free_tags before)) (length (groups before r))) (new_routing phase base size capacity ms qs rs anns ns rules kept a (own_passed port there same) new refl)
+      ∙ full_pool phase base size capacity ms qs rs anns ns rules kept a (own_passed port there same) new refl
 
   -- what isn't admitted is refused
   pub inadmissible_cannot : is_inadmissible ms qs anns size who u ≡ true → cannot_announce before who u.prefix (attrs_in u) ≡ true
@@ -182,7 +182,7 @@ module _ (phase : Phase) (base : Ip) (size capacity : ℕ) (ms : List Participan
     room given = leb-false size (tag_count anns) (sym (ap (λ x. x && nat_le size (tag_count anns)) given) ∙ passed.3)
 
     pub more_kept : (top : ℕ) → rules + length (new_entries ms qs a) ≤ top → IsKept Running size top ms qs (anns ++ a ∷ []) ns (rules + length (new_entries ms qs a)) base
-    more_kept top fits = kept_more phase size capacity ms qs anns ns rules base a (length (new_entries ms qs a)) top kept a_own passed.2 refl (by (is_given_on ms a) room) refl fits
+    more_kept top fits = kept_more phase size capacity ms qs rs anns ns rules base a (length (new_entries ms qs a)) top kept a_own passed.2 refl (by (is_given_on ms a) room) refl fits
       where
         by : (given : Bool) → (given ≡ true → tag_count anns < size) → tag_count anns + one_if given ≤ size
         by true less = let lt = less refl in omega arith
@@ -196,7 +196,7 @@ module _ (phase : Phase) (base : Ip) (size capacity : ℕ) (ms : List Participan
         ∙ ap (λ x. (x || is_announced u.prefix anns) || is_full || is_over) passed.1
         ∙ ap (λ x. x || is_full || is_over) passed.2
         ∙ ap (λ x. x || is_over) (full_is b.port admitted.port passed.0 passed.2 ∙ passed.3)
-        ∙ ap (λ s. nat_lt capacity (length (live_pairs s))) (retagged_is phase base size capacity ms qs anns ns rules kept a a_own passed.2 refl room)
+        ∙ ap (λ s. nat_lt capacity (length (live_pairs s))) (retagged_is phase base size capacity ms qs rs anns ns rules kept a a_own passed.2 refl room)
         ∙ ap (nat_lt capacity) (live_count Running base size (rules + length (new_entries ms qs a)) ms qs (anns ++ a ∷ []) ns (rules + length (new_entries ms qs a)) later ∙ sym later.rules_are)
       where
         later : IsKept Running size (rules + length (new_entries ms qs a)) ms qs (anns ++ a ∷ []) ns (rules + length (new_entries ms qs a)) base
@@ -214,7 +214,7 @@ module _ (phase : Phase) (base : Ip) (size capacity : ℕ) (ms : List Participan
       -- as many rules come as there are ports
       pub as_many : length (new_entries ms qs a) ≡ length ports
       as_many =
-          ap length (brings phase base size capacity ms qs anns ns rules kept a a_own passed.2 refl)
+          ap length (brings phase base size capacity ms qs rs anns ns rules kept a a_own passed.2 refl)
           ∙ length-map (receiving ms qs a) (entry_for fresh a)
           ∙ sym (length-map (receiving ms qs a) (λ (q : PortInfo). q.number))
           ∙ sym (length_permutation (map (λ (q : PortInfo). q.number) (receiving ms qs a)) ports those)
@@ -241,17 +241,17 @@ module _ (phase : Phase) (base : Ip) (size capacity : ℕ) (ms : List Participan
           by false none = ap (λ ns. let r : Reply = record (bare Fine) { adds = map (flow_to fresh b.port) ns } in r) (sym (none refl))
 
       abbrev later : State
-      later = state_of Running base size capacity ms qs (anns ++ a ∷ []) ns
+      later = state_of Running base size capacity ms qs rs (anns ++ a ∷ []) ns
 
       table_then : retagged before (with_route before.routing who u.prefix (attrs_in u)) ≡ record later { table = before.table }
-      table_then = retagged_is phase base size capacity ms qs anns ns rules kept a a_own passed.2 refl room
+      table_then = retagged_is phase base size capacity ms qs rs anns ns rules kept a a_own passed.2 refl room
 
       built : IsBuilt before later none_rebuilt reply
       built = record {
         head = refl;
-        tags = sym (tags_told phase base size capacity ms qs anns ns rules kept a a_own passed.2 refl);
-        drops = sym (dropped_is phase base size capacity ms qs anns ns rules kept a a_own passed.2 refl ports those up);
-        adds = sym (added_is phase base size capacity ms qs anns ns rules kept a a_own passed.2 refl ports those up);
+        tags = sym (tags_told phase base size capacity ms qs rs anns ns rules kept a a_own passed.2 refl);
+        drops = sym (dropped_is phase base size capacity ms qs rs anns ns rules kept a a_own passed.2 refl ports those up);
+        adds = sym (added_is phase base size capacity ms qs rs anns ns rules kept a a_own passed.2 refl ports those up);
         adverts = refl;
         frames = refl;
       }
@@ -259,7 +259,7 @@ module _ (phase : Phase) (base : Ip) (size capacity : ℕ) (ms : List Participan
       pub taken_step : (name bytes : List ℕ) → is_placed phase (Update name bytes) ≡ true → pid_of before.routing name ≡ Some who → announced_prefix bytes ≡ u.prefix → announced_attrs bytes ≡ attrs_in u → rules + length ports ≤ capacity → IsStep before (Update name bytes) (announced_reply a ports a.tag) later
       taken_step name bytes placed known prefix attrs fits =
           subst (λ r. IsStep before (Update name bytes) r later) (sym reply_is)
-          (accepted before (Update name bytes) reply later none (sym next_is) built (kept_sound Running base size capacity ms qs (anns ++ a ∷ []) ns (rules + length (new_entries ms qs a)) (more_kept capacity enough)))
+          (accepted before (Update name bytes) reply later none (sym next_is) built (kept_sound Running base size capacity ms qs rs (anns ++ a ∷ []) ns (rules + length (new_entries ms qs a)) (more_kept capacity enough)))
         where
           enough : rules + length (new_entries ms qs a) ≤ capacity
           enough = let e = as_many in omega arith
@@ -278,7 +278,7 @@ module _ (phase : Phase) (base : Ip) (size capacity : ℕ) (ms : List Participan
               ∙ ap (λ p. let x : State = retagged before (with_route before.routing who p (announced_attrs bytes)) in record x { table = put_flows before.table reply.adds }) prefix
               ∙ ap (λ t. let x : State = retagged before (with_route before.routing who u.prefix t) in record x { table = put_flows before.table reply.adds }) attrs
               ∙ ap (λ (x : State). record x { table = put_flows before.table reply.adds }) table_then
-              ∙ ap (λ t. record later { table = t }) (table_is phase base size capacity ms qs anns ns rules kept a a_own passed.2 refl ports those up)
+              ∙ ap (λ t. record later { table = t }) (table_is phase base size capacity ms qs rs anns ns rules kept a a_own passed.2 refl ports those up)
 
 -- ---- the refusals
 
@@ -320,32 +320,32 @@ pid_known ms name o e = ap (option_map (λ n. let who : Pid = record { 0 = n } i
 
 -- ---- as the code has it
 
-module _ (phase : Phase) (base : Ip) (size capacity : ℕ) (ms : List Participant) (qs : List PortInfo) (anns : List Announcement) (ns : List ℕ) (rules : ℕ) (kept : IsKept phase size capacity ms qs anns ns rules base) (who : Pid) (u : ShortUpdate) (declared : who.0 < length ms) (b : Announcement) (admitted : IsAdmitted ms qs anns size who u b) (ports : List PortNo) (those : IsPermutation (map (λ (q : PortInfo). q.number) (receiving ms qs b)) ports) (ascending : IsNonDecreasingBy (λ (n : PortNo). n.0) ports) where
+module _ (phase : Phase) (base : Ip) (size capacity : ℕ) (ms : List Participant) (qs : List PortInfo) (rs : List (List Ip)) (anns : List Announcement) (ns : List ℕ) (rules : ℕ) (kept : IsKept phase size capacity ms qs rs anns ns rules base) (who : Pid) (u : ShortUpdate) (declared : who.0 < length ms) (b : Announcement) (admitted : IsAdmitted ms qs anns size who u b) (ports : List PortNo) (those : IsPermutation (map (λ (q : PortInfo). q.number) (receiving ms qs b)) ports) (ascending : IsNonDecreasingBy (λ (n : PortNo). n.0) ports) where
   same_those : IsPermutation (map (λ (q : PortInfo). q.number) (receiving ms qs (ann_of ms anns who u b.port))) ports
   same_those = subst (λ x. IsPermutation (map (λ (q : PortInfo). q.number) (receiving ms qs x)) ports) admitted.is those
 
   many : length (new_entries ms qs (ann_of ms anns who u b.port)) ≡ length ports
-  many = as_many phase base size capacity ms qs anns ns rules kept who u declared b admitted ports same_those ascending
+  many = as_many phase base size capacity ms qs rs anns ns rules kept who u declared b admitted ports same_those ascending
 
   -- the table has no room for the rules
-  pub over_at : capacity - rules < length ports → cannot_announce (state_of phase base size capacity ms qs anns ns) who u.prefix (attrs_in u) ≡ true
+  pub over_at : capacity - rules < length ports → cannot_announce (state_of phase base size capacity ms qs rs anns ns) who u.prefix (attrs_in u) ≡ true
   over_at over =
-      cannot_over phase base size capacity ms qs anns ns rules kept who u declared b admitted
+      cannot_over phase base size capacity ms qs rs anns ns rules kept who u declared b admitted
       ∙ lt-ltb capacity (rules + length (new_entries ms qs (ann_of ms anns who u b.port))) (let e = many in let le = kept.room in omega arith)
 
   -- the longer list is kept
-  pub kept_at : (more : List Announcement) → more ≡ anns ++ b ∷ [] → length ports ≤ capacity - rules → IsKept Running size capacity ms qs more ns (rules + length ports) base
+  pub kept_at : (more : List Announcement) → more ≡ anns ++ b ∷ [] → length ports ≤ capacity - rules → IsKept Running size capacity ms qs rs more ns (rules + length ports) base
   kept_at more is fits =
       subst (λ l. IsKept Running size capacity ms qs l ns (rules + length ports) base) (sym (is ∙ ap (λ x. anns ++ x ∷ []) admitted.is))
-      (subst (λ n. IsKept Running size capacity ms qs (anns ++ ann_of ms anns who u b.port ∷ []) ns (rules + n) base) many
-      (more_kept phase base size capacity ms qs anns ns rules kept who u declared b admitted capacity (let e = many in let le = kept.room in omega arith)))
+      (subst (λ n. IsKept Running size capacity ms qs rs (anns ++ ann_of ms anns who u b.port ∷ []) ns (rules + n) base) many
+      (more_kept phase base size capacity ms qs rs anns ns rules kept who u declared b admitted capacity (let e = many in let le = kept.room in omega arith)))
 
   -- the line is taken
-  pub taken_at : (st : State) (name bytes : List ℕ) (more : List Announcement) (r : Reply) → state_of phase base size capacity ms qs anns ns ≡ st → is_placed st.phase (Update name bytes) ≡ true → pid_of (routing_of ms qs anns) name ≡ Some who → announced_prefix bytes ≡ u.prefix → announced_attrs bytes ≡ attrs_in u
-      → more ≡ anns ++ b ∷ [] → r ≡ announced_reply b ports b.tag → length ports ≤ capacity - rules → IsStep st (Update name bytes) r (state_of Running base size capacity ms qs more ns)
+  pub taken_at : (st : State) (name bytes : List ℕ) (more : List Announcement) (r : Reply) → state_of phase base size capacity ms qs rs anns ns ≡ st → is_placed st.phase (Update name bytes) ≡ true → pid_of (routing_of ms qs anns) name ≡ Some who → announced_prefix bytes ≡ u.prefix → announced_attrs bytes ≡ attrs_in u
+      → more ≡ anns ++ b ∷ [] → r ≡ announced_reply b ports b.tag → length ports ≤ capacity - rules → IsStep st (Update name bytes) r (state_of Running base size capacity ms qs rs more ns)
   taken_at st name bytes more r is placed known prefix attrs pushed reply fits =
-      step_at (state_of phase base size capacity ms qs anns ns) st (state_of Running base size capacity ms qs (anns ++ ann_of ms anns who u b.port ∷ []) ns) (state_of Running base size capacity ms qs more ns) (Update name bytes)
+      step_at (state_of phase base size capacity ms qs rs anns ns) st (state_of Running base size capacity ms qs rs (anns ++ ann_of ms anns who u b.port ∷ []) ns) (state_of Running base size capacity ms qs rs more ns) (Update name bytes)
       (announced_reply (ann_of ms anns who u b.port) ports (ann_of ms anns who u b.port).tag) r is
       (reply ∙ ap (λ (x : Announcement). announced_reply x ports x.tag) admitted.is)
       (ap (λ l. state_of Running base size capacity ms qs l ns) (pushed ∙ ap (λ x. anns ++ x ∷ []) admitted.is))
-      (taken_step phase base size capacity ms qs anns ns rules kept who u declared b admitted ports same_those ascending name bytes (ap (λ (x : State). is_placed x.phase (Update name bytes)) is ∙ placed) known prefix attrs (let le = kept.room in omega arith))
+      (taken_step phase base size capacity ms qs rs anns ns rules kept who u declared b admitted ports same_those ascending name bytes (ap (λ (x : State). is_placed x.phase (Update name bytes)) is ∙ placed) known prefix attrs (let le = kept.room in omega arith))

@@ -86,12 +86,12 @@ none_received (m ∷ ms) a (suc k) none = none_received ms a k (or_parts (is_rec
 pub none_receiving : (ms : List Participant) (qs : List PortInfo) (a : Announcement) → is_given_on ms a ≡ false → receiving ms qs a ≡ []
 none_receiving ms qs a none = filter_nothing (λ (q : PortInfo). receives ms a q.owner) qs (λ q. none_received ms a q.owner.0 none)
 
-module _ (phase : Phase) (base : Ip) (size capacity : ℕ) (ms : List Participant) (qs : List PortInfo) (anns : List Announcement) (ns : List ℕ) (rules : ℕ) (kept : IsKept phase size capacity ms qs anns ns rules base) (a : Announcement) (own : IsOwn ms qs a) (new : is_announced a.prefix anns ≡ false) (tag : a.tag ≡ tag_at_place (is_given_on ms a) (tag_count anns)) where
+module _ (phase : Phase) (base : Ip) (size capacity : ℕ) (ms : List Participant) (qs : List PortInfo) (rs : List (List Ip)) (anns : List Announcement) (ns : List ℕ) (rules : ℕ) (kept : IsKept phase size capacity ms qs rs anns ns rules base) (a : Announcement) (own : IsOwn ms qs a) (new : is_announced a.prefix anns ≡ false) (tag : a.tag ≡ tag_at_place (is_given_on ms a) (tag_count anns)) where
   abbrev before : State
-  before = state_of phase base size capacity ms qs anns ns
+  before = state_of phase base size capacity ms qs rs anns ns
 
   abbrev after : State
-  after = state_of Running base size capacity ms qs (anns ++ a ∷ []) ns
+  after = state_of Running base size capacity ms qs rs (anns ++ a ∷ []) ns
 
   -- the tag that it gets where it is given on
   abbrev fresh : Tag
@@ -207,7 +207,7 @@ module _ (phase : Phase) (base : Ip) (size capacity : ℕ) (ms : List Participan
   tag_before p = tag_kept anns kept.apart p
 
   tag_after : (p : Prefix) → get after.tag p ≡ tag_in (announced_in (anns ++ a ∷ []) p)
-  tag_after p = tag_kept (anns ++ a ∷ []) (more_apart phase base size capacity ms qs anns ns rules kept a own new tag) p
+  tag_after p = tag_kept (anns ++ a ∷ []) (more_apart phase base size capacity ms qs rs anns ns rules kept a own new tag) p
 
   same_elsewhere : (p : Prefix) → eq_by_cmp prefix_cmp p a.prefix ≡ false → is_retagged p ≡ false
   same_elsewhere p other =
@@ -216,11 +216,11 @@ module _ (phase : Phase) (base : Ip) (size capacity : ℕ) (ms : List Participan
       ∙ ap not (same_tags (tag_in (announced_in anns p)))
     where
       by : (o : Option Announcement) → announced_in anns p ≡ o → announced_in (anns ++ a ∷ []) p ≡ announced_in anns p
-      by (Some b) there = in_old phase base size capacity ms qs anns ns rules kept a own new tag p b there ∙ sym there
-      by None none = in_none phase base size capacity ms qs anns ns rules kept a own new tag p (sym (is_some-any (λ (x : Announcement). eq_by_cmp prefix_cmp p x.prefix) anns) ∙ ap is_some none) other ∙ sym none
+      by (Some b) there = in_old phase base size capacity ms qs rs anns ns rules kept a own new tag p b there ∙ sym there
+      by None none = in_none phase base size capacity ms qs rs anns ns rules kept a own new tag p (sym (is_some-any (λ (x : Announcement). eq_by_cmp prefix_cmp p x.prefix) anns) ∙ ap is_some none) other ∙ sym none
 
   new_there : get after.tag a.prefix ≡ a.tag
-  new_there = tag_after a.prefix ∙ ap tag_in (in_new phase base size capacity ms qs anns ns rules kept a own new tag)
+  new_there = tag_after a.prefix ∙ ap tag_in (in_new phase base size capacity ms qs rs anns ns rules kept a own new tag)
 
   new_changes : is_retagged a.prefix ≡ is_some a.tag
   new_changes =

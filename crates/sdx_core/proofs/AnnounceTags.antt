@@ -22,7 +22,7 @@ use Rattle.sdx_core.proofs.KeptTable.{has_tag}
 use Rattle.net_types.proofs.PassLemmas.{one_if}
 use Rattle.sdx_core.proofs.AnnounceLists.{one_of, count_first}
 use Rattle.net_types.proofs.EntryLemmas.{AreFresh, any_values, no_values}
-use Rattle.sdx_core.specs.View.{attrs_of, is_announced, AreApart, AreTagged, tag_at_place, is_given_on, is_receiver, tag_count, tag_entry, told_entry, told_maps, state_of}
+use Rattle.sdx_core.specs.View.{is_announced, AreApart, AreTagged, tag_at_place, is_given_on, is_receiver, tag_count, tag_entry, told_entry, told_maps, state_of}
 use Rattle.sdx_core.specs.declared.announcement.Announcement.{Announcement}
 
 here_range : (n : ℕ) (given : Bool) (tag : Option Tag) (t : Tag) → tag ≡ tag_at_place given n → same_option same_tag tag (Some t) ≡ true → (t.0 ≡ n + 1) × (given ≡ true)
@@ -93,7 +93,7 @@ any_tags t (b ∷ anns) = any_tag t b b.tag (filter_map tag_entry anns) (list_an
 -- ---- the tags that were told
 
 untold_entry : (m : Participant) (t : Tag) (b : Announcement) (es : List (Prefix × Entry)) (tag : Option Tag) (given : Bool) → same_option same_tag tag (Some t) ≡ false → list_any (λ (e : Prefix × Entry). same_tag e.1.tag t) es ≡ false
-    → list_any (λ (e : Prefix × Entry). same_tag e.1.tag t) (cons_option (cond given (option_map (λ u. let e : Prefix × Entry = (b.prefix, record { attrs = attrs_of b; tag = u }) in e) tag) None) es) ≡ false
+    → list_any (λ (e : Prefix × Entry). same_tag e.1.tag t) (cons_option (cond given (option_map (λ u. let e : Prefix × Entry = (b.prefix, record { attrs = b.attrs; tag = u }) in e) tag) None) es) ≡ false
 untold_entry m t b es tag false other rest = rest
 untold_entry m t b es None true other rest = rest
 untold_entry m t b es (Some u) true other rest = or_from (same_tag u t) (list_any (λ (e : Prefix × Entry). same_tag e.1.tag t) es) other rest
@@ -117,8 +117,8 @@ either true told h = refl
 either false told h = h refl
 
 -- exactly the tags that were given are live
-pub live_kept : (phase : Phase) (base : Ip) (size capacity : ℕ) (ms : List Participant) (qs : List PortInfo) (anns : List Announcement) (ns : List ℕ) (t : Tag) → AreApart anns → is_live (state_of phase base size capacity ms qs anns ns) t ≡ list_any (has_tag t) anns
-live_kept phase base size capacity ms qs anns ns t apart =
+pub live_kept : (phase : Phase) (base : Ip) (size capacity : ℕ) (ms : List Participant) (qs : List PortInfo) (rs : List (List Ip)) (anns : List Announcement) (ns : List ℕ) (t : Tag) → AreApart anns → is_live (state_of phase base size capacity ms qs rs anns ns) t ≡ list_any (has_tag t) anns
+live_kept phase base size capacity ms qs rs anns ns t apart =
     ap (λ b. b || list_any (λ (entries : FinMap prefix_cmp Entry). tells entries t) (told_maps ms ns anns)) (any_values prefix_cmp prefixes_total (same_tag t) (filter_map tag_entry anns) (fresh_tags anns apart) ∙ any_tags t anns)
     ∙ either (list_any (has_tag t) anns) (list_any (λ (entries : FinMap prefix_cmp Entry). tells entries t) (told_maps ms ns anns)) (none_told t ms ns anns)
 
@@ -151,23 +151,23 @@ true_then_false false P h none = refl
 pub free_above : (ms : List Participant) (anns : List Announcement) (t : Tag) → AreTagged ms 0 anns → tag_count anns < t.0 → list_any (has_tag t) anns ≡ false
 free_above ms anns t tagged above = true_then_false (list_any (has_tag t) anns) ((0 < t.0) × (t.0 ≤ 0 + tag_count anns)) (taken_range ms 0 anns t tagged) (λ h. omega arith)
 
-pub unlive : (phase : Phase) (base : Ip) (size capacity : ℕ) (ms : List Participant) (qs : List PortInfo) (anns : List Announcement) (ns : List ℕ) (t : Tag) → AreApart anns → AreTagged ms 0 anns → tag_count anns < t.0 → is_live (state_of phase base size capacity ms qs anns ns) t ≡ false
-unlive phase base size capacity ms qs anns ns t apart tagged above = live_kept phase base size capacity ms qs anns ns t apart ∙ free_above ms anns t tagged above
+pub unlive : (phase : Phase) (base : Ip) (size capacity : ℕ) (ms : List Participant) (qs : List PortInfo) (rs : List (List Ip)) (anns : List Announcement) (ns : List ℕ) (t : Tag) → AreApart anns → AreTagged ms 0 anns → tag_count anns < t.0 → is_live (state_of phase base size capacity ms qs rs anns ns) t ≡ false
+unlive phase base size capacity ms qs rs anns ns t apart tagged above = live_kept phase base size capacity ms qs rs anns ns t apart ∙ free_above ms anns t tagged above
 
-live : (phase : Phase) (base : Ip) (size capacity : ℕ) (ms : List Participant) (qs : List PortInfo) (anns : List Announcement) (ns : List ℕ) (t : Tag) → AreApart anns → AreTagged ms 0 anns → 1 ≤ t.0 → t.0 ≤ tag_count anns → is_live (state_of phase base size capacity ms qs anns ns) t ≡ true
-live phase base size capacity ms qs anns ns t apart tagged above below = live_kept phase base size capacity ms qs anns ns t apart ∙ range_taken ms 0 anns t tagged (omega arith) (omega arith)
+live : (phase : Phase) (base : Ip) (size capacity : ℕ) (ms : List Participant) (qs : List PortInfo) (rs : List (List Ip)) (anns : List Announcement) (ns : List ℕ) (t : Tag) → AreApart anns → AreTagged ms 0 anns → 1 ≤ t.0 → t.0 ≤ tag_count anns → is_live (state_of phase base size capacity ms qs rs anns ns) t ≡ true
+live phase base size capacity ms qs rs anns ns t apart tagged above below = live_kept phase base size capacity ms qs rs anns ns t apart ∙ range_taken ms 0 anns t tagged (omega arith) (omega arith)
 
 -- the least free tag follows those that were given
-pub first_free_tag : (phase : Phase) (base : Ip) (size capacity : ℕ) (ms : List Participant) (qs : List PortInfo) (anns : List Announcement) (ns : List ℕ) → AreApart anns → AreTagged ms 0 anns → tag_count anns < size → slice_get (free_tags (state_of phase base size capacity ms qs anns ns)) 0 ≡ Some (tag_of (tag_count anns + 1))
-first_free_tag phase base size capacity ms qs anns ns apart tagged room =
-    first_free (λ t. not (is_live (state_of phase base size capacity ms qs anns ns) t)) (tag_count anns) 1 size
-    (λ t above below. not_from_true (is_live (state_of phase base size capacity ms qs anns ns) t) (live phase base size capacity ms qs anns ns t apart tagged above below))
-    (λ t above. not_from_false (is_live (state_of phase base size capacity ms qs anns ns) t) (unlive phase base size capacity ms qs anns ns t apart tagged above))
+pub first_free_tag : (phase : Phase) (base : Ip) (size capacity : ℕ) (ms : List Participant) (qs : List PortInfo) (rs : List (List Ip)) (anns : List Announcement) (ns : List ℕ) → AreApart anns → AreTagged ms 0 anns → tag_count anns < size → slice_get (free_tags (state_of phase base size capacity ms qs rs anns ns)) 0 ≡ Some (tag_of (tag_count anns + 1))
+first_free_tag phase base size capacity ms qs rs anns ns apart tagged room =
+    first_free (λ t. not (is_live (state_of phase base size capacity ms qs rs anns ns) t)) (tag_count anns) 1 size
+    (λ t above below. not_from_true (is_live (state_of phase base size capacity ms qs rs anns ns) t) (live phase base size capacity ms qs rs anns ns t apart tagged above below))
+    (λ t above. not_from_false (is_live (state_of phase base size capacity ms qs rs anns ns) t) (unlive phase base size capacity ms qs rs anns ns t apart tagged above))
     (omega arith) (omega arith)
 
 -- and none is free where all were given
-pub no_free_tag : (phase : Phase) (base : Ip) (size capacity : ℕ) (ms : List Participant) (qs : List PortInfo) (anns : List Announcement) (ns : List ℕ) → AreApart anns → AreTagged ms 0 anns → size ≤ tag_count anns → free_tags (state_of phase base size capacity ms qs anns ns) ≡ []
-no_free_tag phase base size capacity ms qs anns ns apart tagged full =
-    none_free (λ t. not (is_live (state_of phase base size capacity ms qs anns ns) t)) (tag_count anns) 1 size
-    (λ t above below. not_from_true (is_live (state_of phase base size capacity ms qs anns ns) t) (live phase base size capacity ms qs anns ns t apart tagged above below))
+pub no_free_tag : (phase : Phase) (base : Ip) (size capacity : ℕ) (ms : List Participant) (qs : List PortInfo) (rs : List (List Ip)) (anns : List Announcement) (ns : List ℕ) → AreApart anns → AreTagged ms 0 anns → size ≤ tag_count anns → free_tags (state_of phase base size capacity ms qs rs anns ns) ≡ []
+no_free_tag phase base size capacity ms qs rs anns ns apart tagged full =
+    none_free (λ t. not (is_live (state_of phase base size capacity ms qs rs anns ns) t)) (tag_count anns) 1 size
+    (λ t above below. not_from_true (is_live (state_of phase base size capacity ms qs rs anns ns) t) (live phase base size capacity ms qs rs anns ns t apart tagged above below))
     (omega arith)

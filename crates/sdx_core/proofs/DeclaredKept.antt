@@ -45,15 +45,16 @@ new_value value n test qs h free m =
     let image = map-Member value qs n m in
     not_both (list_any test qs) (any_at test qs image.of image.stands (h image.of image.is)) free
 
-module _ {phase : Phase} {size capacity : ℕ} {ms : List Participant} {qs : List PortInfo} {anns : List Announcement} {ns : List ℕ} {rules : ℕ} {base : Ip} (kept : IsKept phase size capacity ms qs anns ns rules base) where
+module _ {phase : Phase} {size capacity : ℕ} {ms : List Participant} {qs : List PortInfo} {rs : List (List Ip)} {anns : List Announcement} {ns : List ℕ} {rules : ℕ} {base : Ip} (kept : IsKept phase size capacity ms qs rs anns ns rules base) where
   -- the first line
-  pub exchanged_kept : (pool room : ℕ) (at : Ip) → phase ≡ Start → pool ≤ 65536 → at.0 ≤ 3758096383 → IsKept Declaring pool room ms qs anns ns rules at
+  pub exchanged_kept : (pool room : ℕ) (at : Ip) → phase ≡ Start → pool ≤ 65536 → at.0 ≤ 3758096383 → IsKept Declaring pool room ms qs rs anns ns rules at
   exchanged_kept pool room at start small low =
       let none : anns ≡ [] = subst (λ p. IsEarly p anns) start kept.early in
       let no_rules : rules ≡ 0 = kept.rules_are ∙ ap (λ xs. length (table_entries ms qs xs)) none in
       record {
         told = kept.told;
         few = kept.few;
+        resolved = kept.resolved;
         early = none;
         fronts = kept.fronts;
         apart = kept.apart;
@@ -70,7 +71,7 @@ module _ {phase : Phase} {size capacity : ℕ} {ms : List Participant} {qs : Lis
       }
 
   -- a further participant
-  pub joined_kept : (m : Participant) → phase ≡ Declaring → length ms < 256 → IsKept phase size capacity (ms ++ m ∷ []) qs anns (ns ++ 0 ∷ []) rules base
+  pub joined_kept : (m : Participant) → phase ≡ Declaring → length ms < 256 → IsKept phase size capacity (ms ++ m ∷ []) qs rs anns (ns ++ 0 ∷ []) rules base
   joined_kept m declaring few =
       let none : anns ≡ [] = subst (λ p. IsEarly p anns) declaring kept.early in
       let longer : length (ms ++ m ∷ []) ≡ length ms + 1 = length-append ms (m ∷ []) in
@@ -78,6 +79,7 @@ module _ {phase : Phase} {size capacity : ℕ} {ms : List Participant} {qs : Lis
       record {
         told = length-append ns (0 ∷ []) ∙ omega arith;
         few = omega arith;
+        resolved = kept.resolved;
         early = kept.early;
         fronts = each_more (λ n. n ≤ length anns) ns 0 kept.fronts (omega arith);
         apart = kept.apart;
@@ -94,13 +96,14 @@ module _ {phase : Phase} {size capacity : ℕ} {ms : List Participant} {qs : Lis
       }
 
   -- a further port, whose number and address are free
-  pub ported_kept : (q : PortInfo) → phase ≡ Declaring → q.owner.0 < length ms → is_port_taken (state_of phase base size capacity ms qs anns ns) q.number q.ip q.mac ≡ false → IsKept phase size capacity ms (qs ++ q ∷ []) anns ns rules base
+  pub ported_kept : (q : PortInfo) → phase ≡ Declaring → q.owner.0 < length ms → is_port_taken (state_of phase base size capacity ms qs rs anns ns) q.number q.ip q.mac ≡ false → IsKept phase size capacity ms (qs ++ q ∷ []) (rs ++ [] ∷ []) anns ns rules base
   ported_kept q declaring declared free =
       let none : anns ≡ [] = subst (λ p. IsEarly p anns) declaring kept.early in
       let unused : list_any (uses q.number q.ip q.mac) qs ≡ false = (or_parts _ _ (or_parts _ _ free).0).0 in
       record {
         told = kept.told;
         few = kept.few;
+        resolved = (let e : length rs ≡ length qs = kept.resolved in omega (arith, length-append rs ([] ∷ []), length-append qs (q ∷ [])));
         early = kept.early;
         fronts = kept.fronts;
         apart = kept.apart;

@@ -122,10 +122,10 @@ is_some-map f (Some x) = refl
 
 -- ---- the line
 
-module _ (phase : Phase) (b : Ip) (s c : ℕ) (ms : List Participant) (qs : List PortInfo) (anns : List Announcement) (ns : List ℕ) (rules : ℕ) (kept : IsKept phase s c ms qs anns ns rules b)
+module _ (phase : Phase) (b : Ip) (s c : ℕ) (ms : List Participant) (qs : List PortInfo) (rs : List (List Ip)) (anns : List Announcement) (ns : List ℕ) (rules : ℕ) (kept : IsKept phase s c ms qs rs anns ns rules b)
     (name : List ℕ) (k : ℕ) (place : position_from (λ (x : Participant). same_octets x.name name) 0 ms ≡ Some k) (m : Participant) (declared : slice_get ms k ≡ Some m) (within : k < length ms) where
   abbrev st : State
-  st = state_of phase b s c ms qs anns ns
+  st = state_of phase b s c ms qs rs anns ns
 
   abbrev who : Pid
   who = record { 0 = k }
@@ -146,10 +146,10 @@ module _ (phase : Phase) (b : Ip) (s c : ℕ) (ms : List Participant) (qs : List
   present_is : from_entries (filter_map (told_entry m) (take (length anns) anns)) ≡ present st who
   present_is =
       same_map prefixes_total prefix_cmp-IsAntisymmetric (from_entries (filter_map (told_entry m) (take (length anns) anns))) (present st who) (λ p.
-      ap (λ (x : FinMap prefix_cmp Entry). get x p) (sym (told_is phase b s c ms qs anns ns' who m (length anns) declared took_all))
-      ∙ told_kept phase b s c ms qs anns ns' even kept.apart who (length anns) took_all p
+      ap (λ (x : FinMap prefix_cmp Entry). get x p) (sym (told_is phase b s c ms qs rs anns ns' who m (length anns) declared took_all))
+      ∙ told_kept phase b s c ms qs rs anns ns' even kept.apart who (length anns) took_all p
       ∙ ap (λ xs. option_and_then (entry_of ms who) (announced_in xs p)) (take_all (length anns) anns (omega arith))
-      ∙ sym (present_kept phase b s c ms qs anns ns kept.apart kept.own who within p))
+      ∙ sym (present_kept phase b s c ms qs rs anns ns kept.apart kept.own who within p))
 
   told_after : told_maps ms ns' anns ≡ slice_set (told_maps ms ns anns) k (present st who)
   told_after = told_set ms ns anns k (length anns) m declared ∙ ap (slice_set (told_maps ms ns anns) k) present_is
@@ -165,7 +165,7 @@ module _ (phase : Phase) (b : Ip) (s c : ℕ) (ms : List Participant) (qs : List
       (kept_live ms anns kept.apart t (tagged_in anns t) refl (sym (ap is_some (signature_of_tag ms anns t) ∙ is_some-map _ (tagged_in anns t)) ∙ there))))
 
   abbrev state_after : State
-  state_after = state_of Running b s c ms qs anns ns'
+  state_after = state_of Running b s c ms qs rs anns ns'
 
   abbrev reply : List (List ℕ) → Reply
   reply messages = record (bare Fine) { adverts = messages }
@@ -220,8 +220,8 @@ queue_small ms n size anns asn queue tagged pool small moves = λ k d less.
     omega arith
 
 -- what holds of the lists after it
-pub kept_drained : (phase : Phase) (s c : ℕ) (ms : List Participant) (qs : List PortInfo) (anns : List Announcement) (ns : List ℕ) (rules : ℕ) (b : Ip) (k : ℕ) → IsKept phase s c ms qs anns ns rules b → IsKept Running s c ms qs anns (slice_set ns k (length anns)) rules b
-kept_drained phase s c ms qs anns ns rules b k h = record {
+pub kept_drained : (phase : Phase) (s c : ℕ) (ms : List Participant) (qs : List PortInfo) (rs : List (List Ip)) (anns : List Announcement) (ns : List ℕ) (rules : ℕ) (b : Ip) (k : ℕ) → IsKept phase s c ms qs rs anns ns rules b → IsKept Running s c ms qs rs anns (slice_set ns k (length anns)) rules b
+kept_drained phase s c ms qs rs anns ns rules b k h = record {
   told = length-set ns k (length anns) ∙ h.told;
   few = h.few;
   early = tt;
@@ -239,15 +239,15 @@ kept_drained phase s c ms qs anns ns rules b k h = record {
   low = h.low;
 }
 
-pub drain_at : (phase : Phase) (b : Ip) (s c : ℕ) (ms : List Participant) (qs : List PortInfo) (anns : List Announcement) (ns ns' : List ℕ) (rules : ℕ) → IsKept phase s c ms qs anns ns rules b
+pub drain_at : (phase : Phase) (b : Ip) (s c : ℕ) (ms : List Participant) (qs : List PortInfo) (rs : List (List Ip)) (anns : List Announcement) (ns ns' : List ℕ) (rules : ℕ) → IsKept phase s c ms qs rs anns ns rules b
     → (name : List ℕ) (k : ℕ) → position_from (λ (x : Participant). same_octets x.name name) 0 ms ≡ Some k → (m : Participant) (n : ℕ) → slice_get ms k ≡ Some m → k < length ms → slice_get ns k ≡ Some n → is_declared phase ≡ true
     → (queue : List Given) → IsPermutation (all_given m.asn (take (length anns - n) (drop n anns))) queue → IsSortedBy (λ x y. is_lt (prefix_cmp x.announcement.prefix y.announcement.prefix)) queue
-    → (messages : List (List ℕ)) → messages ≡ adverts_of b queue → (r : Reply) → r ≡ bare Fine → ns' ≡ slice_set ns k (length anns) → (old : State) → state_of phase b s c ms qs anns ns ≡ old
-    → IsStep old (Drain name) (record r { adverts = messages }) (state_of Running b s c ms qs anns ns')
-drain_at phase b s c ms qs anns ns ns' rules kept name k place m n declared within took ready queue order sorted messages are r reply more old is =
+    → (messages : List (List ℕ)) → messages ≡ adverts_of b queue → (r : Reply) → r ≡ bare Fine → ns' ≡ slice_set ns k (length anns) → (old : State) → state_of phase b s c ms qs rs anns ns ≡ old
+    → IsStep old (Drain name) (record r { adverts = messages }) (state_of Running b s c ms qs rs anns ns')
+drain_at phase b s c ms qs rs anns ns ns' rules kept name k place m n declared within took ready queue order sorted messages are r reply more old is =
     let after : List ℕ = slice_set ns k (length anns) in
-    step_at (state_of phase b s c ms qs anns ns) old (state_of Running b s c ms qs anns (slice_set ns k (length anns))) (state_of Running b s c ms qs anns ns') (Drain name) (record (bare Fine) { adverts = messages }) (record r { adverts = messages })
-    is (ap (λ (x : Reply). record x { adverts = messages }) reply) (ap (state_of Running b s c ms qs anns) more)
-    (drain_step phase b s c ms qs anns ns rules kept name k place m declared within ready
-    (kept_sound Running b s c ms qs anns after rules (kept_drained phase s c ms qs anns ns rules b k kept))
-    messages (adverts_are phase b s c ms qs anns ns kept.told kept.apart kept.own (record { 0 = k }) m n declared within took queue (subst (λ xs. IsPermutation (all_given m.asn xs) queue) (from_is n anns) order) sorted ∙ sym are))
+    step_at (state_of phase b s c ms qs rs anns ns) old (state_of Running b s c ms qs rs anns (slice_set ns k (length anns))) (state_of Running b s c ms qs rs anns ns') (Drain name) (record (bare Fine) { adverts = messages }) (record r { adverts = messages })
+    is (ap (λ (x : Reply). record x { adverts = messages }) reply) (ap (state_of Running b s c ms qs rs anns) more)
+    (drain_step phase b s c ms qs rs anns ns rules kept name k place m declared within ready
+    (kept_sound Running b s c ms qs rs anns after rules (kept_drained phase s c ms qs rs anns ns rules b k kept))
+    messages (adverts_are phase b s c ms qs rs anns ns kept.told kept.apart kept.own (record { 0 = k }) m n declared within took queue (subst (λ xs. IsPermutation (all_given m.asn xs) queue) (from_is n anns) order) sorted ∙ sym are))

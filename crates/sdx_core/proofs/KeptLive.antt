@@ -21,7 +21,7 @@ use Rattle.net_types.specs.declared.rule.Pair.{Pair}
 use Rattle.net_types.proofs.FindLemmas.{is_some-cond, find-IsFound, slice_get_some}
 use Rattle.net_types.proofs.OrderLemmas.{prefixes_total}
 use Rattle.net_types.proofs.ValueLemmas.{value_at, any_value}
-use Rattle.sdx_core.specs.View.{attrs_of, rule_to, state_of, announced_in, receives, is_given_on, AreApart, HasOwner, AreTagged, IsKept}
+use Rattle.sdx_core.specs.View.{rule_to, state_of, announced_in, receives, is_given_on, AreApart, HasOwner, AreTagged, IsKept}
 use Rattle.sdx_core.specs.declared.announcement.Announcement.{Announcement}
 use Rattle.sdx_core.proofs.Kept.{at_member, announced_Member, announced_own}
 use Rattle.sdx_core.proofs.KeptMaps.{tagged_in, entry_of, present_kept, told_kept, take-AreApart}
@@ -37,7 +37,7 @@ pub tag_known : (o : Option Tag) (t : Tag) → same_option same_tag o (Some t) �
 tag_known None t e = cc
 tag_known (Some u) t e = λ i. Some (record { 0 = eqb-true u.0 t.0 e i })
 
-entry_parts : (b : Bool) (a : Announcement) (o : Option Tag) (e : Entry) → cond b (option_map (λ t. let x : Entry = record { attrs = attrs_of a; tag = t } in x) o) None ≡ Some e → (b ≡ true) × (o ≡ Some e.tag)
+entry_parts : (b : Bool) (a : Announcement) (o : Option Tag) (e : Entry) → cond b (option_map (λ t. let x : Entry = record { attrs = a.attrs; tag = t } in x) o) None ≡ Some e → (b ≡ true) × (o ≡ Some e.tag)
 entry_parts true a None e is = absurd (cc)
 entry_parts true a (Some t) e is = (refl, ap (option_map (λ (x : Entry). x.tag)) is)
 entry_parts false a o e is = absurd (cc)
@@ -53,11 +53,11 @@ tells_at : (ms : List Participant) (who : Pid) (anns : List Announcement) (m : F
 tells_at ms who anns m t apart has None is e = absurd (cc)
 tells_at ms who anns m t apart has (Some a) is e =
     let found = find-IsFound (has_tag t) anns a is in
-    let entry : Entry = record { attrs = attrs_of a; tag = t } in
+    let entry : Entry = record { attrs = a.attrs; tag = t } in
     let there : get m a.prefix ≡ Some entry =
     has a.prefix ∙ ap (option_and_then (entry_of ms who)) (announced_own anns a apart found.stands)
-    ∙ ap (λ b. cond b (option_map (λ u. let x : Entry = record { attrs = attrs_of a; tag = u } in x) a.tag) None) e
-    ∙ ap (option_map (λ u. let x : Entry = record { attrs = attrs_of a; tag = u } in x)) (tag_known a.tag t found.passes) in
+    ∙ ap (λ b. cond b (option_map (λ u. let x : Entry = record { attrs = a.attrs; tag = u } in x) a.tag) None) e
+    ∙ ap (option_map (λ u. let x : Entry = record { attrs = a.attrs; tag = u } in x)) (tag_known a.tag t found.passes) in
     any_value prefix_cmp prefixes_total (λ (x : Entry). same_tag x.tag t) m a.prefix entry there (eq-eqb t.0 t.0 refl)
 
 -- the entries of a tag are those of the announcement that has it
@@ -86,17 +86,17 @@ front_told (suc k) ms who (a ∷ anns) t =
 
 -- ---- live pairs
 
-module _ (phase : Phase) (base : Ip) (size capacity : ℕ) (ms : List Participant) (qs : List PortInfo) (anns : List Announcement) (ns : List ℕ) (rules : ℕ) (kept : IsKept phase size capacity ms qs anns ns rules base) where
+module _ (phase : Phase) (base : Ip) (size capacity : ℕ) (ms : List Participant) (qs : List PortInfo) (rs : List (List Ip)) (anns : List Announcement) (ns : List ℕ) (rules : ℕ) (kept : IsKept phase size capacity ms qs rs anns ns rules base) where
   abbrev s : State
-  s = state_of phase base size capacity ms qs anns ns
+  s = state_of phase base size capacity ms qs rs anns ns
 
   pub live_for : (t : Tag) (q : PortInfo) → q.owner.0 < length ms → is_live_for s t q ≡ is_told ms q.owner (tagged_in anns t)
   live_for t q declared =
       let n = slice_get_some ns q.owner.0 (let even : length ns ≡ length ms = kept.told in omega arith) in
       ap (λ b. b || tells (present s q.owner) t)
-      (tells_kept ms q.owner (take n.0 anns) 0 (told_to s q.owner) t (take-AreApart n.0 anns kept.apart) (take-AreTagged n.0 ms 0 anns kept.tagged) (told_kept phase base size capacity ms qs anns ns kept.told kept.apart q.owner n.0 n.1))
+      (tells_kept ms q.owner (take n.0 anns) 0 (told_to s q.owner) t (take-AreApart n.0 anns kept.apart) (take-AreTagged n.0 ms 0 anns kept.tagged) (told_kept phase base size capacity ms qs rs anns ns kept.told kept.apart q.owner n.0 n.1))
       ∙ ap (λ b. is_told ms q.owner (tagged_in (take n.0 anns) t) || b)
-      (tells_kept ms q.owner anns 0 (present s q.owner) t kept.apart kept.tagged (present_kept phase base size capacity ms qs anns ns kept.apart kept.own q.owner declared))
+      (tells_kept ms q.owner anns 0 (present s q.owner) t kept.apart kept.tagged (present_kept phase base size capacity ms qs rs anns ns kept.apart kept.own q.owner declared))
       ∙ front_told n.0 ms q.owner anns t
 
   some_rules : (q : PortInfo) (o : Option Announcement) → is_some (option_and_then (λ (a : Announcement). rules_for ms a q) o) ≡ is_told ms q.owner o

@@ -25,7 +25,7 @@ use Rattle.net_types.proofs.FindLemmas.{cond_same, slice_get_some}
 use Rattle.net_types.proofs.MapLemmas.{get-tabulate}
 use Rattle.net_types.proofs.OrderLemmas.{prefixes_total, tags_total}
 use Rattle.net_types.proofs.TieLemmas.{prefix_cmp-IsAntisymmetric, same_from_tie, then_ties, nat_ties}
-use Rattle.sdx_core.specs.View.{attrs_of, tag_entry, kept_entry, told_entry, told_maps, parts_from, routing_of, state_of, announced_in, is_announced, receives, AreApart, IsOwn, ForEach}
+use Rattle.sdx_core.specs.View.{tag_entry, kept_entry, told_entry, told_maps, parts_from, routing_of, state_of, announced_in, is_announced, receives, AreApart, IsOwn, ForEach}
 use Rattle.sdx_core.specs.declared.announcement.Announcement.{Announcement}
 use Rattle.sdx_core.proofs.Kept.{key_of, route_from, route_kept, candidate_of, best_kept, announced_once, receives_at}
 
@@ -81,7 +81,7 @@ signature_of_tag ms anns t = get-from_entries tags_total (filter_map (kept_entry
 
 -- what a participant is told of an announcement
 abbrev pub entry_of : List Participant → Pid → Announcement → Option Entry
-entry_of ms who a = cond (receives ms a who) (option_map (λ t. record { attrs = attrs_of a; tag = t }) a.tag) None
+entry_of ms who a = cond (receives ms a who) (option_map (λ t. record { attrs = a.attrs; tag = t }) a.tag) None
 
 pub take-is_announced : (n : ℕ) (anns : List Announcement) (p : Prefix) → is_announced p anns ≡ false → is_announced p (take n anns) ≡ false
 take-is_announced zero anns p e = refl
@@ -111,12 +111,12 @@ entry_cond p f false o = refl
 
 told_is : (ms : List Participant) (who : Pid) (m : Participant) → slice_get ms who.0 ≡ Some m → (a : Announcement) → told_entry m a ≡ option_map (λ e. (a.prefix, e)) (entry_of ms who a)
 told_is ms who m is a =
-    ap (λ b. cond b (option_map (λ (t : Tag). let e : Entry = record { attrs = attrs_of a; tag = t } in (a.prefix, e)) a.tag) None) (sym (receives_at ms a who m is))
-    ∙ entry_cond a.prefix (λ (t : Tag). let e : Entry = record { attrs = attrs_of a; tag = t } in e) (receives ms a who) a.tag
+    ap (λ b. cond b (option_map (λ (t : Tag). let e : Entry = record { attrs = a.attrs; tag = t } in (a.prefix, e)) a.tag) None) (sym (receives_at ms a who m is))
+    ∙ entry_cond a.prefix (λ (t : Tag). let e : Entry = record { attrs = a.attrs; tag = t } in e) (receives ms a who) a.tag
 
-pub told_kept : (phase : Phase) (base : Ip) (size capacity : ℕ) (ms : List Participant) (qs : List PortInfo) (anns : List Announcement) (ns : List ℕ) → length ns ≡ length ms → AreApart anns → (who : Pid) (n : ℕ) → slice_get ns who.0 ≡ Some n → (p : Prefix)
-    → get (told_to (state_of phase base size capacity ms qs anns ns) who) p ≡ option_and_then (entry_of ms who) (announced_in (take n anns) p)
-told_kept phase base size capacity ms qs anns ns even apart who n took p =
+pub told_kept : (phase : Phase) (base : Ip) (size capacity : ℕ) (ms : List Participant) (qs : List PortInfo) (rs : List (List Ip)) (anns : List Announcement) (ns : List ℕ) → length ns ≡ length ms → AreApart anns → (who : Pid) (n : ℕ) → slice_get ns who.0 ≡ Some n → (p : Prefix)
+    → get (told_to (state_of phase base size capacity ms qs rs anns ns) who) p ≡ option_and_then (entry_of ms who) (announced_in (take n anns) p)
+told_kept phase base size capacity ms qs rs anns ns even apart who n took p =
     let m = slice_get_some ms who.0 (let less : who.0 < length ns = slice_get_within ns who.0 n took in omega arith) in
     ap (λ o. get (unwrap_or o empty) p) (told_at ms ns anns who.0 m.0 n m.1 took)
     ∙ get-from_entries prefixes_total (filter_map (told_entry m.0) (take n anns)) p
@@ -137,19 +137,19 @@ listed_prefix (x ∷ ks) k e =
 pub announced_listed : (ms : List Participant) (qs : List PortInfo) (anns : List Announcement) → AreApart anns → (p : Prefix) (a : Announcement) → announced_in anns p ≡ Some a → list_any (eq_by_cmp prefix_cmp p) (announced (routing_of ms qs anns)) ≡ true
 announced_listed ms qs anns apart p a there =
     let r : Routing = routing_of ms qs anns in
-    let has : route r a.from p ≡ Some (attrs_of a) = route_kept ms qs anns apart a.from p ∙ ap (option_and_then (route_from a.from)) there ∙ ap (λ b. cond b (Some (attrs_of a)) None) (eq-eqb a.from.0 a.from.0 refl) in
+    let has : route r a.from p ≡ Some a.attrs = route_kept ms qs anns apart a.from p ∙ ap (option_and_then (route_from a.from)) there ∙ ap (λ b. cond b (Some a.attrs) None) (eq-eqb a.from.0 a.from.0 refl) in
     listed_prefix (keys r.routes) (key_of a.from p) (sym (contains_key-keys r.routes (key_of a.from p)) ∙ ap is_some has)
 
 present_cond : (ms : List Participant) (qs : List PortInfo) (anns : List Announcement) (who : Pid) (o : Option Announcement)
     → option_and_then (λ (c : Candidate). option_map (λ t. let e : Entry = record { attrs = c.attrs; tag = t } in e) (option_and_then (λ (a : Announcement). a.tag) o)) (option_and_then (candidate_of ms qs anns who) o) ≡ option_and_then (entry_of ms who) o
 present_cond ms qs anns who None = refl
 present_cond ms qs anns who (Some a) =
-    elim (receives ms a who) as (λ b. option_and_then (λ (c : Candidate). option_map (λ t. let e : Entry = record { attrs = c.attrs; tag = t } in e) a.tag) (cond b (Some (candidate (routing_of ms qs anns) a.from (attrs_of a))) None) ≡ cond b (option_map (λ t. let e : Entry = record { attrs = attrs_of a; tag = t } in e) a.tag) None) [ true ↦ refl | false ↦ refl ]
+    elim (receives ms a who) as (λ b. option_and_then (λ (c : Candidate). option_map (λ t. let e : Entry = record { attrs = c.attrs; tag = t } in e) a.tag) (cond b (Some (candidate (routing_of ms qs anns) a.from a.attrs)) None) ≡ cond b (option_map (λ t. let e : Entry = record { attrs = a.attrs; tag = t } in e) a.tag) None) [ true ↦ refl | false ↦ refl ]
 
-present_entry_kept : (phase : Phase) (base : Ip) (size capacity : ℕ) (ms : List Participant) (qs : List PortInfo) (anns : List Announcement) (ns : List ℕ) → AreApart anns → ForEach (IsOwn ms qs) anns → (who : Pid) → who.0 < length ms → (p : Prefix)
-    → present_entry (state_of phase base size capacity ms qs anns ns) who p ≡ option_and_then (entry_of ms who) (announced_in anns p)
-present_entry_kept phase base size capacity ms qs anns ns apart own who declared p =
-    let s : State = state_of phase base size capacity ms qs anns ns in
+present_entry_kept : (phase : Phase) (base : Ip) (size capacity : ℕ) (ms : List Participant) (qs : List PortInfo) (rs : List (List Ip)) (anns : List Announcement) (ns : List ℕ) → AreApart anns → ForEach (IsOwn ms qs) anns → (who : Pid) → who.0 < length ms → (p : Prefix)
+    → present_entry (state_of phase base size capacity ms qs rs anns ns) who p ≡ option_and_then (entry_of ms who) (announced_in anns p)
+present_entry_kept phase base size capacity ms qs rs anns ns apart own who declared p =
+    let s : State = state_of phase base size capacity ms qs rs anns ns in
     ap (option_and_then (λ (c : Candidate). option_map (λ t. let e : Entry = record { attrs = c.attrs; tag = t } in e) (get s.tag p))) (best_kept ms qs anns apart own who declared p)
     ∙ ap (λ o. option_and_then (λ (c : Candidate). option_map (λ t. let e : Entry = record { attrs = c.attrs; tag = t } in e) o) (option_and_then (candidate_of ms qs anns who) (announced_in anns p))) (tag_kept anns apart p)
     ∙ present_cond ms qs anns who (announced_in anns p)
@@ -159,9 +159,9 @@ where_listed : {X : Type 0} (f : Announcement → Option X) (listed : Bool) (o :
 where_listed f listed None x is h = ap (λ y. cond listed y None) is ∙ cond_same listed None
 where_listed f listed (Some a) x is h = ap (λ b. cond b x None) (h a refl) ∙ is
 
-pub present_kept : (phase : Phase) (base : Ip) (size capacity : ℕ) (ms : List Participant) (qs : List PortInfo) (anns : List Announcement) (ns : List ℕ) → AreApart anns → ForEach (IsOwn ms qs) anns → (who : Pid) → who.0 < length ms → (p : Prefix)
-    → get (present (state_of phase base size capacity ms qs anns ns) who) p ≡ option_and_then (entry_of ms who) (announced_in anns p)
-present_kept phase base size capacity ms qs anns ns apart own who declared p =
-    let s : State = state_of phase base size capacity ms qs anns ns in
+pub present_kept : (phase : Phase) (base : Ip) (size capacity : ℕ) (ms : List Participant) (qs : List PortInfo) (rs : List (List Ip)) (anns : List Announcement) (ns : List ℕ) → AreApart anns → ForEach (IsOwn ms qs) anns → (who : Pid) → who.0 < length ms → (p : Prefix)
+    → get (present (state_of phase base size capacity ms qs rs anns ns) who) p ≡ option_and_then (entry_of ms who) (announced_in anns p)
+present_kept phase base size capacity ms qs rs anns ns apart own who declared p =
+    let s : State = state_of phase base size capacity ms qs rs anns ns in
     get-tabulate prefix_cmp prefixes_total (present_entry s who) (λ q k e. ap (present_entry s who) (sym (same_from_tie prefix_cmp prefix_cmp-IsAntisymmetric q k e))) (announced s.routing) p
-    ∙ where_listed (entry_of ms who) (list_any (eq_by_cmp prefix_cmp p) (announced s.routing)) (announced_in anns p) (present_entry s who p) (present_entry_kept phase base size capacity ms qs anns ns apart own who declared p) (announced_listed ms qs anns apart p)
+    ∙ where_listed (entry_of ms who) (list_any (eq_by_cmp prefix_cmp p) (announced s.routing)) (announced_in anns p) (present_entry s who p) (present_entry_kept phase base size capacity ms qs rs anns ns apart own who declared p) (announced_listed ms qs anns apart p)

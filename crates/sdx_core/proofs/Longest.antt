@@ -57,24 +57,24 @@ longer_assoc (Some p) (Some q) (Some r) = longer-three p q r
 abbrev covering : Ip → Prefix → Option Prefix
 covering d p = cond (covers p d) (Some p) None
 
-prefix-first_longer : (held next : Given) (b : Bool) → nat_le next.announcement.prefix.len held.announcement.prefix.len ≡ b → option_map given_prefix (cond b (Some held) (Some next)) ≡ longer (Some held.announcement.prefix) (Some next.announcement.prefix)
+prefix-first_longer : (held next : Given) (b : Bool) → nat_le next.prefix.len held.prefix.len ≡ b → option_map given_prefix (cond b (Some held) (Some next)) ≡ longer (Some held.prefix) (Some next.prefix)
 prefix-first_longer held next true h =
-    let le = leb-true next.announcement.prefix.len held.announcement.prefix.len h in
-    sym (ap (λ b. cond b (Some next.announcement.prefix) (Some held.announcement.prefix)) (not_below held.announcement.prefix.len next.announcement.prefix.len le))
+    let le = leb-true next.prefix.len held.prefix.len h in
+    sym (ap (λ b. cond b (Some next.prefix) (Some held.prefix)) (not_below held.prefix.len next.prefix.len le))
 prefix-first_longer held next false h =
-    sym (ap (λ b. cond b (Some next.announcement.prefix) (Some held.announcement.prefix)) (below held.announcement.prefix.len next.announcement.prefix.len (leb-false next.announcement.prefix.len held.announcement.prefix.len h)))
+    sym (ap (λ b. cond b (Some next.prefix) (Some held.prefix)) (below held.prefix.len next.prefix.len (leb-false next.prefix.len held.prefix.len h)))
 
-prefix-longer_given : (best : Option Given) (next : Given) (d : Ip) (b : Bool) → covers next.announcement.prefix d ≡ b → option_map given_prefix (cond b (first_longer best next) best) ≡ longer (option_map given_prefix best) (cond b (Some next.announcement.prefix) None)
+prefix-longer_given : (best : Option Given) (next : Given) (d : Ip) (b : Bool) → covers next.prefix d ≡ b → option_map given_prefix (cond b (first_longer best next) best) ≡ longer (option_map given_prefix best) (cond b (Some next.prefix) None)
 prefix-longer_given None next d true h = refl
-prefix-longer_given (Some held) next d true h = prefix-first_longer held next (nat_le next.announcement.prefix.len held.announcement.prefix.len) refl
+prefix-longer_given (Some held) next d true h = prefix-first_longer held next (nat_le next.prefix.len held.prefix.len) refl
 prefix-longer_given best next d false h = sym (longer_none (option_map given_prefix best))
 
 -- one more
 step : (d : Ip) (best : Option Given) (o : Option Given) (rest : List Given) → longer (option_map given_prefix (longer_option best o d)) (longest_of (map given_prefix rest) d) ≡ longer (option_map given_prefix best) (longest_of (map given_prefix (cons_option o rest)) d)
 step d best None rest = refl
 step d best (Some next) rest =
-    ap (λ o. longer o (longest_of (map given_prefix rest) d)) (prefix-longer_given best next d (covers next.announcement.prefix d) refl)
-    ∙ longer_assoc (option_map given_prefix best) (covering d next.announcement.prefix) (longest_of (map given_prefix rest) d)
+    ap (λ o. longer o (longest_of (map given_prefix rest) d)) (prefix-longer_given best next d (covers next.prefix d) refl)
+    ∙ longer_assoc (option_map given_prefix best) (covering d next.prefix) (longest_of (map given_prefix rest) d)
 
 longest_after : (asn : ℕ) (d : Ip) (best : Option Given) (anns : List Announcement) → option_map given_prefix (longest_from asn d best anns) ≡ longer (option_map given_prefix best) (longest_of (given_prefixes asn anns) d)
 longest_after asn d best [] = sym (longer_none (option_map given_prefix best))
@@ -91,14 +91,14 @@ IsFoundIn gs o = IfSome o (λ g. Member g gs)
 
 found-first_longer : (gs : List Given) (best : Option Given) (next : Given) → IsFoundIn gs best → Member next gs → IsFoundIn gs (first_longer best next)
 found-first_longer gs None next f m = m
-found-first_longer gs (Some held) next f m = either (nat_le next.announcement.prefix.len held.announcement.prefix.len)
+found-first_longer gs (Some held) next f m = either (nat_le next.prefix.len held.prefix.len)
   where
     either : (b : Bool) → IsFoundIn gs (cond b (Some held) (Some next))
     either true = f
     either false = m
 
 found-one : (gs : List Given) (d : Ip) (best : Option Given) (next : Given) → IsFoundIn gs best → Member next gs → IsFoundIn gs (longer_given best next d)
-found-one gs d best next f m = either (covers next.announcement.prefix d)
+found-one gs d best next f m = either (covers next.prefix d)
   where
     either : (b : Bool) → IsFoundIn gs (cond b (first_longer best next) best)
     either true = found-first_longer gs best next f m

@@ -31,7 +31,7 @@ use Rattle.net_types.proofs.OrderLemmas.{prefixes_total, prefix_tie}
 use Rattle.net_types.proofs.SetLemmas.{Member-append_right, Member-append_cases, Member-map, map-Member, map-map, rising_unique}
 use Rattle.sdx_core.specs.Adverts.{advert_of, adverts_of}
 use Rattle.sdx_core.specs.Given.{given_to, given_prefix, all_given}
-use Rattle.sdx_core.specs.View.{attrs_of, state_of, announced_in, is_announced, receives, AreApart, ForEach, IsOwn}
+use Rattle.sdx_core.specs.View.{state_of, announced_in, is_announced, receives, AreApart, ForEach, IsOwn}
 use Rattle.sdx_core.specs.declared.announcement.Announcement.{Announcement}
 use Rattle.sdx_core.specs.declared.given.Given.{Given}
 use Rattle.sdx_core.proofs.GivenLemmas.{is_from, announced_any, announced_member}
@@ -98,12 +98,12 @@ given_once q asn (a ∷ anns) apart = once_case (not (nat_eq asn a.asn)) a.tag (
 
 -- ---- what is given, and the entry that it is
 
-itself : (a : Announcement) → same_attrs (attrs_of a) (attrs_of a) ≡ true
+itself : (a : Announcement) → same_attrs a.attrs a.attrs ≡ true
 itself a = rw (eq-eqb a.origin a.origin refl, eq-eqb a.asn a.asn refl, eq-eqb a.next_hop.0 a.next_hop.0 refl) refl
 
-entry_itself : (a : Announcement) (b : Bool) (o : Option Tag) → let e : Option Entry = cond b (option_map (λ t. record { attrs = attrs_of a; tag = t }) o) None in same_option same_entry e e ≡ true
+entry_itself : (a : Announcement) (b : Bool) (o : Option Tag) → let e : Option Entry = cond b (option_map (λ t. record { attrs = a.attrs; tag = t }) o) None in same_option same_entry e e ≡ true
 entry_itself a true None = refl
-entry_itself a true (Some t) = ap (λ b. b && same_attrs (attrs_of a) (attrs_of a)) (eq-eqb t.0 t.0 refl) ∙ itself a
+entry_itself a true (Some t) = ap (λ b. b && same_attrs a.attrs a.attrs) (eq-eqb t.0 t.0 refl) ∙ itself a
 entry_itself a false o = refl
 
 -- an announcement of which a participant has an entry is given to it
@@ -112,7 +112,7 @@ record IsGiven (asn : ℕ) (a : Announcement) : Type 0 where
   is : given_to asn a ≡ Some given
   of : given.announcement ≡ a
 
-given_case : (asn : ℕ) (a : Announcement) (b : Bool) (o : Option Tag) → not (nat_eq asn a.asn) ≡ b → a.tag ≡ o → is_some (let e : Option Entry = cond b (option_map (λ t. record { attrs = attrs_of a; tag = t }) o) None in e) ≡ true → IsGiven asn a
+given_case : (asn : ℕ) (a : Announcement) (b : Bool) (o : Option Tag) → not (nat_eq asn a.asn) ≡ b → a.tag ≡ o → is_some (let e : Option Entry = cond b (option_map (λ t. record { attrs = a.attrs; tag = t }) o) None in e) ≡ true → IsGiven asn a
 given_case asn a true None other tag e = absurd (false≢true e)
 given_case asn a true (Some t) other tag e = record {
   given = record { announcement = a; tag = t };
@@ -135,10 +135,10 @@ any-ordered ks p =
 key_there : {X : Type 0} (m : FinMap prefix_cmp X) (p : Prefix) (x : X) → get m p ≡ Some x → Member p (keys m)
 key_there m p x e = any-member (keys m) p (sym (contains_key-keys m p) ∙ ap is_some e)
 
-module _ (phase : Phase) (base : Ip) (size capacity : ℕ) (ms : List Participant) (qs : List PortInfo) (anns : List Announcement) (ns : List ℕ) (even : length ns ≡ length ms) (apart : AreApart anns) (own : ForEach (IsOwn ms qs) anns)
+module _ (phase : Phase) (base : Ip) (size capacity : ℕ) (ms : List Participant) (qs : List PortInfo) (rs : List (List Ip)) (anns : List Announcement) (ns : List ℕ) (even : length ns ≡ length ms) (apart : AreApart anns) (own : ForEach (IsOwn ms qs) anns)
     (who : Pid) (m : Participant) (n : ℕ) (declared : slice_get ms who.0 ≡ Some m) (within : who.0 < length ms) (took : slice_get ns who.0 ≡ Some n) where
   abbrev st : State
-  st = state_of phase base size capacity ms qs anns ns
+  st = state_of phase base size capacity ms qs rs anns ns
 
   abbrev since : List Given
   since = all_given m.asn (drop n anns)
@@ -147,10 +147,10 @@ module _ (phase : Phase) (base : Ip) (size capacity : ℕ) (ms : List Participan
   entry = entry_of ms who
 
   told : (p : Prefix) → get (told_to st who) p ≡ option_and_then entry (announced_in (take n anns) p)
-  told = told_kept phase base size capacity ms qs anns ns even apart who n took
+  told = told_kept phase base size capacity ms qs rs anns ns even apart who n took
 
   now : (p : Prefix) → get (present st who) p ≡ option_and_then entry (announced_in anns p)
-  now = present_kept phase base size capacity ms qs anns ns apart own who within
+  now = present_kept phase base size capacity ms qs rs anns ns apart own who within
 
   abbrev differs : Prefix → Bool
   differs p = not (same_option same_entry (get (told_to st who) p) (get (present st who) p))
@@ -159,14 +159,14 @@ module _ (phase : Phase) (base : Ip) (size capacity : ℕ) (ms : List Participan
   differs_by p = ap (λ o. not (same_option same_entry o (get (present st who) p))) (told p) ∙ ap (λ o. not (same_option same_entry (option_and_then entry (announced_in (take n anns) p)) o)) (now p)
 
   -- what is present of something given
-  given_present : (g : Given) → Member g since → get (present st who) (given_prefix g) ≡ Some (record { attrs = attrs_of g.announcement; tag = g.tag })
+  given_present : (g : Given) → Member g since → get (present st who) (given_prefix g) ≡ Some (record { attrs = g.announcement.attrs; tag = g.tag })
   given_present g given =
       let from = is_from m.asn (drop n anns) g given in
       let a = g.announcement in
       now a.prefix
       ∙ ap (option_and_then entry) (announced_member anns apart a (Member-drop n anns a from.stands))
-      ∙ ap (λ x. cond x (option_map (λ t. let e : Entry = record { attrs = attrs_of a; tag = t } in e) a.tag) None) (receives_at ms a who m declared ∙ from.other)
-      ∙ ap (option_map (λ t. let e : Entry = record { attrs = attrs_of a; tag = t } in e)) from.tag
+      ∙ ap (λ x. cond x (option_map (λ t. let e : Entry = record { attrs = a.attrs; tag = t } in e) a.tag) None) (receives_at ms a who m declared ∙ from.other)
+      ∙ ap (option_map (λ t. let e : Entry = record { attrs = a.attrs; tag = t } in e)) from.tag
 
   -- it wasn't told before
   not_told : (g : Given) → Member g since → (o : Option Announcement) → announced_in (take n anns) (given_prefix g) ≡ o → option_and_then entry o ≡ None
@@ -182,8 +182,8 @@ module _ (phase : Phase) (base : Ip) (size capacity : ℕ) (ms : List Participan
   given_pending : (g : Given) → Member g since → Member (given_prefix g) (pending st who)
   given_pending g given =
       let p = given_prefix g in
-      let e : Entry = record { attrs = attrs_of g.announcement; tag = g.tag } in
-      let here : get (present st who) (given_prefix g) ≡ Some (record { attrs = attrs_of g.announcement; tag = g.tag }) = given_present g given in
+      let e : Entry = record { attrs = g.announcement.attrs; tag = g.tag } in
+      let here : get (present st who) (given_prefix g) ≡ Some (record { attrs = g.announcement.attrs; tag = g.tag }) = given_present g given in
       let none : get (told_to st who) (given_prefix g) ≡ None = told (given_prefix g) ∙ not_told g given (announced_in (take n anns) (given_prefix g)) refl in
       Member-filter differs (ordered prefix_cmp (keys (told_to st who) ++ keys (present st who))) p
       (any-member (ordered prefix_cmp (keys (told_to st who) ++ keys (present st who))) p (any-ordered (keys (told_to st who) ++ keys (present st who)) p ∙ member-any (keys (told_to st who) ++ keys (present st who)) p (Member-append_right (keys (told_to st who)) (keys (present st who)) p (key_there (present st who) p e here))))
@@ -196,7 +196,7 @@ module _ (phase : Phase) (base : Ip) (size capacity : ℕ) (ms : List Participan
   pending_case p None None before after e = absurd (false≢true e)
   pending_case p None (Some a) before after e =
       let some : is_some (entry a) ≡ true = some_differs same_entry (entry a) e in
-      let g = given_case m.asn a (not (nat_eq m.asn a.asn)) a.tag refl refl (ap (λ b. is_some (let x : Option Entry = cond b (option_map (λ t. record { attrs = attrs_of a; tag = t }) a.tag) None in x)) (sym (receives_at ms a who m declared)) ∙ some) in
+      let g = given_case m.asn a (not (nat_eq m.asn a.asn)) a.tag refl refl (ap (λ b. is_some (let x : Option Entry = cond b (option_map (λ t. record { attrs = a.attrs; tag = t }) a.tag) None in x)) (sym (receives_at ms a who m declared)) ∙ some) in
       let stands : Member a anns = announced_Member anns p a after in
       let half = Member-append_cases (take n anns) (drop n anns) a (subst (Member a) (sym (take-append-drop n anns)) stands) in
       let same : p ≡ a.prefix = announced_prefix anns p a after in

@@ -104,9 +104,9 @@ tagged_where_given ms n (b ∷ anns) a tagged (inr m) = tagged_where_given ms (c
 
 -- ---- the state is sound
 
-module _ (phase : Phase) (base : Ip) (size capacity : ℕ) (ms : List Participant) (qs : List PortInfo) (anns : List Announcement) (ns : List ℕ) (rules : ℕ) (kept : IsKept phase size capacity ms qs anns ns rules base) where
+module _ (phase : Phase) (base : Ip) (size capacity : ℕ) (ms : List Participant) (qs : List PortInfo) (rs : List (List Ip)) (anns : List Announcement) (ns : List ℕ) (rules : ℕ) (kept : IsKept phase size capacity ms qs rs anns ns rules base) where
   abbrev s : State
-  s = state_of phase base size capacity ms qs anns ns
+  s = state_of phase base size capacity ms qs rs anns ns
 
   abbrev IsRightAt : Pair → List Rule → Type 0
   IsRightAt pair block = (part : Part) × (owners_part s pair ≡ Some part) × IsRight (dropping s.routing) part pair.port block
@@ -114,7 +114,7 @@ module _ (phase : Phase) (base : Ip) (size capacity : ℕ) (ms : List Participan
   right_for : (pair : Pair) (block : List Rule) (q : PortInfo) (a : Announcement) → port_of s pair.port ≡ Some q → tagged_in anns pair.tag ≡ Some a → rules_for ms a q ≡ Some block → IsRightAt pair block
   right_for pair block q a port tag has =
       let given = cond_some (receives ms a q.owner) (rule_to a.port ∷ []) block has in
-      let m = slice_get_some ms q.owner.0 (owner_declared phase base size capacity ms qs anns ns rules kept pair q port) in
+      let m = slice_get_some ms q.owner.0 (owner_declared phase base size capacity ms qs rs anns ns rules kept pair q port) in
       let part : Part = part_for a q.owner in (
         part,
         ap (option_and_then (λ (x : PortInfo). option_and_then (λ sig. part_of sig x.owner) (get s.kept pair.tag))) port
@@ -149,8 +149,8 @@ module _ (phase : Phase) (base : Ip) (size capacity : ℕ) (ms : List Participan
 
   pub kept_sound : IsSound s
   kept_sound = record {
-    pairs = kept_pairs phase base size capacity ms qs anns ns rules kept;
-    right = (dropping s.routing, are_dropping phase base size capacity ms qs anns ns, kept_right);
+    pairs = kept_pairs phase base size capacity ms qs rs anns ns rules kept;
+    right = (dropping s.routing, are_dropping phase base size capacity ms qs rs anns ns, kept_right);
     few = kept_few;
     tagged = λ p. ap is_some (tag_kept anns kept.apart p) ∙ tagged_by p (announced_in anns p) refl ∙ sym (carried_kept ms qs anns kept.apart kept.own p);
     kept = kept_signature;

@@ -7,8 +7,8 @@ use Rattle.sdx_core.specs.declared.given.Given.{Given}
 -- the longer one, the first where they are alike
 abbrev pub first_longer : Option Given → Given → Option Given
 first_longer None next = Some next
-first_longer (Some held) next = if nat_le next.announcement.prefix.len held.announcement.prefix.len then Some held else Some next
+first_longer (Some held) next = if nat_le next.prefix.len held.prefix.len then Some held else Some next
 
 -- one that doesn't cover the address is left out
 abbrev pub longer_given : Option Given → Given → Ip → Option Given
-longer_given best next d = if covers next.announcement.prefix d then first_longer best next else best
+longer_given best next d = if covers next.prefix d then first_longer best next else best

@@ -10,4 +10,4 @@ use Rattle.sdx_core.specs.declared.given.Given.{Given}
 -- without a route nothing leaves; else one frame leaves by the port of the next hop, to the router there
 abbrev pub reply_by : List PortInfo → PortInfo → List ℕ → Option Given → Reply
 reply_by ports q datagram None = bare Unrouted
-reply_by ports q datagram (Some g) = record (bare Fine) { frames = record { port = g.announcement.port; bytes = framed (mac_of ports g.announcement.port) q.mac datagram } ∷ [] }
+reply_by ports q datagram (Some g) = record (bare Fine) { frames = record { port = g.port; bytes = framed (mac_of ports g.port) q.mac datagram } ∷ [] }

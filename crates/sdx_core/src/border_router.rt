@@ -20,7 +20,7 @@ pub fn longest_match(told: &[Announcement], asn: u32, destination: Ip) -> Option
 {
     let mut best = None;
     for announcement in told {
-        if let Some(next) = given_to(asn, *announcement) {
+        if let Some(next) = given_to(asn, announcement) {
             best = longer(best, next, destination);
         }
     }
@@ -31,11 +31,11 @@ pub fn longest_match(told: &[Announcement], asn: u32, destination: Ip) -> Option
 fn longer(best: Option<Given>, next: Given, destination: Ip) -> Option<Given>
     ensures { result ≡ longer_given best next destination }
 {
-    if !next.announcement.prefix.covers(destination) {
+    if !next.prefix.covers(destination) {
         return best;
     }
     match best {
-        Some(held) if next.announcement.prefix.len <= held.announcement.prefix.len => Some(held),
+        Some(held) if next.prefix.len <= held.prefix.len => Some(held),
         _ => Some(next),
     }
 }

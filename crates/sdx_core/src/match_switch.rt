@@ -5,8 +5,6 @@ ghost use Rattle.std.specs.List.Sorted.{IsPermutation, IsNonDecreasingBy};
 ghost use Rattle.sdx_core.specs.View.{receives, rule_to};
 ghost use Rattle.sdx_core.specs.Building.{flow_to};
 
-pub mod forwarding;
-
 use crate::announcement::Announcement;
 use crate::route_server::receives;
 use events::{Flow, Flows};

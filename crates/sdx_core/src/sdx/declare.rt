@@ -8,7 +8,7 @@ use super::Sdx;
 use crate::registry::{find_name, is_taken};
 use crate::replies::{bare_reply, refused};
 use events::{Head, Phase, Refusal, Reply};
-use net_types::{Ip, Mac, Memory, Name, Participant, Pid, PortInfo, PortNo, TryCopy};
+use net_types::{Ip, Items, Mac, Memory, Name, Participant, Pid, PortInfo, PortNo, TryCopy};
 
 impl Sdx {
     pub(super) fn exchange(&mut self, base: Ip, size: u32, capacity: u32) -> Reply
@@ -73,12 +73,19 @@ impl Sdx {
         if is_taken(self.ports.items(), self.base, self.size, number, ip, mac) {
             return Ok(refused(self.alloc, Refusal::BadLine));
         }
-        self.ports.push(PortInfo {
-            owner: Pid(who as u32),
+        self.resolved.push(Items::new(self.alloc))?;
+        let owner = Pid(who as u32);
+        match self.ports.push(PortInfo {
+            owner,
             number,
             ip,
             mac,
-        })?;
-        Ok(bare_reply(self.alloc, Head::Fine))
+        }) {
+            Ok(()) => Ok(bare_reply(self.alloc, Head::Fine)),
+            Err(Memory) => {
+                let _ = self.resolved.pop();
+                Err(Memory)
+            }
+        }
     }
 }

@@ -5,7 +5,7 @@ ghost use Rattle.events.specs.Fits.{IsStep};
 ghost use Rattle.events.specs.declared.Event.TheVariants as lines;
 
 use super::Sdx;
-use crate::advert_queue::{adverts, pending};
+use crate::advert_queue::{messages, pending};
 use crate::line_order::is_declared;
 use crate::registry::find_name;
 use crate::replies::{bare_reply, refused};
@@ -25,8 +25,9 @@ impl Sdx {
         };
         let asn = self.participants.items()[who].asn;
         let taken = self.told.as_slice()[who];
-        let queue = pending(self.alloc, asn, &self.announcements.as_slice()[taken..])?;
-        let messages = adverts(self.alloc, self.base, queue.as_slice())?;
+        let since = &self.announcements.as_slice()[taken..];
+        let queue = pending(self.alloc, self.base, asn, since)?;
+        let messages = messages(self.alloc, queue)?;
         self.told.as_mut_slice()[who] = self.announcements.len();
         self.phase = Phase::Running;
         let mut reply = bare_reply(self.alloc, Head::Fine);

@@ -18,7 +18,7 @@ returns c =
     let place = sym (rw (c.items.ensures, c.items-2.ensures) at c.find_name.ensures.place) ∙ c.in-Some.is in
     let less : c.in-Some.who < length a.participants = rw c.items.ensures at c.in-Some.ensures.within in
     let even : length a.told.items ≡ length a.participants = c.self.invariant.told in
-    drain_at a.phase a.base a.size a.capacity a.participants a.ports a.announcements.items a.told.items _ a.rules c.self.invariant
+    drain_at a.phase a.base a.size a.capacity a.participants a.ports a.resolved.items a.announcements.items a.told.items _ a.rules c.self.invariant
     c.args.name.now c.in-Some.who place (get_or a.participants c.in-Some.who c.index-items-who.result) (get_or a.told.items c.in-Some.who 0)
     (slice_get-get_or a.participants c.in-Some.who c.index-items-who.result less) less
     (slice_get-get_or a.told.items c.in-Some.who 0 (omega arith))
