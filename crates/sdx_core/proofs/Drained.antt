@@ -1,6 +1,6 @@
 -- The line by which a participant takes all that is pending for it.
-use Rattle.std.proofs.Common.{◌≡◌, ℕ, zero, suc, ◌-◌, ◌<◌, ◌≤◌, Bool, true, false, cond, ◌||◌, List, [], ◌∷◌, length, filter, take, drop, ap, ◌∙◌, refl, sym, inl, inr, subst, arith}
-use Rattle.std.specs.Prelude.{Option, Some, None, MatchOption, All, slice_get, slice_index_or, slice_set, is_some, is_none}
+use Rattle.std.proofs.Common.{◌≡◌, ℕ, zero, suc, ◌+◌, ◌-◌, ◌<◌, ◌≤◌, Bool, true, false, cond, ◌||◌, List, [], ◌∷◌, length, filter, take, drop, ap, ◌∙◌, refl, sym, inl, inr, subst, arith}
+use Rattle.std.specs.Prelude.{Option, Some, None, IfSome, MatchOption, All, slice_get, slice_index_or, slice_set, is_some, is_none}
 use Rattle.std.specs.List.{filter_map, list_any, position_from}
 use Rattle.std.specs.List.Sorted.{IsPermutation, IsSortedBy}
 use Rattle.std.specs.Option.{option_map, option_and_then}
@@ -40,13 +40,12 @@ use Rattle.net_types.proofs.FindLemmas.{find-IsFound, any_at}
 use Rattle.net_types.proofs.ValueLemmas.{any_value}
 use Rattle.net_types.proofs.OrderLemmas.{prefixes_total, tags_total, pairs_total}
 use Rattle.net_types.proofs.TieLemmas.{prefix_cmp-IsAntisymmetric, tag_cmp-IsAntisymmetric, ties_itself}
-use Rattle.sdx_core.specs.Adverts.{adverts_of}
-use Rattle.sdx_core.specs.Given.{all_given}
-use Rattle.sdx_core.specs.declared.given.Given.{Given}
+use Rattle.sdx_core.specs.Adverts.{all_adverts, messages_of}
+use Rattle.sdx_core.specs.declared.advert_queue.Advert.{Advert}
 use Rattle.sdx_core.specs.Placed.{is_declared}
 use Rattle.sdx_core.specs.View.{state_of, told_entry, told_maps, tag_entry, announced_in, AreApart, ForEach, AreTagged, tag_count, IsKept}
 use Rattle.sdx_core.specs.declared.announcement.Announcement.{Announcement}
-use Rattle.sdx_core.proofs.GivenLemmas.{told_is, announced_member, given_tag}
+use Rattle.sdx_core.proofs.GivenLemmas.{told_is, announced_member, tag_below}
 use Rattle.sdx_core.proofs.KeptMaps.{entry_of, told_kept, present_kept, signature_of_tag, tag_kept, tagged_in}
 use Rattle.net_types.proofs.MemberLemmas.{Member-at, Member-drop, Member-permutation}
 use Rattle.sdx_core.proofs.Pending.{adverts_are}
@@ -197,6 +196,7 @@ module _ (phase : Phase) (b : Ip) (s c : ℕ) (ms : List Participant) (qs : List
         drops = sym (none_dropped st state_after refl);
         adds = refl;
         adverts = sym are;
+        asks = refl;
         frames = refl;
       }))
       sound
@@ -210,20 +210,25 @@ from_place n anns = take (length anns - n) (drop n anns)
 from_is : (n : ℕ) (anns : List Announcement) → from_place n anns ≡ drop n anns
 from_is n anns = let l : length (drop n anns) ≡ length anns - n = length-drop n anns in take_all (length anns - n) (drop n anns) (omega arith)
 
--- the tags in the queue are the pool's
-pub queue_small : (ms : List Participant) (n size : ℕ) (anns : List Announcement) (asn : ℕ) (queue : List Given) → AreTagged ms 0 anns → tag_count anns ≤ size → size ≤ 65536 → IsPermutation (all_given asn (take (length anns - n) (drop n anns))) queue → All (λ g. g.tag.0 ≤ 65536) queue
-queue_small ms n size anns asn queue tagged pool small moves = λ k d less.
-    let order : IsPermutation (all_given asn (drop n anns)) queue = subst (λ xs. IsPermutation (all_given asn xs) queue) (from_is n anns) moves in
-    let g : Given = slice_index_or queue k d in
-    let at : Member (slice_index_or queue k d) (all_given asn (drop n anns)) = Member-permutation queue (all_given asn (drop n anns)) g (IsPermutation-sym (all_given asn (drop n anns)) queue order) (Member-at queue k d g less refl) in
-    let below : (slice_index_or queue k d).tag.0 ≤ size = given_tag ms size anns (drop n anns) asn g tagged pool (Member-drop n anns) at in
-    omega arith
+-- the tags of the announcements are the pool's
+pub tags_small : (ms : List Participant) (n size : ℕ) (anns : List Announcement) → AreTagged ms 0 anns → tag_count anns ≤ size → size ≤ 65536 → All (λ (a : Announcement). IfSome a.tag (λ t. t.0 ≤ 65536)) (take (length anns - n) (drop n anns))
+tags_small ms n size anns tagged pool small =
+    subst (All (λ (a : Announcement). IfSome a.tag (λ t. t.0 ≤ 65536))) (sym (from_is n anns)) (λ k d less.
+    small_tag (slice_index_or (drop n anns) k d) (Member-drop n anns (slice_index_or (drop n anns) k d) (Member-at (drop n anns) k d (slice_index_or (drop n anns) k d) less refl)))
+  where
+    small_tag : (a : Announcement) → Member a anns → IfSome a.tag (λ t. t.0 ≤ 65536)
+    small_tag a m = by a.tag refl
+      where
+        by : (o : Option Tag) → a.tag ≡ o → IfSome o (λ t. t.0 ≤ 65536)
+        by None e = tt
+        by (Some t) e = let below : t.0 ≤ 0 + tag_count anns = tag_below ms 0 anns a t tagged m e in omega arith
 
 -- what holds of the lists after it
 pub kept_drained : (phase : Phase) (s c : ℕ) (ms : List Participant) (qs : List PortInfo) (rs : List (List Ip)) (anns : List Announcement) (ns : List ℕ) (rules : ℕ) (b : Ip) (k : ℕ) → IsKept phase s c ms qs rs anns ns rules b → IsKept Running s c ms qs rs anns (slice_set ns k (length anns)) rules b
 kept_drained phase s c ms qs rs anns ns rules b k h = record {
   told = length-set ns k (length anns) ∙ h.told;
   few = h.few;
+  resolved = h.resolved;
   early = tt;
   fronts = set_each (λ n. n ≤ length anns) ns k (length anns) h.fronts (omega arith);
   apart = h.apart;
@@ -241,8 +246,8 @@ kept_drained phase s c ms qs rs anns ns rules b k h = record {
 
 pub drain_at : (phase : Phase) (b : Ip) (s c : ℕ) (ms : List Participant) (qs : List PortInfo) (rs : List (List Ip)) (anns : List Announcement) (ns ns' : List ℕ) (rules : ℕ) → IsKept phase s c ms qs rs anns ns rules b
     → (name : List ℕ) (k : ℕ) → position_from (λ (x : Participant). same_octets x.name name) 0 ms ≡ Some k → (m : Participant) (n : ℕ) → slice_get ms k ≡ Some m → k < length ms → slice_get ns k ≡ Some n → is_declared phase ≡ true
-    → (queue : List Given) → IsPermutation (all_given m.asn (take (length anns - n) (drop n anns))) queue → IsSortedBy (λ x y. is_lt (prefix_cmp x.announcement.prefix y.announcement.prefix)) queue
-    → (messages : List (List ℕ)) → messages ≡ adverts_of b queue → (r : Reply) → r ≡ bare Fine → ns' ≡ slice_set ns k (length anns) → (old : State) → state_of phase b s c ms qs rs anns ns ≡ old
+    → (queue : List Advert) → IsPermutation (all_adverts b m.asn (take (length anns - n) (drop n anns))) queue → IsSortedBy (λ x y. is_lt (prefix_cmp x.prefix y.prefix)) queue
+    → (messages : List (List ℕ)) → messages ≡ messages_of queue → (r : Reply) → r ≡ bare Fine → ns' ≡ slice_set ns k (length anns) → (old : State) → state_of phase b s c ms qs rs anns ns ≡ old
     → IsStep old (Drain name) (record r { adverts = messages }) (state_of Running b s c ms qs rs anns ns')
 drain_at phase b s c ms qs rs anns ns ns' rules kept name k place m n declared within took ready queue order sorted messages are r reply more old is =
     let after : List ℕ = slice_set ns k (length anns) in
@@ -250,4 +255,4 @@ drain_at phase b s c ms qs rs anns ns ns' rules kept name k place m n declared w
     is (ap (λ (x : Reply). record x { adverts = messages }) reply) (ap (state_of Running b s c ms qs rs anns) more)
     (drain_step phase b s c ms qs rs anns ns rules kept name k place m declared within ready
     (kept_sound Running b s c ms qs rs anns after rules (kept_drained phase s c ms qs rs anns ns rules b k kept))
-    messages (adverts_are phase b s c ms qs rs anns ns kept.told kept.apart kept.own (record { 0 = k }) m n declared within took queue (subst (λ xs. IsPermutation (all_given m.asn xs) queue) (from_is n anns) order) sorted ∙ sym are))
+    messages (adverts_are phase b s c ms qs rs anns ns kept.told kept.apart kept.own (record { 0 = k }) m n declared within took queue (subst (λ xs. IsPermutation (all_adverts b m.asn xs) queue) (from_is n anns) order) sorted ∙ sym are))

@@ -1,16 +1,15 @@
 use Rattle.std.proofs.Common.{◌≡◌, ◌<◌, ◌≤◌, length, sym, ap, ◌∙◌, arith, get_or, subst, All}
-use Rattle.std.specs.Prelude.{slice_set}
+use Rattle.std.specs.Prelude.{IfSome, slice_set}
 use Rattle.std.proofs.lemmas.List.{length-set, with_items_is}
 use Rattle.std.proofs.lemmas.Option.{slice_get-get_or}
-use Rattle.sdx_core.specs.declared.given.Given.{Given}
-use Rattle.sdx_core.proofs.Drained.{queue_small, drain_at}
+use Rattle.sdx_core.specs.declared.announcement.Announcement.{Announcement}
+use Rattle.sdx_core.proofs.Drained.{tags_small, drain_at}
 use Rattle.sdx_core.proofs.sdx.Sdx.drain.Goals as goal
 
-pub adverts-requires-clause-small : goal.adverts-requires-clause-small
-adverts-requires-clause-small c =
+pub pending-requires-clause-small : goal.pending-requires-clause-small
+pending-requires-clause-small c =
     let a = c.self.inside in
-    let small = queue_small a.participants _ a.size a.announcements.items _ c.in_ok-queue.queue.items c.self.invariant.tagged c.self.invariant.pool c.self.invariant.small (rw (c.as_slice-2.ensures.value) at c.in_ok-queue.ensures.given) in
-    subst (λ gs. All (λ (g : Given). g.tag.0 ≤ 65536) gs) (sym c.as_slice-3.ensures.value) small
+    rw c.as_slice-2.ensures.value (tags_small a.participants _ a.size a.announcements.items c.self.invariant.tagged c.self.invariant.pool c.self.invariant.small)
 
 pub returns : goal.returns
 returns c =
@@ -27,7 +26,7 @@ returns c =
     (rw (c.items-3.ensures, c.as_slice.ensures.value, c.as_slice-2.ensures.value) at c.in_ok-queue.ensures.given)
     c.in_ok-queue.ensures.sorted
     c.in_ok-messages.messages
-    (rw c.as_slice-3.ensures.value at c.in_ok-messages.ensures)
+    c.in_ok-messages.ensures
     c.bare_reply-reply.result c.bare_reply-reply.ensures
     (with_items_is a.told (slice_set c.as_mut_slice.result.now c.in-Some.who c.len.result) (length-set c.as_mut_slice.result.now c.in-Some.who c.len.result ∙ c.as_mut_slice.ensures.len)
     ∙ ap (λ xs. slice_set xs c.in-Some.who c.len.result) c.as_mut_slice.ensures.value
