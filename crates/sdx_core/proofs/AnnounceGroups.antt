@@ -9,7 +9,7 @@ use Rattle.std.specs.FinMap.{FinMap, get, insert, keys, values, from_entries, ge
 use Rattle.std.specs.FinMap as maps
 use Rattle.std.proofs.lemmas.Bool.{and_from, and_left, and_right, eq-eqb, le-ltb, le-leb, lt-leb, cases_lt, cases_eq, or_left, or_right}
 use Rattle.std.proofs.lemmas.List.{map-append, take-append-le}
-use Rattle.events.specs.After.{with_route}
+use Rattle.events.specs.After.{with_update}
 use Rattle.events.specs.State.{State, Entry}
 use Rattle.events.specs.Tags.{is_carried, carried, is_changed, Group, same_group, group_of, groups, each_once, fresh_tag, new_tag, tags_after, free_tags, same_tag, tags, is_live, tells, kept_signature, retagged}
 use Rattle.events.specs.declared.Phase.{Phase}
@@ -33,6 +33,7 @@ use Rattle.net_types.specs.declared.route.Offer.{Offer}
 use Rattle.net_types.specs.declared.route.Part.{Part}
 use Rattle.net_types.specs.declared.route.Participant.{Participant}
 use Rattle.net_types.specs.declared.route.PortInfo.{PortInfo}
+use Rattle.sdx_core.specs.Building.{says}
 use Rattle.sdx_core.specs.View.{route_entry, tag_entry, kept_entry, told_entry, told_maps, parts_from, state_of, routing_of, is_announced, announced_in, AreApart, ForEach, AreTagged, IsOwn, IsKept, is_given_on, tag_at_place, tag_count}
 use Rattle.net_types.proofs.PassLemmas.{find_more, find_last, find_absent, find_skips, is_some-any, filter_twice, filter_nothing, one_if, some_there}
 use Rattle.sdx_core.proofs.DeclaredKept.{each_more}
@@ -131,7 +132,7 @@ module _ (phase : Phase) (base : Ip) (size capacity : ℕ) (ms : List Participan
   no_route = sym (get-from_entries routes_total (map route_entry anns) (key_of a.from a.prefix)) ∙ route_kept ms qs anns kept.apart a.from a.prefix ∙ ap (option_and_then (route_from a.from)) (announced_none anns a.prefix new)
 
   -- the routes are those of the longer list
-  pub new_routing : with_route (routing_of ms qs anns) a.from a.prefix a.attrs ≡ routing_of ms qs (anns ++ a ∷ [])
+  pub new_routing : with_update (routing_of ms qs anns) a.from (says a) ≡ routing_of ms qs (anns ++ a ∷ [])
   new_routing =
       let same : insert (from_entries {R = route_cmp} (map route_entry anns)) (key_of a.from a.prefix) a.attrs ≡ from_entries (map route_entry (anns ++ a ∷ [])) =
       sym (ap from_entries (map-append route_entry anns (a ∷ [])) ∙ from_entries_push routes_total route_cmp-IsAntisymmetric (map route_entry anns) (key_of a.from a.prefix) a.attrs no_route) in
@@ -371,7 +372,7 @@ module _ (phase : Phase) (base : Ip) (size capacity : ℕ) (ms : List Participan
             ∙ sym (ap parts (find_absent (has_tag t) (anns ++ a ∷ []) none))
 
     -- the state of the longer list, with the table that was
-    pub retagged_is : retagged before (with_route before.routing a.from a.prefix a.attrs) ≡ record (state_of Running base size capacity ms qs rs (anns ++ a ∷ []) ns) { table = before.table }
+    pub retagged_is : retagged before (with_update before.routing a.from (says a)) ≡ record (state_of Running base size capacity ms qs rs (anns ++ a ∷ []) ns) { table = before.table }
     retagged_is =
         ap (retagged before) new_routing
         ∙ (λ i. record before { phase = Running; routing = routing; tag = tags_are i; kept = kept_are i; told = sym (told_same ms ns anns a kept.fronts) i })
