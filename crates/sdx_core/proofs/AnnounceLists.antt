@@ -107,10 +107,11 @@ no_new_entries ms (q ∷ qs) a is =
 -- the lists with one announcement more are kept
 pub kept_more : (phase : Phase) (size capacity : ℕ) (ms : List Participant) (qs : List PortInfo) (rs : List (List Ip)) (anns : List Announcement) (ns : List ℕ) (rules : ℕ) (base : Ip) (a : Announcement) (more room : ℕ) → IsKept phase size capacity ms qs rs anns ns rules base
     → IsOwn ms qs a → is_announced a.prefix anns ≡ false → a.tag ≡ tag_at_place (is_given_on ms a) (tag_count anns) → tag_count anns + one_if (is_given_on ms a) ≤ size
-    → more ≡ length (new_entries ms qs a) → rules + more ≤ room → IsKept Running size room ms qs (anns ++ a ∷ []) ns (rules + more) base
+    → more ≡ length (new_entries ms qs a) → rules + more ≤ room → IsKept Running size room ms qs rs (anns ++ a ∷ []) ns (rules + more) base
 kept_more phase size capacity ms qs rs anns ns rules base a more room kept own new tag free counted fits = record {
   told = kept.told;
   few = kept.few;
+  resolved = kept.resolved;
   early = tt;
   fronts = each_wider (λ n. n ≤ length anns) (λ n. n ≤ length (anns ++ a ∷ [])) ns (λ n le. let long = length-append anns (a ∷ []) in omega arith) kept.fronts;
   apart = apart_more anns a kept.apart new;

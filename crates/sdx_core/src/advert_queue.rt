@@ -4,13 +4,13 @@ ghost use Rattle.std.specs.Prelude.{◌≡◌, ◌≤◌, IfOk, IfSome, All};
 ghost use Rattle.std.specs.List.Sorted.{IsPermutation, IsSortedBy};
 ghost use Rattle.std.specs.Ordering.{is_lt};
 ghost use Rattle.net_types.specs.Keys.{prefix_cmp};
-ghost use Rattle.net_types.specs.Updates.{announcement};
 ghost use Rattle.sdx_core.specs.Adverts.{advert_to, all_adverts, messages_of};
 
 use crate::announcement::Announcement;
 use crate::route_server::is_in_path;
+use bgp_update::announcement as announcement_message;
 use events::Messages;
-use net_types::{Attrs, Bytes, Ip, Items, Memory, Prefix};
+use net_types::{Bytes, Ip, Items, Memory, Prefix};
 use std::alloc::Global;
 
 /// The message that announces a prefix to a participant.
@@ -88,15 +88,4 @@ pub fn messages(alloc: Global, queue: Vec<Advert>) -> Result<Messages, Memory>
         messages.push(advert.message)?;
     }
     Ok(messages)
-}
-
-fn announcement_message(
-    _alloc: Global,
-    prefix: Prefix,
-    attrs: &Attrs,
-    next_hop: Ip,
-) -> Result<Bytes, Memory>
-    ensures { IfOk result (λ m. m ≡ announcement prefix attrs.now next_hop) }
-{
-    Err(Memory)
 }
