@@ -12,6 +12,7 @@ mod encoding;
 mod fault;
 mod laws;
 mod lengths;
+mod messages;
 mod octets;
 mod prefixes;
 mod said;
@@ -19,7 +20,7 @@ mod said;
 mod tests;
 
 pub use decoding::decode;
-pub use encoding::encode;
 pub use fault::UpdateFault;
 pub use laws::{messages_read_back, single_messages_are_canonical};
 pub use lengths::encoded_len;
+pub use messages::{announcement, encode, withdrawal};

@@ -3,7 +3,7 @@ use Rattle.std.proofs.Common.{◌≡◌, ℕ, List, rules, subst, sym}
 use Rattle.net_types.specs.UpdateSpelling.{Spells}
 use Rattle.net_types.specs.Updates.{canonical}
 use Rattle.bgp_update.proofs.ReadBack.{reads_back}
-use Rattle.bgp_update.proofs.encoding.encode.Goals as goal
+use Rattle.bgp_update.proofs.messages.encode.Goals as goal
 
 pub returns-clause-reads_back : goal.returns-clause-reads_back
 returns-clause-reads_back c =
