@@ -12,3 +12,5 @@ mod LengthSums
 mod SpelledAttributes
 mod SpelledMessages
 mod ReadBack
+mod Values
+mod ReadAsSpelled

@@ -21,6 +21,6 @@ mod tests;
 
 pub use decoding::decode;
 pub use fault::UpdateFault;
-pub use laws::{messages_read_back, single_messages_are_canonical};
+pub use laws::{messages_read_back, reading_is_spelling, single_messages_are_canonical};
 pub use lengths::encoded_len;
 pub use messages::{announcement, encode, withdrawal};
