@@ -14,3 +14,4 @@ mod SpelledMessages
 mod ReadBack
 mod Values
 mod ReadAsSpelled
+mod SoundReading

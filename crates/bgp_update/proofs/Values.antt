@@ -91,10 +91,13 @@ type_trans u v w e f =
 
 rising_case : (u v : Unknown) (vs : List Unknown) (b : Bool) → is_type_before v u ≡ b → IsRising is_type_before (v ∷ vs) → (u.kind ≡ v.kind → ⊥) → IsRising is_type_before (insert_unknown u vs)
     → IsRising is_type_before (cond b (v ∷ insert_unknown u vs) (u ∷ v ∷ vs))
-rising_case u v vs true e r apart later = (λ y m. elim (insert_onto u vs y m) [
-  | inl same ↦ ap (is_type_before v) same ∙ e
-  | inr n ↦ r.0 y n
-], later)
+rising_case u v vs true e r apart later = (
+  λ y m. elim (insert_onto u vs y m) [
+    | inl same ↦ ap (is_type_before v) same ∙ e
+    | inr n ↦ r.0 y n
+  ],
+  later,
+)
 rising_case u v vs false e r apart later =
     let first : is_type_before u v ≡ true = after u v e apart in
     (λ y m. elim m [ inl same ↦ ap (is_type_before u) same ∙ first | inr n ↦ type_trans u v y first (r.0 y n) ], r)

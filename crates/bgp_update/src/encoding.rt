@@ -7,7 +7,6 @@ ghost use Rattle.net_types.specs.AttributeTypes.{type_flags, type_number};
 ghost use Rattle.net_types.specs.Updates.{aggregator_octets, atomic_octets, attribute, attrs_octets, canonical, communities_octets, long, med_octets, optional_attrs_octets, passed_on, prefix_octets, prefixes_octets, segment_octets, unknown_octets, update_message};
 ghost use Rattle.net_types.specs.SoundUpdates.{IsSoundUpdate};
 ghost use Rattle.net_types.specs.UpdateSpelling.{Spells};
-ghost use Rattle.bgp_update.specs.RoundTrip.{FitOptional};
 ghost use Rattle.net_types.specs.declared.route.Unknown.{Unknown as Foreign};
 
 use net_types::{Aggregator, AttributeType, Attrs, Ip, Memory, Prefix, Segment, Unknown, Update};

@@ -1,7 +1,7 @@
 //! The laws of the codec: what is written is read as what it was.
 
-ghost use Rattle.std.specs.Prelude.{◌≡◌, ◌≤◌, ◌↔◌, ℕ, List, [], ◌∷◌, length, Some, None, Ok, Err};
-ghost use Rattle.net_types.specs.SoundUpdates.{IsSoundUpdate};
+ghost use Rattle.std.specs.Prelude.{◌≡◌, ◌<◌, ◌≤◌, ◌↔◌, ℕ, List, [], ◌∷◌, length, Some, None, Ok, Err};
+ghost use Rattle.net_types.specs.SoundUpdates.{Each, IsSoundUpdate};
 ghost use Rattle.net_types.specs.UpdateReading.{decoded};
 ghost use Rattle.net_types.specs.UpdateSpelling.{IsFault, Spells};
 ghost use Rattle.net_types.specs.Updates.{announcement, canonical, withdrawal};
@@ -28,4 +28,9 @@ pub fn single_messages_are_canonical()
 pub fn reading_is_spelling()
     ensures spelled { (b : List ℕ) (u : Update) → decoded b ≡ Ok u ↔ Spells b u }
     ensures failed { (b : List ℕ) (f : Fault) → decoded b ≡ Err f ↔ IsFault b f }
+{}
+
+/// What octets spell has the form of what messages say.
+pub fn spellings_are_sound()
+    ensures { (b : List ℕ) (u : Update) → Each (λ c. c < 256) b → Spells b u → IsSoundUpdate u }
 {}

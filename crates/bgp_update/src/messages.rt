@@ -5,9 +5,9 @@ ghost use Rattle.net_types.specs.Updates.{announcement, attrs_octets, canonical,
 ghost use Rattle.net_types.specs.Octets.{word};
 ghost use Rattle.net_types.specs.SoundUpdates.{IsSoundUpdate};
 ghost use Rattle.net_types.specs.UpdateSpelling.{Spells};
-ghost use Rattle.bgp_update.specs.RoundTrip.{FitOptional};
 
 use crate::encoding::{push_attrs, push_optional_attrs, push_prefix, push_prefixes, word};
+use crate::ranges::optional_fit;
 use net_types::{Attrs, Bytes, Ip, Items, Memory, Prefix, Update};
 use std::alloc::Global;
 
@@ -45,8 +45,9 @@ pub fn encode(alloc: Global, update: &Update) -> Result<Vec<u8>, Memory>
     requires short { length (canonical update.now) ≤ 4096 }
     ensures canonical { IfOk result (λ m. m.items ≡ canonical update.now) }
     // A sound update is what the message spells, so it is what decoding the message answers.
-    ensures reads_back { IsSoundUpdate update.now → FitOptional update.now.attrs → IfOk result (λ m. Spells m.items update.now) }
+    ensures reads_back { IsSoundUpdate update.now → IfOk result (λ m. Spells m.items update.now) }
 {
+    optional_fit(&update.attrs);
     let mut withdrawn = Vec::new(alloc);
     push_prefixes(&mut withdrawn, update.withdrawn.items())?;
     let mut attributes = Vec::new(alloc);
