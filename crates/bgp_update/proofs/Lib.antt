@@ -12,3 +12,6 @@ mod LengthSums
 mod SpelledAttributes
 mod SpelledMessages
 mod ReadBack
+mod Values
+mod ReadAsSpelled
+mod SoundReading

@@ -98,7 +98,7 @@ one_each seen (a ∷ all) new q =
           omega (arith, split q a all, one.0, later)
     ]
 
-counted : (q : ℕ) (us : List Unknown) (v : Unknown) → Member v us → q ≡ v.kind → 1 ≤ count q us
+pub counted : (q : ℕ) (us : List Unknown) (v : Unknown) → Member v us → q ≡ v.kind → 1 ≤ count q us
 counted q [] v m e = elim m [ ]
 counted q (u ∷ us) v (inl same) e =
     let here : cond (eqb q u.kind) 1 0 ≡ 1 = ap (λ (b : Bool). let n : ℕ = cond b 1 0 in n) (eq-eqb q u.kind (e ∙ ap (λ (w : Unknown). w.kind) same)) in

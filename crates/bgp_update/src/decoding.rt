@@ -1,13 +1,14 @@
 //! Reading a whole message.
 
-ghost use Rattle.std.specs.Prelude.{◌≡◌, ◌==◌, ◌⊎◌, length, Err, IfOk, MatchResult};
+ghost use Rattle.std.specs.Prelude.{◌≡◌, ◌==◌, ◌⊎◌, length, Ok, Err, IfOk, MatchResult};
 ghost use Rattle.std.specs.List.{list_all};
 ghost use Rattle.net_types.specs.UpdateFormat.{no_types};
+ghost use Rattle.net_types.specs.SoundUpdates.{IsSoundUpdate};
 ghost use Rattle.net_types.specs.UpdateSpelling.{IsFault, Spells};
 ghost use Rattle.net_types.specs.declared.update.Update.{Update as Value};
 ghost use Rattle.net_types.specs.declared.update.Fault.{Fault as Cause};
 ghost use Rattle.bgp_update.specs.Answers.{AreNew, Gives, IsDecoded, head_of};
-ghost use Rattle.net_types.specs.UpdateReading.{read_head};
+ghost use Rattle.net_types.specs.UpdateReading.{decoded, read_head};
 
 use crate::attributes::attributes;
 use crate::fault::UpdateFault;
@@ -61,10 +62,15 @@ fn read(alloc: Global, bytes: &[u8]) -> Result<Update, UpdateFault>
 
 /// The update that a message spells, or the first check that it fails.
 pub fn decode(alloc: Global, bytes: &[u8]) -> Result<Update, UpdateFault>
+    // What reading the octets from left to right gives.
+    ensures value { IfOk result (λ u. decoded bytes.now ≡ Ok u) }
+    ensures cause { (f : Cause) → result ≡ Err (UpdateFault.Bad f) → decoded bytes.now ≡ Err f }
     // The octets spell this update.
     ensures spells { IfOk result (Spells bytes.now) }
     // They spell no other one.
     ensures only { IfOk result (λ u. (v : Value) → Spells bytes.now v → v ≡ u) }
+    // It has the form of what messages say, as writing asks for.
+    ensures form { IfOk result IsSoundUpdate }
     // No check fails.
     ensures sound { IfOk result (λ u. (f : Cause) → IsFault bytes.now f → ⊥) }
     // A fault is that of the first check that fails, and of no other.

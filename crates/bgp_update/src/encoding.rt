@@ -1,4 +1,4 @@
-//! Writing a whole message.
+//! Writing the parts of a message: prefixes and attributes.
 
 ghost use Rattle.std.specs.Prelude.{◌≡◌, ◌≤◌, ◌<◌, ◌++◌, [], ◌∷◌, ◌+◌, if◌then◌else◌, length, IfOk, OnOk, filter, nat_lt, nat_le, List};
 ghost use Rattle.std.specs.List.{flat_map};
@@ -7,14 +7,13 @@ ghost use Rattle.net_types.specs.AttributeTypes.{type_flags, type_number};
 ghost use Rattle.net_types.specs.Updates.{aggregator_octets, atomic_octets, attribute, attrs_octets, canonical, communities_octets, long, med_octets, optional_attrs_octets, passed_on, prefix_octets, prefixes_octets, segment_octets, unknown_octets, update_message};
 ghost use Rattle.net_types.specs.SoundUpdates.{IsSoundUpdate};
 ghost use Rattle.net_types.specs.UpdateSpelling.{Spells};
-ghost use Rattle.bgp_update.specs.RoundTrip.{FitOptional};
 ghost use Rattle.net_types.specs.declared.route.Unknown.{Unknown as Foreign};
 
 use net_types::{Aggregator, AttributeType, Attrs, Ip, Memory, Prefix, Segment, Unknown, Update};
 use std::alloc::Global;
 
 /// A number in two octets, without its upper part.
-fn word(n: usize) -> [u8; 2]
+pub fn word(n: usize) -> [u8; 2]
     ensures { result ≡ word n }
 {
     [(n / 256 % 256) as u8, (n % 256) as u8]
@@ -50,7 +49,7 @@ fn push_longs(out: &mut Vec<u8>, numbers: &[u32]) -> Result<(), Memory>
     Ok(())
 }
 
-fn push_prefixes(out: &mut Vec<u8>, prefixes: &[Prefix]) -> Result<(), Memory>
+pub fn push_prefixes(out: &mut Vec<u8>, prefixes: &[Prefix]) -> Result<(), Memory>
     ensures { OnOk result (out.new.items ≡ out.old.items ++ prefixes_octets prefixes.now) }
 {
     for prefix in prefixes {
@@ -60,7 +59,7 @@ fn push_prefixes(out: &mut Vec<u8>, prefixes: &[Prefix]) -> Result<(), Memory>
 }
 
 /// A length, and the fewest octets that hold so many bits.
-fn push_prefix(out: &mut Vec<u8>, prefix: Prefix) -> Result<(), Memory>
+pub fn push_prefix(out: &mut Vec<u8>, prefix: Prefix) -> Result<(), Memory>
     ensures { OnOk result (out.new.items ≡ out.old.items ++ prefix_octets prefix) }
 {
     let held = (prefix.len as usize + 7) / 8;
@@ -244,33 +243,34 @@ fn push_optional(alloc: Global, out: &mut Vec<u8>, attrs: &Attrs) -> Result<(), 
     )
 }
 
-/// The attributes that each route has.
+/// The attributes that each route has, with this NEXT_HOP.
 #[tactic(auto, using(std::proofs::Common::append_assoc))]
-fn push_needed(alloc: Global, out: &mut Vec<u8>, attrs: &Attrs) -> Result<(), Memory>
-    ensures { OnOk result (out.new.items ≡ out.old.items ++ (attribute 64 1 (attrs.now.origin ∷ []) ++ (attribute 64 2 (flat_map segment_octets attrs.now.path) ++ attribute 64 3 (address_octets attrs.now.next_hop)))) }
+fn push_needed(alloc: Global, out: &mut Vec<u8>, attrs: &Attrs, next_hop: Ip) -> Result<(), Memory>
+    ensures { OnOk result (out.new.items ≡ out.old.items ++ (attribute 64 1 (attrs.now.origin ∷ []) ++ (attribute 64 2 (flat_map segment_octets attrs.now.path) ++ attribute 64 3 (address_octets next_hop)))) }
 {
     push_known(out, AttributeType::Origin, [attrs.origin].as_slice())?;
     push_as_path(alloc, out, attrs.path.items())?;
-    push_known(
-        out,
-        AttributeType::NextHop,
-        long(attrs.next_hop.0).as_slice(),
-    )
+    push_known(out, AttributeType::NextHop, long(next_hop.0).as_slice())
 }
 
-/// All attributes, ascending by type.
+/// All attributes with this NEXT_HOP, ascending by type.
 #[tactic(auto, using(std::proofs::Common::append_assoc))]
-fn push_attrs(alloc: Global, out: &mut Vec<u8>, attrs: &Attrs) -> Result<(), Memory>
-    ensures { OnOk result (out.new.items ≡ out.old.items ++ attrs_octets attrs.now) }
+pub fn push_attrs(
+    alloc: Global,
+    out: &mut Vec<u8>,
+    attrs: &Attrs,
+    next_hop: Ip,
+) -> Result<(), Memory>
+    ensures { OnOk result (out.new.items ≡ out.old.items ++ attrs_octets (record attrs.now { next_hop = next_hop })) }
 {
     push_lowest(out, attrs.unknown.items())?;
-    push_needed(alloc, out, attrs)?;
+    push_needed(alloc, out, attrs, next_hop)?;
     push_optional(alloc, out, attrs)?;
     push_others(out, attrs.unknown.items())?;
     Ok(())
 }
 
-fn push_optional_attrs(
+pub fn push_optional_attrs(
     alloc: Global,
     out: &mut Vec<u8>,
     attrs: &Option<Attrs>,
@@ -279,51 +279,6 @@ fn push_optional_attrs(
 {
     match attrs {
         None => Ok(()),
-        Some(attrs) => push_attrs(alloc, out, attrs),
+        Some(attrs) => push_attrs(alloc, out, attrs, attrs.next_hop),
     }
-}
-
-/// A message of its three blocks.
-#[tactic(auto, using(std::proofs::Common::append_assoc))]
-fn message(
-    alloc: Global,
-    withdrawn: &[u8],
-    attributes: &[u8],
-    announced: &[u8],
-) -> Result<Vec<u8>, Memory>
-    requires { length withdrawn.now + length attributes.now + length announced.now ≤ 4073 }
-    ensures { IfOk result (λ m. m.items ≡ update_message withdrawn.now attributes.now announced.now) }
-{
-    let total = 23 + withdrawn.len() + attributes.len() + announced.len();
-    let mut out = Vec::from_slice(alloc, [255; 16].as_slice())?;
-    out.extend_from_slice(word(total).as_slice())?;
-    out.push(2)?;
-    out.extend_from_slice(word(withdrawn.len()).as_slice())?;
-    out.extend_from_slice(withdrawn)?;
-    out.extend_from_slice(word(attributes.len()).as_slice())?;
-    out.extend_from_slice(attributes)?;
-    out.extend_from_slice(announced)?;
-    Ok(out)
-}
-
-/// The canonical message of an update, where it has 4096 octets at most.
-pub fn encode(alloc: Global, update: &Update) -> Result<Vec<u8>, Memory>
-    requires short { length (canonical update.now) ≤ 4096 }
-    ensures canonical { IfOk result (λ m. m.items ≡ canonical update.now) }
-    // A sound update is what the message spells, so it is what decoding the message answers.
-    ensures reads_back { IsSoundUpdate update.now → FitOptional update.now.attrs → IfOk result (λ m. Spells m.items update.now) }
-{
-    let mut withdrawn = Vec::new(alloc);
-    push_prefixes(&mut withdrawn, update.withdrawn.items())?;
-    let mut attributes = Vec::new(alloc);
-    push_optional_attrs(alloc, &mut attributes, &update.attrs)?;
-    let mut announced = Vec::new(alloc);
-    push_prefixes(&mut announced, update.announced.items())?;
-    let message = message(
-        alloc,
-        withdrawn.as_slice(),
-        attributes.as_slice(),
-        announced.as_slice(),
-    )?;
-    Ok(message)
 }

@@ -12,14 +12,18 @@ mod encoding;
 mod fault;
 mod laws;
 mod lengths;
+mod messages;
 mod octets;
 mod prefixes;
+mod ranges;
 mod said;
 #[cfg(test)]
 mod tests;
 
 pub use decoding::decode;
-pub use encoding::encode;
 pub use fault::UpdateFault;
-pub use laws::{messages_read_back, single_messages_are_canonical};
+pub use laws::{
+    messages_read_back, reading_is_spelling, single_messages_are_canonical, spellings_are_sound,
+};
 pub use lengths::encoded_len;
+pub use messages::{announcement, encode, withdrawal};

@@ -1,7 +1,13 @@
 //! What messages in hexadecimal digits give, where `M` stands for the sixteen octets of a marker.
 
 mod accepted;
-mod refused;
+mod attributes;
+mod blocks;
+mod flags;
+mod header;
+mod order;
+mod single;
+mod values;
 
 use crate::{UpdateFault, decode, encode, encoded_len};
 use net_types::Memory;
@@ -48,4 +54,22 @@ fn gives(alloc: Global, message: &str, wanted: &str) -> Result<bool, Memory> {
     let again = octets(alloc, wanted)?;
     let digits = hex::encode(alloc, again.as_slice())?;
     Ok(told.as_bytes() == digits.as_bytes())
+}
+
+/// In how many places two messages of one length differ.
+fn places_apart(one: &[u8], other: &[u8]) -> usize {
+    one.iter()
+        .zip(other.iter())
+        .filter(|(a, b)| **a != **b)
+        .count()
+}
+
+/// Whether a message gives a word, and one that is an octet away is read.
+fn is_refused_beside(alloc: Global, message: &str, word: &str, twin: &str) -> Result<bool, Memory> {
+    let bad = octets(alloc, message)?;
+    let good = octets(alloc, twin)?;
+    let near = bad.len() == good.len() && places_apart(bad.as_slice(), good.as_slice()) == 1;
+    let told = answer(alloc, bad.as_slice())?;
+    let read = decode(alloc, good.as_slice()).is_ok();
+    Ok(near && read && told.as_bytes() == word.as_bytes())
 }

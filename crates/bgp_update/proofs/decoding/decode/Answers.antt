@@ -1,5 +1,8 @@
 -- Reading is exact, and a message has one value.
+use Rattle.std.proofs.Common.{arith}
 use Rattle.bgp_update.proofs.Decoded.{fault_said, found_said, only_said, refused_said, sound_said, spells_said}
+use Rattle.bgp_update.proofs.ReadAsSpelled.{answer_said, cause_said}
+use Rattle.bgp_update.proofs.SoundReading.{by_places, form_said}
 use Rattle.bgp_update.proofs.decoding.decode.Goals as goal
 
 pub returns-clause-spells : goal.returns-clause-spells
@@ -19,3 +22,12 @@ returns-clause-refused c = refused_said c.args.bytes.now c.read.result c.read.en
 
 pub returns-clause-found : goal.returns-clause-found
 returns-clause-found c = found_said c.args.bytes.now c.read.result c.read.ensures
+
+pub returns-clause-value : goal.returns-clause-value
+returns-clause-value c = answer_said c.args.bytes.now c.read.result c.read.ensures
+
+pub returns-clause-cause : goal.returns-clause-cause
+returns-clause-cause c = cause_said c.args.bytes.now c.read.result c.read.ensures
+
+pub returns-clause-form : goal.returns-clause-form
+returns-clause-form c = form_said c.args.bytes.now c.read.result (by_places c.args.bytes.now (λ k. omega (arith, c.type_inv.bytes k))) c.read.ensures

@@ -8,7 +8,7 @@ use Rattle.bgp_update.proofs.encoding.push_attrs.Goals as goal
 
 pub returns : goal.returns
 returns c =
-    attrs_written c.args.attrs.now c.args.out.now.items _ _ _ _
+    attrs_written (record c.args.attrs.now { next_hop = c.args.next_hop }) c.args.out.now.items _ _ _ _
     (c.in_ok-push_lowest.ensures ∙ ap (λ (us : List Unknown). c.args.out.now.items ++ flat_map (λ (u : Unknown). if nat_lt u.kind 1 then attribute 224 u.kind u.value else []) us) c.items.ensures)
     c.in_ok-push_needed.ensures
     c.in_ok-push_optional.ensures
