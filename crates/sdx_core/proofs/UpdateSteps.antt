@@ -1,10 +1,12 @@
 -- What an update that is refused does, and the step that an update's line is.
-use Rattle.std.proofs.Common.{◌≡◌, ℕ, suc, ◌<◌, ◌≤◌, Bool, true, false, cond, ◌||◌, not, nat_eq, nat_lt, List, [], ◌∷◌, length, sym, ap, subst, ◌∙◌, refl, arith}
+use Rattle.std.proofs.Common.{◌≡◌, ℕ, zero, suc, ◌<◌, ◌≤◌, Bool, true, false, cond, ◌||◌, not, nat_eq, nat_lt, List, [], ◌∷◌, length, sym, ap, subst, ◌∙◌, refl, arith}
 use Rattle.std.specs.Prelude.{Option, Some, None, Result, Ok, Err, MatchOption, is_some, slice_get, slice_index_or, find}
+use Rattle.std.specs.FinMap.{FinMap}
 use Rattle.std.specs.List.{list_any, position_from}
 use Rattle.std.specs.Option.{option_map, option_map_or}
+use Rattle.std.proofs.lemmas.Option.{slice_get-get_or}
 use Rattle.std.proofs.lemmas.Bool.{lt-ltb, or_left, or_right}
-use Rattle.events.specs.After.{next, put_flows, updated, with_known, with_update, without_pairs}
+use Rattle.events.specs.After.{next, next_by, put_flows, updated, with_known, with_update, without_pairs}
 use Rattle.events.specs.Fits.{IsBuilt, IsStep, bare, none_rebuilt}
 use Rattle.events.specs.Refusals.{attrs_refusal, cannot_take, has_route, if_known, is_placed, live_pairs, or_else, refusal, refusal_in_place, unless, update_refusal}
 use Rattle.events.specs.State.{State}
@@ -21,6 +23,7 @@ use Rattle.events.specs.declared.Reply.{Reply}
 use Rattle.net_types.proofs.PassLemmas.{is_some-any}
 use Rattle.net_types.specs.Attributes.{same_option}
 use Rattle.net_types.specs.Exports.{asn_of, pid_of}
+use Rattle.net_types.specs.Keys.{pair_cmp}
 use Rattle.net_types.specs.UpdateReading.{decoded}
 use Rattle.net_types.specs.Updates.{first_as}
 use Rattle.net_types.specs.declared.address.Ip.{Ip}
@@ -30,6 +33,7 @@ use Rattle.net_types.specs.declared.prefix.Prefix.{Prefix}
 use Rattle.net_types.specs.declared.route.Attrs.{Attrs}
 use Rattle.net_types.specs.declared.route.Participant.{Participant}
 use Rattle.net_types.specs.declared.route.PortInfo.{PortInfo}
+use Rattle.net_types.specs.declared.rule.Rule.{Rule}
 use Rattle.net_types.specs.declared.update.Fault.{Fault}
 use Rattle.net_types.specs.declared.update.Update.{Update}
 use Rattle.sdx_core.proofs.AnnounceStep.{IsAtHome}
@@ -41,14 +45,25 @@ use Rattle.sdx_core.specs.declared.announcement.Announcement.{Announcement}
 
 -- ---- what the code looked at
 
--- what stands at a place in range
-got : {A : Type 0} (xs : List A) (k : ℕ) (x : A) → k < length xs → x ≡ slice_index_or xs k x → slice_get xs k ≡ Some x
-got [] k x less is = absurd (omega arith)
-got (y ∷ xs) 0 x less is = ap Some (sym is)
-got (y ∷ xs) (suc k) x less is = got xs k x (omega arith) is
+-- the AS of the participant at a place
+pub asn_at : (ms : List Participant) (k : ℕ) (d : Participant) → k < length ms → option_map_or (λ (m : Participant). m.asn) (slice_get ms k) 0 ≡ (slice_index_or ms k d).asn
+asn_at ms k d less = ap (λ o. option_map_or (λ (m : Participant). m.asn) o 0) (slice_get-get_or ms k d less)
 
-pub asn_at : (ms : List Participant) (k : ℕ) (m : Participant) → k < length ms → m ≡ slice_index_or ms k m → option_map_or (λ (x : Participant). x.asn) (slice_get ms k) 0 ≡ m.asn
-asn_at ms k m less is = ap (λ o. option_map_or (λ (x : Participant). x.asn) o 0) (got ms k m less is)
+mapped_none : {A B : Type 0} (f : A → B) (o : Option A) → option_map f o ≡ None → is_some o ≡ false
+mapped_none f None e = refl
+mapped_none f (Some x) e = cc
+
+mapped_some : {A B : Type 0} (f : A → B) (o : Option A) (y : B) → option_map f o ≡ Some y → is_some o ≡ true
+mapped_some f None y e = cc
+mapped_some f (Some x) y e = refl
+
+-- no port of the participant has the address
+pub away : (who : Pid) (ip : Ip) (qs : List PortInfo) → option_map (λ (q : PortInfo). q.number) (find (is_at who ip) qs) ≡ None → list_any (is_at who ip) qs ≡ false
+away who ip qs e = sym (is_some-any (is_at who ip) qs) ∙ mapped_none (λ (q : PortInfo). q.number) (find (is_at who ip) qs) e
+
+-- one of them has it
+pub nearby : (who : Pid) (ip : Ip) (qs : List PortInfo) (n : PortNo) → option_map (λ (q : PortInfo). q.number) (find (is_at who ip) qs) ≡ Some n → list_any (is_at who ip) qs ≡ true
+nearby who ip qs n e = sym (is_some-any (is_at who ip) qs) ∙ mapped_some (λ (q : PortInfo). q.number) (find (is_at who ip) qs) n e
 
 -- the update of one prefix is what an announcement says
 pub says_is : (withdrawn announced : List Prefix) (attrs : Attrs) (from : Pid) (p : Prefix) (port : PortNo) → one_prefix withdrawn announced ≡ Some p
@@ -91,6 +106,15 @@ module _ (s st : State) (is : s ≡ st) (who : Pid) (withdrawn announced : List 
       refused_by s st who u BadLine r is
       (ap (λ b. or_else (or_else (unless (not b) FirstAs) (unless (not near) NextHop)) rest) own ∙ ap (λ b. or_else (unless (not b) NextHop) rest) at_port ∙ ap (λ b. unless b BadLine) cannot) reply
 
+-- an update that withdraws can't be taken
+pub withdraws : (s : State) (who : Pid) (w : Prefix) (ws : List Prefix) (attrs : Option Attrs) (announced : List Prefix) → cannot_take s who (record { withdrawn = w ∷ ws; attrs = attrs; announced = announced }) ≡ true
+withdraws s who w ws attrs announced =
+    let u : Update = record { withdrawn = w ∷ ws; attrs = attrs; announced = announced } in
+    let full = nat_lt (length (free_tags s)) (length (groups s (with_update s.routing who u))) in
+    let over = nat_lt s.capacity (length (live_pairs (retagged s (with_update s.routing who u)))) in
+    let old = list_any (has_route s) announced in
+    ap (λ b. (((b || nat_lt 1 (length announced)) || old) || full) || over) (lt-ltb 0 (length (w ∷ ws)) (omega arith))
+
 -- an update that withdraws, or announces several prefixes, can't be taken
 pub several_cannot : (s : State) (who : Pid) (withdrawn announced : List Prefix) (attrs : Attrs) → one_prefix withdrawn announced ≡ None → 1 ≤ length announced → cannot_take s who (record { withdrawn = withdrawn; attrs = Some attrs; announced = announced }) ≡ true
 several_cannot s who (w ∷ ws) announced attrs none some = withdraws s who w ws (Some attrs) announced
@@ -102,14 +126,6 @@ several_cannot s who [] (p ∷ q ∷ ps) attrs none some =
     let over = nat_lt s.capacity (length (live_pairs (retagged s (with_update s.routing who u)))) in
     let old = list_any (has_route s) (p ∷ q ∷ ps) in
     ap (λ b. ((b || old) || full) || over) (lt-ltb 1 (length (p ∷ q ∷ ps)) (omega arith))
-
-pub withdraws : (s : State) (who : Pid) (w : Prefix) (ws : List Prefix) (attrs : Option Attrs) (announced : List Prefix) → cannot_take s who (record { withdrawn = w ∷ ws; attrs = attrs; announced = announced }) ≡ true
-withdraws s who w ws attrs announced =
-    let u : Update = record { withdrawn = w ∷ ws; attrs = attrs; announced = announced } in
-    let full = nat_lt (length (free_tags s)) (length (groups s (with_update s.routing who u))) in
-    let over = nat_lt s.capacity (length (live_pairs (retagged s (with_update s.routing who u)))) in
-    let old = list_any (has_route s) announced in
-    ap (λ b. (((b || nat_lt 1 (length announced)) || old) || full) || over) (lt-ltb 0 (length (w ∷ ws)) (omega arith))
 
 pub withdrawal_refused : (s st : State) → s ≡ st → (who : Pid) (w : Prefix) (ws : List Prefix) (r : Reply) → r ≡ bare (Refused BadLine) → AnswersUpdate st who (record { withdrawn = w ∷ ws; attrs = None; announced = [] }) r st
 withdrawal_refused s st is who w ws r reply =
@@ -149,7 +165,7 @@ update_step s s' name bytes r who u ready known read answers = by (update_refusa
     refusal_is : refusal s (UpdateLine name bytes) ≡ update_refusal s who (Ok u)
     refusal_is = in_place s name bytes ready ∙ ap (λ o. if_known o (λ w. update_refusal s w (decoded bytes))) known ∙ ap (update_refusal s who) read
 
-    after_is : (table : _) → record (retagged s (with_update s.routing who u)) { table = table } ≡ record (with_known s (pid_of s.routing name) (λ w. updated s w (decoded bytes))) { table = table }
+    after_is : (table : FinMap pair_cmp (List Rule)) → record (retagged s (with_update s.routing who u)) { table = table } ≡ record (with_known s (pid_of s.routing name) (λ w. updated s w (decoded bytes))) { table = table }
     after_is table =
         sym (ap (λ o. let x : State = with_known s o (λ w. updated s w (decoded bytes)) in record x { table = table }) known
         ∙ ap (λ d. let x : State = updated s who d in record x { table = table }) read)
@@ -158,8 +174,5 @@ update_step s s' name bytes r who u ready known read answers = by (update_refusa
     by (Some why) is refused = subst (IsStep s (UpdateLine name bytes) r) (sym refused.same) (refused_step s (UpdateLine name bytes) r why (refusal_is ∙ is) refused.reply)
     by None is taken =
         accepted s (UpdateLine name bytes) r s' (refusal_is ∙ is)
-        (taken.next ∙ after_is (put_flows (without_pairs s.table r.drops) r.adds) ∙ ap (λ h. next_with h) (sym taken.built.head))
+        (taken.next ∙ after_is (put_flows (without_pairs s.table r.drops) r.adds) ∙ ap (λ h. next_by h s (UpdateLine name bytes) r) (sym taken.built.head))
         taken.built taken.sound
-      where
-        next_with : Head → State
-        next_with h = ?
