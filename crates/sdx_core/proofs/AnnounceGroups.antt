@@ -85,7 +85,7 @@ told_same (m ∷ ms) (n ∷ ns) anns a fronts =
     λ i. from_entries (filter_map (told_entry m) (front i)) ∷ rest i
 
 -- a tag of the pool is listed
-tag_listed : (t : Tag) (low count : ℕ) → low ≤ t.0 → t.0 < low + count → list_any (eq_by_cmp tag_cmp t) (map tag_of (numbers low count)) ≡ true
+pub tag_listed : (t : Tag) (low count : ℕ) → low ≤ t.0 → t.0 < low + count → list_any (eq_by_cmp tag_cmp t) (map tag_of (numbers low count)) ≡ true
 tag_listed t low zero le lt = absurd (omega arith)
 tag_listed t low (suc count) le lt = by (λ other. tag_listed t (low + 1) count (omega arith) (omega arith)) (cases_eq low t.0)
   where
@@ -94,7 +94,7 @@ tag_listed t low (suc count) le lt = by (λ other. tag_listed t (low + 1) count 
     by later (inr other) = or_right (eq_by_cmp tag_cmp t (tag_of low)) (list_any (eq_by_cmp tag_cmp t) (map tag_of (numbers (low + 1) count))) (later other)
 
 -- where an entry is there, the prefix is listed
-where_listed : {X : Type 0} (f : Announcement → Option X) (listed : Bool) (o : Option Announcement) (x : Option X) → x ≡ option_and_then f o → ((b : Announcement) → o ≡ Some b → listed ≡ true) → cond listed x None ≡ option_and_then f o
+pub where_listed : {X : Type 0} (f : Announcement → Option X) (listed : Bool) (o : Option Announcement) (x : Option X) → x ≡ option_and_then f o → ((b : Announcement) → o ≡ Some b → listed ≡ true) → cond listed x None ≡ option_and_then f o
 where_listed f true o x is h = is
 where_listed f false None x is h = refl
 where_listed f false (Some b) x is h = absurd (clash false (h b refl) refl)

@@ -86,7 +86,7 @@ none_of_some (Some x) e = refl
 key_has : {K X : Type 0} (R : K → K → Ordering) → IsTotalOrder R → (m : FinMap R X) (k : K) → Member k (keys m) → is_some (get m k) ≡ true
 key_has R o m k at = contains_key-keys m k ∙ any_at (eq_by_cmp R k) (keys m) k at (ties_itself o k)
 
-none_dropped : (s s' : State) → s'.table ≡ s.table → dropped s s' none_rebuilt ≡ []
+pub none_dropped : (s s' : State) → s'.table ≡ s.table → dropped s s' none_rebuilt ≡ []
 none_dropped s s' same = filter_none (λ pair. is_none (get s'.table pair) || none_rebuilt pair) (keys s.table) (λ pair at. ap (λ (t : FinMap pair_cmp (List Rule)). is_none (get t pair) || false) same ∙ none_of_some (get s.table pair) (key_has pair_cmp pairs_total s.table pair at))
 
 has_one : (o : Option Tag) (t : Tag) → same_option same_tag o (Some t) ≡ true → o ≡ Some t

@@ -1,6 +1,6 @@
 -- What an update that is refused does, and the step that an update's line is.
 use Rattle.std.proofs.Common.{◌≡◌, ℕ, zero, suc, ◌<◌, ◌≤◌, Bool, true, false, cond, ◌||◌, not, nat_eq, nat_lt, List, [], ◌∷◌, length, sym, ap, subst, ◌∙◌, refl, arith}
-use Rattle.std.specs.Prelude.{Option, Some, None, Result, Ok, Err, MatchOption, is_some, slice_get, slice_index_or, find}
+use Rattle.std.specs.Prelude.{Option, Some, None, Result, Ok, Err, IfOk, MatchOption, is_some, slice_get, slice_index_or, find}
 use Rattle.std.specs.FinMap.{FinMap}
 use Rattle.std.specs.List.{list_any, position_from}
 use Rattle.std.specs.Option.{option_map, option_map_or}
@@ -24,8 +24,11 @@ use Rattle.net_types.proofs.PassLemmas.{is_some-any}
 use Rattle.net_types.specs.Attributes.{same_option}
 use Rattle.net_types.specs.Exports.{asn_of, pid_of}
 use Rattle.net_types.specs.Keys.{pair_cmp}
+use Rattle.net_types.specs.SoundUpdates.{HasSoundAttrs}
 use Rattle.net_types.specs.UpdateReading.{decoded}
 use Rattle.net_types.specs.Updates.{first_as}
+use Rattle.net_types.specs.Octets.{same_octets}
+use Rattle.net_types.specs.declared.memory.Memory.{Memory}
 use Rattle.net_types.specs.declared.address.Ip.{Ip}
 use Rattle.net_types.specs.declared.address.Pid.{Pid}
 use Rattle.net_types.specs.declared.address.PortNo.{PortNo}
@@ -40,7 +43,7 @@ use Rattle.sdx_core.proofs.AnnounceStep.{IsAtHome}
 use Rattle.sdx_core.proofs.Steps.{accepted, refused_step}
 use Rattle.sdx_core.specs.Building.{is_at, one_prefix, says}
 use Rattle.sdx_core.specs.Placed.{is_declared}
-use Rattle.sdx_core.specs.Updating.{AnswersBy, AnswersUpdate, IsRefused, IsUpdated}
+use Rattle.sdx_core.specs.Updating.{AnswersBy, AnswersUpdate, HasAttrs, IsRefused, IsUpdated}
 use Rattle.sdx_core.specs.declared.announcement.Announcement.{Announcement}
 
 -- ---- what the code looked at
@@ -131,6 +134,13 @@ pub withdrawal_refused : (s st : State) → s ≡ st → (who : Pid) (w : Prefix
 withdrawal_refused s st is who w ws r reply =
     refused_by s st who (record { withdrawn = w ∷ ws; attrs = None; announced = [] }) BadLine r is (ap (λ b. unless b BadLine) (withdraws s who w ws None [])) reply
 
+-- a sound update has attributes exactly where it announces
+pub has_attrs : (ps : List Prefix) (o : Option Attrs) → HasSoundAttrs ps o → HasAttrs ps o
+has_attrs [] None sound = tt
+has_attrs [] (Some a) sound = sound
+has_attrs (p ∷ ps) None sound = sound
+has_attrs (p ∷ ps) (Some a) sound = tt
+
 -- ---- the line
 
 placed : (x : Phase) (name bytes : List ℕ) → is_declared x ≡ true → is_placed x (UpdateLine name bytes) ≡ true
@@ -176,3 +186,13 @@ update_step s s' name bytes r who u ready known read answers = by (update_refusa
         accepted s (UpdateLine name bytes) r s' (refusal_is ∙ is)
         (taken.next ∙ after_is (put_flows (without_pairs s.table r.drops) r.adds) ∙ ap (λ h. next_by h s (UpdateLine name bytes) r) (sym taken.built.head))
         taken.built taken.sound
+
+-- the participant of a name that is found
+pub known_at : (s st : State) → s ≡ st → (name : List ℕ) (k : ℕ) → position_from (λ (m : Participant). same_octets m.name name) 0 s.routing.participants ≡ Some k → pid_of st.routing name ≡ Some (record { 0 = k })
+known_at s st is name k place = ap (λ (x : State). pid_of x.routing name) (sym is) ∙ ap (option_map (λ n. let who : Pid = record { 0 = n } in who)) place
+
+-- the same, unless memory runs out
+pub update_ok : (s st s' : State) → s ≡ st → (name bytes : List ℕ) (who : Pid) (u : Update) (result : Result Reply Memory) → is_declared s.phase ≡ true → pid_of st.routing name ≡ Some who → decoded bytes ≡ Ok u
+    → IfOk result (λ r. AnswersUpdate st who u r s') → IfOk result (λ r. IsStep st (UpdateLine name bytes) r s')
+update_ok s st s' is name bytes who u (Ok r) ready known read answers = update_step st s' name bytes r who u (ap (λ (x : State). is_declared x.phase) (sym is) ∙ ready) known read answers
+update_ok s st s' is name bytes who u (Err e) ready known read answers = tt
