@@ -34,7 +34,7 @@ read_reply : (asker mac : List ℕ) (ip asked : Ip) → length asker ≡ 6 → l
 read_reply asker mac ip asked six_asker six_mac =
     six (λ xs. IsRead (arp_reply (record { 0 = xs }) ip asked (record { 0 = mac })) (record { asker = record { 0 = xs }; ip = ip; asked = asked; mac = record { 0 = mac } }))
     (λ a b c d e f. six (λ ys. IsRead (arp_reply (record { 0 = a ∷ b ∷ c ∷ d ∷ e ∷ f ∷ [] }) ip asked (record { 0 = ys })) (record { asker = record { 0 = a ∷ b ∷ c ∷ d ∷ e ∷ f ∷ [] }; ip = ip; asked = asked; mac = record { 0 = ys } }))
-        (λ g h k l m n. record { long = refl; mac = refl; asked = λ i. record { 0 = spelt asked.0 i }; asker = refl }) mac six_mac)
+    (λ g h k l m n. record { long = refl; mac = refl; asked = λ i. record { 0 = spelt asked.0 i }; asker = refl }) mac six_mac)
     asker six_asker
 
 pub is_read : (frame : List ℕ) (a : Answer) → IsReplyOf frame a → IsRead frame a

@@ -7,6 +7,7 @@ use Rattle.net_types.specs.Octets.{address_at}
 use Rattle.net_types.specs.Routes.{longest_of}
 use Rattle.net_types.specs.declared.address.Ip.{Ip}
 use Rattle.net_types.specs.declared.address.Mac.{Mac}
+use Rattle.net_types.specs.declared.prefix.Prefix.{Prefix}
 use Rattle.border_router.specs.Known.{Known}
 
 -- an Ethernet frame from one MAC to another, with an IPv4 datagram
@@ -25,9 +26,13 @@ pub record HasHeaders (datagram : List ℕ) : Type 0 where
 abbrev pub destination : List ℕ → Ip
 destination datagram = address_at 16 datagram
 
--- the next hop of the longest prefix that covers an address
+-- the longest prefix that covers an address, of those that have a next hop
+abbrev pub prefix_to : Known → Ip → Option Prefix
+prefix_to k d = longest_of (keys k.next_hops) d
+
+-- the next hop of that prefix
 abbrev pub next_hop_to : Known → Ip → Option Ip
-next_hop_to k d = option_and_then (get k.next_hops) (longest_of (keys k.next_hops) d)
+next_hop_to k d = option_and_then (get k.next_hops) (prefix_to k d)
 
 -- the longest prefix that covers an address has a next hop whose MAC isn't known
 pub record IsUnresolved (k : Known) (d ip : Ip) : Type 0 where

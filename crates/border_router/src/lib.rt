@@ -6,7 +6,6 @@ mod addresses;
 mod fault;
 mod heard;
 mod message;
-
 mod octets;
 mod router;
 #[cfg(test)]
@@ -15,5 +14,4 @@ mod tests;
 pub use fault::TagFault;
 pub use heard::News;
 pub use message::news;
-
 pub use router::Router;

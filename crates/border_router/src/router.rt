@@ -1,11 +1,12 @@
-//! A router at a port of the exchange.
+//! A router at a port of the exchange: it goes by the longest prefix that it was told (RFC 1812 5.2.4.3), and asks for
+//! next hops by ARP (RFC 826).
 
 ghost use Rattle.std.specs.Prelude.{◌≡◌, ◌≤◌, ◌<◌, ◌+◌, [], length, Err, Some, None, IsOk, OnOk, IfOk, ◌↔◌};
 ghost use Rattle.std.specs.FinMap as map;
 ghost use Rattle.border_router.specs.Hearing.{Answer, IsReply, IsReplyOf, announced, withdrawn, with_answer, with_news};
 ghost use Rattle.border_router.specs.Known.{asked, ip_cmp};
 ghost use Rattle.net_types.specs.Maps.{ordered};
-ghost use Rattle.border_router.specs.Tagging.{HasHeaders, IsTagged, IsUnresolved, destination, next_hop_to};
+ghost use Rattle.border_router.specs.Tagging.{HasHeaders, IsTagged, IsUnresolved, destination, prefix_to};
 ghost use Rattle.net_types.specs.declared.address.Ip.{Ip as Address};
 
 use crate::addresses::Addresses;
@@ -112,7 +113,7 @@ impl Router {
     pub fn tag(&self, datagram: &[u8]) -> Result<Vec<u8>, TagFault>
         requires { HasHeaders datagram.now }
         // No prefix covers the destination.
-        ensures unrouted { (result ≡ Err TagFault.Unrouted) ↔ (next_hop_to self.now.known (destination datagram.now) ≡ None) }
+        ensures unrouted { (result ≡ Err TagFault.Unrouted) ↔ (prefix_to self.now.known (destination datagram.now) ≡ None) }
         // The next hop isn't resolved.
         ensures unresolved { (ip : Address) → (result ≡ Err (TagFault.Unresolved ip)) ↔ IsUnresolved self.now.known (destination datagram.now) ip }
         // It is, and this is the frame.

@@ -52,7 +52,12 @@ fn advert(alloc: Global) -> Result<News, Memory> {
 }
 
 /// Tells a router of one prefix.
-fn announce(alloc: Global, router: &mut Router, prefix: Prefix, next_hop: Ip) -> Result<(), Memory> {
+fn announce(
+    alloc: Global,
+    router: &mut Router,
+    prefix: Prefix,
+    next_hop: Ip,
+) -> Result<(), Memory> {
     let mut announced = Prefixes::new(alloc);
     announced.push(prefix)?;
     router.reserve(announced.len(), 0)?;
@@ -92,8 +97,8 @@ fn answer(router: &mut Router, asker: Mac, target: Ip, mac: Mac) -> Result<(), M
 fn sent(router: &Router, to: [u8; 4]) -> Result<Vec<u8>, TagFault> {
     let [a, b, c, d] = to;
     router.tag(&[
-        0x45, 0, 0, 0x1c, 0, 0, 0, 0, 0x40, 0x11, 0xac, 0xcc, 0xc0, 0, 2, 1, a, b, c, d, 3, 0xe8, 0,
-        0x50, 0, 8, 0, 0,
+        0x45, 0, 0, 0x1c, 0, 0, 0, 0, 0x40, 0x11, 0xac, 0xcc, 0xc0, 0, 2, 1, a, b, c, d, 3, 0xe8,
+        0, 0x50, 0, 8, 0, 0,
     ])
 }
 
