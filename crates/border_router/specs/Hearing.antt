@@ -13,14 +13,12 @@ use Rattle.net_types.specs.declared.address.Mac.{Mac}
 use Rattle.net_types.specs.declared.prefix.Prefix.{Prefix}
 use Rattle.net_types.specs.declared.route.Attrs.{Attrs}
 use Rattle.net_types.specs.declared.update.Update.{Update}
-use Rattle.bgp_update.specs.RoundTrip.{FitOptional}
 use Rattle.border_router.specs.Known.{Known, ip_cmp}
 use Rattle.border_router.specs.declared.heard.News.{News}
 
 -- the message is the canonical one of a sound update (RFC 4271 4.3)
 pub record IsMessageOf (message : List ℕ) (u : Update) : Type 0 where
   pub sound : IsSoundUpdate u
-  pub fits : FitOptional u.attrs
   pub short : length (canonical u) ≤ 4096
   pub is : message ≡ canonical u
 

@@ -44,7 +44,6 @@ news-requires c = record {
         unknown = tt;
       };
     };
-    fits = record { med = tt; aggregator = tt; communities = tt };
     short = lit≤ tt;
     is = refl;
   };
