@@ -11,7 +11,7 @@ use Rattle.net_types.specs.declared.route.Aggregator.{Aggregator}
 use Rattle.net_types.specs.declared.route.Attrs.{Attrs}
 use Rattle.net_types.specs.declared.route.Unknown.{Unknown}
 use Rattle.net_types.specs.declared.update.Update.{Update}
-use Rattle.bgp_update.specs.RoundTrip.{FitAttrs, FitOptional, FitsAggregator, FitsMed}
+use Rattle.bgp_update.specs.RoundTrip.{FitOptional, FitsAggregator, FitsMed}
 use Rattle.border_router.specs.Hearing.{IsMessageOf, news_of}
 
 -- the lowest 32 bits
@@ -80,8 +80,13 @@ fit_sound u s = record { announced = s.announced; withdrawn = s.withdrawn; apart
     of_attrs [] (Some a) h = h
     of_attrs (p ∷ ps) None h = h
     of_attrs (p ∷ ps) (Some a) h = record {
-      origin = h.origin; path = h.path; next_hop = h.next_hop; aggregator = h.aggregator;
-      partial = λ e. h.partial (no_more a.communities e); rising = h.rising; unknown = h.unknown;
+      origin = h.origin;
+      path = h.path;
+      next_hop = h.next_hop;
+      aggregator = h.aggregator;
+      partial = λ e. h.partial (no_more a.communities e);
+      rising = h.rising;
+      unknown = h.unknown;
     }
 
 -- ---- in the ranges of their types

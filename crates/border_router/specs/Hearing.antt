@@ -13,7 +13,7 @@ use Rattle.net_types.specs.declared.address.Mac.{Mac}
 use Rattle.net_types.specs.declared.prefix.Prefix.{Prefix}
 use Rattle.net_types.specs.declared.route.Attrs.{Attrs}
 use Rattle.net_types.specs.declared.update.Update.{Update}
-use Rattle.border_router.specs.Known.{Known, ip_cmp}
+use Rattle.border_router.specs.Known.{Known}
 use Rattle.border_router.specs.declared.heard.News.{News}
 
 -- the message is the canonical one of a sound update (RFC 4271 4.3)

@@ -1,5 +1,5 @@
 -- The message is the canonical one of this update.
-use Rattle.std.proofs.Common.{◌≡◌, [], ◌∷◌, false, refl, arith, rules, lit<, lit≤}
+use Rattle.std.proofs.Common.{[], ◌∷◌, false, refl, arith, lit<, lit≤}
 use Rattle.std.specs.Prelude.{Some, None}
 use Rattle.net_types.specs.declared.prefix.Prefix.{Prefix}
 use Rattle.net_types.specs.declared.route.Segment.TheVariants.{Sequence}

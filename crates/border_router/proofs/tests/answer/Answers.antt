@@ -1,7 +1,5 @@
 -- The frame is the reply to this request.
-use Rattle.std.proofs.Common.{refl, rules}
-use Rattle.border_router.specs.Hearing.{Answer, IsReplyOf}
-use Rattle.border_router.specs.Tagging.{framed}
+use Rattle.std.proofs.Common.{rules}
 use Rattle.border_router.proofs.tests.answer.Goals as goal
 
 pub hear_arp-requires-clause-reply : goal.hear_arp-requires-clause-reply

@@ -1,5 +1,5 @@
 -- Whatever its destination, the datagram has headers.
-use Rattle.std.proofs.Common.{refl, rules}
+use Rattle.std.proofs.Common.{refl}
 use Rattle.net_types.specs.Arp.{no_mac}
 use Rattle.border_router.proofs.tests.sent.Goals as goal
 

@@ -1,4 +1,4 @@
-use Rattle.std.proofs.Common.{set, sym, ap, ◌∙◌, arith}
+use Rattle.std.proofs.Common.{set, ap, arith}
 use Rattle.border_router.proofs.AddressLemmas.{set_at, insert_gap, carried, seen}
 use Rattle.border_router.proofs.addresses.Addresses.put.Goals as goal
 

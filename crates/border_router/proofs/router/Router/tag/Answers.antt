@@ -1,5 +1,5 @@
 -- By what the map holds for the longest prefix.
-use Rattle.std.proofs.Common.{◌≡◌, Some, sym, ap, ◌∙◌, rules}
+use Rattle.std.proofs.Common.{rules}
 use Rattle.border_router.proofs.router.Router.tag.Goals as goal
 
 pub returns-clause-framed : goal.returns-clause-framed
