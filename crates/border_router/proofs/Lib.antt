@@ -1,0 +1,4 @@
+pub mod AddressLemmas
+pub mod AskedLemmas
+pub mod ReplyLemmas
+pub mod FitLemmas

@@ -1,0 +1,4 @@
+pub mod Known
+pub mod Places
+pub mod Hearing
+pub mod Tagging
