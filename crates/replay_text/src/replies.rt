@@ -1,6 +1,6 @@
 //! Writing a reply.
-ghost use Rattle.std.specs.Prelude.{◌≡◌, ◌++◌, ◌∷◌, ◌<◌, [], IfOk, OnOk, string_bytes, flat_map};
-ghost use Rattle.events.specs.Text.{reply_text, head_text, refusal_text, tag_text, drop_text, flow_text, add_text, rule_line, hex_text, hex_text_digit, advert_text, ask_text, exchange_text, frame_text};
+ghost use Rattle.std.specs.Prelude.{◌≡◌, ◌++◌, ◌∷◌, ◌<◌, [], IfOk, OnOk, codes, string_bytes, flat_map};
+ghost use Rattle.events.specs.Text.{reply_text, head_text, refusal_text, tag_text, drop_text, end_line, flow_text, add_text, rule_line, hex_text, hex_text_digit, advert_text, ask_text, exchange_text, frame_text};
 ghost use Rattle.replay_text.specs.Fields.{pair_rule_text};
 
 use super::rules::{push_address, push_prefix, push_rule};
@@ -206,14 +206,21 @@ fn push_ask(text: &mut String, request: &Option<Bytes>) -> Result<(), Memory>
     Ok(())
 }
 
+/// Writes the reply to an ARP request.
+fn push_answer(text: &mut String, octets: &[u8]) -> Result<(), Memory>
+    ensures { OnOk result (string_bytes text.new ≡ string_bytes text.old ++ (codes "  reply " ++ hex_text octets.now ++ end_line)) }
+{
+    text.push_str("  reply ")?;
+    push_hex(text, octets)?;
+    text.push_str("\n")?;
+    Ok(())
+}
+
 fn push_exchange(text: &mut String, exchange: &Exchange) -> Result<(), Memory>
     ensures { OnOk result (string_bytes text.new ≡ string_bytes text.old ++ exchange_text exchange.now) }
 {
     push_ask(text, &exchange.request)?;
-    text.push_str("  reply ")?;
-    push_hex(text, exchange.reply.items())?;
-    text.push_str("\n")?;
-    Ok(())
+    push_answer(text, exchange.reply.items())
 }
 
 fn push_exchanges(text: &mut String, exchanges: &[Exchange]) -> Result<(), Memory>

@@ -301,10 +301,7 @@ fn octets_of_either_case_are_read(rt: HostRuntime) -> Result<(), Fail> {
     for (line, word, port, octets) in READ {
         let event = read_line(rt.alloc(), line)?;
         let parts = parts_of(&event);
-        assert!(rt;
-            parts.0 == word && parts.1 == port && parts.2 == octets,
-            "{word}"
-        );
+        assert!(rt; parts.0 == word && parts.1 == port && parts.2 == octets);
     }
     Ok(())
 }
