@@ -1,9 +1,0 @@
-use Rattle.std.proofs.Common.{arith, ap, length}
-use Rattle.replay_run.proofs.replay_text.PieceSplits.{pieces_some}
-use Rattle.replay_run.proofs.replay_text.pieces.one_piece.Goals as goal
-
-pub returns-in-Some : goal.returns-in-Some
-returns-in-Some c =
-    let cut = c.in-Some.ensures in
-    let more = pieces_some c.args.separator c.in-Some.field-0.1.now in
-    λ one. omega (arith, ap length cut, more)

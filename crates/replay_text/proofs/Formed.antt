@@ -1,0 +1,121 @@
+-- What a line gives is well formed.
+use Rattle.std.proofs.Common.{◌≡◌, ℕ, ◌+◌, ◌≤◌, Bool, true, false, cond, ◌&&◌, List, [], ◌∷◌, refl, nat_le, nat_eq, not, Option, Some, None, codes}
+use Rattle.std.specs.Prelude.{IfSome, IsTrue}
+use Rattle.std.specs.Option.{option_map, option_and_then}
+use Rattle.std.proofs.lemmas.Bool.{and_parts, leb-true}
+use Rattle.net_types.specs.declared.address.Ip.{Ip}
+use Rattle.net_types.specs.declared.address.PortNo.{PortNo}
+use Rattle.events.specs.declared.Event.{Event}
+use Rattle.events.specs.declared.Event.TheVariants.{Exchange, Participant, Port, Update, Drain, Arp, Resolve, Packet, Frame}
+use Rattle.events.specs.Fits.{IsWellFormed}
+use Rattle.events.specs.Lines.{only_if, number, number_within, port_number, as_number, address, hardware_address, is_name, name, bytes, exchange_event, exchange_line, participant_line, port_line, update_line, is_word, or_bad, event_of_words}
+
+then_holds : {X Y : Type 0} (P : X → Type 0) (Q : Y → Type 0) (o : Option X) (f : X → Option Y) → IfSome o P → ((x : X) → P x → IfSome (f x) Q) → IfSome (option_and_then f o) Q
+then_holds P Q None f h next = tt
+then_holds P Q (Some x) f h next = next x h
+
+map_holds : {X Y : Type 0} (P : X → Type 0) (Q : Y → Type 0) (o : Option X) (f : X → Y) → IfSome o P → ((x : X) → P x → Q (f x)) → IfSome (option_map f o) Q
+map_holds P Q None f h next = tt
+map_holds P Q (Some x) f h next = next x h
+
+any_holds : {X : Type 0} (o : Option X) → IfSome o (λ x. Unit {0})
+any_holds None = tt
+any_holds (Some x) = tt
+
+kept : {X : Type 0} (P : X → Type 0) (b : Bool) (x : X) → (b ≡ true → P x) → IfSome (cond b (Some x) None) P
+kept P true x h = h refl
+kept P false x h = tt
+
+-- what passes a test
+only_holds : {X : Type 0} (P Q : X → Type 0) (test : X → Bool) (o : Option X) → IfSome o P → ((x : X) → P x → test x ≡ true → Q x) → IfSome (only_if test o) Q
+only_holds P Q test None h next = tt
+only_holds P Q test (Some x) h next = kept Q (test x) x (next x h)
+
+abbrev IsWithin : ℕ → ℕ → ℕ → Type 0
+IsWithin low high n = (low ≤ n) × (n ≤ high)
+
+number_holds : (low high : ℕ) (text : List ℕ) → IfSome (number_within low high text) (IsWithin low high)
+number_holds low high text =
+    only_holds (λ n. Unit {0}) (IsWithin low high) (λ n. nat_le low n && nat_le n high) (number text) (any_holds (number text))
+    (λ n any passes. let parts = and_parts (nat_le low n) (nat_le n high) passes in (leb-true low n parts.0, leb-true n high parts.1))
+
+name_holds : (text : List ℕ) → IfSome (name text) (λ who. IsTrue (is_name who))
+name_holds text = kept (λ who. IsTrue (is_name who)) (is_name text) text (λ is. is)
+
+port_holds : (text : List ℕ) → IfSome (port_number text) (λ n. (1 ≤ n.0) × (n.0 ≤ 65279))
+port_holds text = map_holds (IsWithin 1 65279) (λ (n : PortNo). (1 ≤ n.0) × (n.0 ≤ 65279)) (number_within 1 65279 text) (λ n. record { 0 = n }) (number_holds 1 65279 text) (λ n h. h)
+
+as_holds : (text : List ℕ) → IfSome (as_number text) (IsWithin 1 65535)
+as_holds text = only_holds (IsWithin 1 65535) (IsWithin 1 65535) (λ n. not (nat_eq n 23456)) (number_within 1 65535 text) (number_holds 1 65535 text) (λ n h passes. h)
+
+exchange_holds : (base : Ip) (size capacity : ℕ) → IsWithin 1 65536 size → IsWithin 1 1000000 capacity → IfSome (exchange_event base size capacity) IsWellFormed
+exchange_holds base size capacity s c =
+    kept IsWellFormed (nat_le 16777215 base.0 && nat_le (base.0 + size) 3758096383) (Exchange base size capacity)
+    (λ passes.
+    let parts = and_parts (nat_le 16777215 base.0) (nat_le (base.0 + size) 3758096383) passes in
+    (s.0, s.1, c.0, c.1, leb-true 16777215 base.0 parts.0, leb-true (base.0 + size) 3758096383 parts.1))
+
+exchange_formed : (a b c : List ℕ) → IfSome (exchange_line a b c) IsWellFormed
+exchange_formed a b c =
+    then_holds (λ base. Unit {0}) IsWellFormed (address a) _ (any_holds (address a))
+    (λ base any. then_holds (IsWithin 1 65536) IsWellFormed (number_within 1 65536 b) _ (number_holds 1 65536 b)
+    (λ size s. then_holds (IsWithin 1 1000000) IsWellFormed (number_within 1 1000000 c) _ (number_holds 1 1000000 c)
+    (λ capacity h. exchange_holds base size capacity s h)))
+
+participant_formed : (a b c : List ℕ) → IfSome (participant_line a b c) IsWellFormed
+participant_formed a b c =
+    then_holds (λ who. IsTrue (is_name who)) IsWellFormed (name a) _ (name_holds a)
+    (λ who n. then_holds (IsWithin 1 65535) IsWellFormed (as_number b) _ (as_holds b)
+    (λ asn h. map_holds (λ id. Unit {0}) IsWellFormed (only_if (λ (id : Ip). not (nat_eq id.0 0)) (address c)) (λ id. Participant who asn id)
+    (any_holds (only_if (λ (id : Ip). not (nat_eq id.0 0)) (address c))) (λ id any. (n, h.0, h.1))))
+
+port_formed : (a b c d : List ℕ) → IfSome (port_line a b c d) IsWellFormed
+port_formed a b c d =
+    then_holds (λ who. IsTrue (is_name who)) IsWellFormed (name a) _ (name_holds a)
+    (λ who n. then_holds (λ q. (1 ≤ q.0) × (q.0 ≤ 65279)) IsWellFormed (port_number b) _ (port_holds b)
+    (λ q h. then_holds (λ ip. Unit {0}) IsWellFormed (address c) _ (any_holds (address c))
+    (λ ip any. map_holds (λ mac. Unit {0}) IsWellFormed (hardware_address d) (λ mac. Port who q ip mac) (any_holds (hardware_address d))
+    (λ mac one. (n, h.0, h.1)))))
+
+update_formed : (a b : List ℕ) → IfSome (update_line a b) IsWellFormed
+update_formed a b =
+    then_holds (λ who. IsTrue (is_name who)) IsWellFormed (name a) _ (name_holds a)
+    (λ who n. map_holds (λ octets. Unit {0}) IsWellFormed (bytes b) (λ octets. Update who octets) (any_holds (bytes b)) (λ octets any. n))
+
+-- a port and octets, whatever is made of them
+at_port : (f : PortNo → List ℕ → Event) (a b : List ℕ) → ((n : PortNo) (octets : List ℕ) → (1 ≤ n.0) × (n.0 ≤ 65279) → IsWellFormed (f n octets))
+    → IfSome (option_and_then (λ n. option_map (λ octets. f n octets) (bytes b)) (port_number a)) IsWellFormed
+at_port f a b is =
+    then_holds (λ n. (1 ≤ n.0) × (n.0 ≤ 65279)) IsWellFormed (port_number a) _ (port_holds a)
+    (λ n h. map_holds (λ octets. Unit {0}) IsWellFormed (bytes b) (λ octets. f n octets) (any_holds (bytes b)) (λ octets any. is n octets h))
+
+resolve_formed : (a : List ℕ) → IfSome (option_map (λ n. Resolve n) (port_number a)) IsWellFormed
+resolve_formed a = map_holds (λ n. (1 ≤ n.0) × (n.0 ≤ 65279)) IsWellFormed (port_number a) (λ n. Resolve n) (port_holds a) (λ n h. h)
+
+drain_formed : (a : List ℕ) → IfSome (option_map (λ who. Drain who) (name a)) IsWellFormed
+drain_formed a = map_holds (λ who. IsTrue (is_name who)) IsWellFormed (name a) (λ who. Drain who) (name_holds a) (λ who n. n)
+
+or_bad_formed : (o : Option Event) → IfSome o IsWellFormed → IsWellFormed (or_bad o)
+or_bad_formed None h = tt
+or_bad_formed (Some e) h = h
+
+if_formed : (b : Bool) (e f : Event) → IsWellFormed e → IsWellFormed f → IsWellFormed (cond b e f)
+if_formed true e f h k = h
+if_formed false e f h k = k
+
+pub words_formed : (ws : List (List ℕ)) → IsWellFormed (event_of_words ws)
+words_formed [] = tt
+words_formed (w ∷ []) = if_formed (is_word w (codes "table")) _ _ tt tt
+words_formed (w ∷ a ∷ []) =
+    if_formed (is_word w (codes "drain")) _ _ (or_bad_formed _ (drain_formed a))
+    (if_formed (is_word w (codes "resolve")) _ _ (or_bad_formed _ (resolve_formed a)) tt)
+words_formed (w ∷ a ∷ b ∷ []) =
+    if_formed (is_word w (codes "update")) _ _ (or_bad_formed _ (update_formed a b))
+    (if_formed (is_word w (codes "arp")) _ _ (or_bad_formed _ (at_port (λ n octets. Arp n octets) a b (λ n octets h. h)))
+    (if_formed (is_word w (codes "packet")) _ _ (or_bad_formed _ (at_port (λ n octets. Packet n octets) a b (λ n octets h. h)))
+    (if_formed (is_word w (codes "frame")) _ _ (or_bad_formed _ (at_port (λ n octets. Frame n octets) a b (λ n octets h. h))) tt)))
+words_formed (w ∷ a ∷ b ∷ c ∷ []) =
+    if_formed (is_word w (codes "exchange")) _ _ (or_bad_formed _ (exchange_formed a b c))
+    (if_formed (is_word w (codes "participant")) _ _ (or_bad_formed _ (participant_formed a b c)) tt)
+words_formed (w ∷ a ∷ b ∷ c ∷ d ∷ []) = if_formed (is_word w (codes "port")) _ _ (or_bad_formed _ (port_formed a b c d)) tt
+words_formed (w ∷ a ∷ b ∷ c ∷ d ∷ e ∷ others) = tt

@@ -1,0 +1,255 @@
+//! Reading a line.
+ghost use Rattle.std.specs.Prelude.{◌≡◌, ◌∷◌, codes, nat_eq, not, IfOk, IfSome};
+ghost use Rattle.std.specs.Option.{option_map};
+ghost use Rattle.events.specs.declared.Event.TheVariants.{Arp, Frame, Packet, Participant, Port};
+ghost use Rattle.events.specs.Fits.{IsWellFormed};
+ghost use Rattle.events.specs.Lines.{address, arp_line, event_of, event_of_word, event_of_words, frame_line, is_skipped, only_if, or_bad, packet_line, pieces, update_line};
+
+use super::fields::{
+    address, as_number, bytes, copied, hardware_address, name, number_within, port_number,
+};
+use super::pieces::{four_pieces, one_piece, split_once, three_pieces, two_pieces};
+use events::Event;
+use net_types::{Bytes, Ip, Mac, Memory, PortNo};
+use std::alloc::Global;
+
+fn exchange(text: &[u8]) -> Option<Event>
+    ensures { or_bad result ≡ event_of_words (codes "exchange" ∷ pieces 32 text.now) }
+{
+    let (base, size, capacity) = three_pieces(text, b' ')?;
+    let base = address(base)?;
+    let size = number_within(1, 65536, size)?;
+    let capacity = number_within(1, 1000000, capacity)?;
+    // The pool ends at 223.255.255.255 or before.
+    if base.0 < 16777215 || base.0 > 3758096383 - size {
+        return None;
+    }
+    Some(Event::Exchange {
+        base,
+        size,
+        capacity,
+    })
+}
+
+/// A BGP identifier, which isn't zero (RFC 6286 2.1).
+fn identifier(text: &[u8]) -> Option<Ip>
+    ensures { result ≡ only_if (λ (id : Ip). not (nat_eq id.0 0)) (address text.now) }
+{
+    let id = address(text)?;
+    if id.0 == 0 {
+        return None;
+    }
+    Some(id)
+}
+
+fn participant_fields(text: &[u8]) -> Option<(&[u8], u32, Ip)>
+    ensures { or_bad (option_map (λ f. Participant f.0.now f.1 f.2) result) ≡ event_of_words (codes "participant" ∷ pieces 32 text.now) }
+{
+    let (who, asn, id) = three_pieces(text, b' ')?;
+    let who = name(who)?;
+    let asn = as_number(asn)?;
+    let id = identifier(id)?;
+    Some((who, asn, id))
+}
+
+fn participant(alloc: Global, text: &[u8]) -> Result<Option<Event>, Memory>
+    ensures { IfOk result (λ event. or_bad event ≡ event_of_words (codes "participant" ∷ pieces 32 text.now)) }
+{
+    let Some((name, asn, id)) = participant_fields(text) else {
+        return Ok(None);
+    };
+    let name = copied(alloc, name)?;
+    Ok(Some(Event::Participant { name, asn, id }))
+}
+
+fn port_fields(text: &[u8]) -> Option<(&[u8], PortNo, Ip, Mac)>
+    ensures { or_bad (option_map (λ f. Port f.0.now f.1 f.2 f.3) result) ≡ event_of_words (codes "port" ∷ pieces 32 text.now) }
+{
+    let (who, number, ip, mac) = four_pieces(text, b' ')?;
+    let who = name(who)?;
+    let number = port_number(number)?;
+    let ip = address(ip)?;
+    let mac = hardware_address(mac)?;
+    Some((who, number, ip, mac))
+}
+
+fn port(alloc: Global, text: &[u8]) -> Result<Option<Event>, Memory>
+    ensures { IfOk result (λ event. or_bad event ≡ event_of_words (codes "port" ∷ pieces 32 text.now)) }
+{
+    let Some((name, number, ip, mac)) = port_fields(text) else {
+        return Ok(None);
+    };
+    let name = copied(alloc, name)?;
+    Ok(Some(Event::Port {
+        name,
+        number,
+        ip,
+        mac,
+    }))
+}
+
+fn update_event(alloc: Global, who: &[u8], octets: &[u8]) -> Result<Option<Event>, Memory>
+    ensures { IfOk result (λ event. event ≡ update_line who.now octets.now) }
+{
+    let Some(who) = name(who) else {
+        return Ok(None);
+    };
+    let Some(bytes) = bytes(alloc, octets)? else {
+        return Ok(None);
+    };
+    let name = copied(alloc, who)?;
+    Ok(Some(Event::Update { name, bytes }))
+}
+
+fn update(alloc: Global, text: &[u8]) -> Result<Option<Event>, Memory>
+    ensures { IfOk result (λ event. or_bad event ≡ event_of_words (codes "update" ∷ pieces 32 text.now)) }
+{
+    match two_pieces(text, b' ') {
+        Some((who, octets)) => update_event(alloc, who, octets),
+        None => Ok(None),
+    }
+}
+
+fn drain(alloc: Global, text: &[u8]) -> Result<Option<Event>, Memory>
+    ensures { IfOk result (λ event. or_bad event ≡ event_of_words (codes "drain" ∷ pieces 32 text.now)) }
+{
+    let Some(who) = one_piece(text, b' ') else {
+        return Ok(None);
+    };
+    let Some(who) = name(who) else {
+        return Ok(None);
+    };
+    let name = copied(alloc, who)?;
+    Ok(Some(Event::Drain { name }))
+}
+
+fn resolve(text: &[u8]) -> Option<Event>
+    ensures { or_bad result ≡ event_of_words (codes "resolve" ∷ pieces 32 text.now) }
+{
+    let port = one_piece(text, b' ')?;
+    let port = port_number(port)?;
+    Some(Event::Resolve { port })
+}
+
+fn octets_at(alloc: Global, port: &[u8], octets: &[u8]) -> Result<Option<(PortNo, Bytes)>, Memory>
+    ensures arp { IfOk result (λ parts. option_map (λ p. Arp p.0 p.1) parts ≡ arp_line port.now octets.now) }
+    ensures packet { IfOk result (λ parts. option_map (λ p. Packet p.0 p.1) parts ≡ packet_line port.now octets.now) }
+    ensures frame { IfOk result (λ parts. option_map (λ p. Frame p.0 p.1) parts ≡ frame_line port.now octets.now) }
+{
+    let Some(port) = port_number(port) else {
+        return Ok(None);
+    };
+    let Some(bytes) = bytes(alloc, octets)? else {
+        return Ok(None);
+    };
+    Ok(Some((port, bytes)))
+}
+
+/// A port and octets: the parts of `arp`, `packet` and `frame`.
+fn port_and_octets(alloc: Global, text: &[u8]) -> Result<Option<(PortNo, Bytes)>, Memory>
+    ensures arp { IfOk result (λ parts. or_bad (option_map (λ p. Arp p.0 p.1) parts) ≡ event_of_words (codes "arp" ∷ pieces 32 text.now)) }
+    ensures packet { IfOk result (λ parts. or_bad (option_map (λ p. Packet p.0 p.1) parts) ≡ event_of_words (codes "packet" ∷ pieces 32 text.now)) }
+    ensures frame { IfOk result (λ parts. or_bad (option_map (λ p. Frame p.0 p.1) parts) ≡ event_of_words (codes "frame" ∷ pieces 32 text.now)) }
+{
+    match two_pieces(text, b' ') {
+        Some((port, octets)) => octets_at(alloc, port, octets),
+        None => Ok(None),
+    }
+}
+
+fn arp(alloc: Global, text: &[u8]) -> Result<Option<Event>, Memory>
+    ensures { IfOk result (λ event. or_bad event ≡ event_of_words (codes "arp" ∷ pieces 32 text.now)) }
+{
+    match port_and_octets(alloc, text)? {
+        Some((port, bytes)) => Ok(Some(Event::Arp { port, bytes })),
+        None => Ok(None),
+    }
+}
+
+fn packet(alloc: Global, text: &[u8]) -> Result<Option<Event>, Memory>
+    ensures { IfOk result (λ event. or_bad event ≡ event_of_words (codes "packet" ∷ pieces 32 text.now)) }
+{
+    match port_and_octets(alloc, text)? {
+        Some((port, bytes)) => Ok(Some(Event::Packet { port, bytes })),
+        None => Ok(None),
+    }
+}
+
+fn frame(alloc: Global, text: &[u8]) -> Result<Option<Event>, Memory>
+    ensures { IfOk result (λ event. or_bad event ≡ event_of_words (codes "frame" ∷ pieces 32 text.now)) }
+{
+    match port_and_octets(alloc, text)? {
+        Some((port, bytes)) => Ok(Some(Event::Frame { port, bytes })),
+        None => Ok(None),
+    }
+}
+
+/// The event of a line of one word.
+fn word_event(word: &[u8]) -> Event
+    ensures { result ≡ event_of_word word.now }
+{
+    match word {
+        b"table" => Event::Table,
+        _ => Event::Bad,
+    }
+}
+
+/// The event of a line with this word before the first space and this text behind it.
+fn verb_event(alloc: Global, word: &[u8], rest: &[u8]) -> Result<Option<Event>, Memory>
+    ensures { IfOk result (λ event. or_bad event ≡ event_of_words (word.now ∷ pieces 32 rest.now)) }
+{
+    if word == b"update".as_slice() {
+        update(alloc, rest)
+    } else if word == b"drain".as_slice() {
+        drain(alloc, rest)
+    } else if word == b"packet".as_slice() {
+        packet(alloc, rest)
+    } else if word == b"frame".as_slice() {
+        frame(alloc, rest)
+    } else if word == b"arp".as_slice() {
+        arp(alloc, rest)
+    } else if word == b"resolve".as_slice() {
+        Ok(resolve(rest))
+    } else if word == b"exchange".as_slice() {
+        Ok(exchange(rest))
+    } else if word == b"participant".as_slice() {
+        participant(alloc, rest)
+    } else if word == b"port".as_slice() {
+        port(alloc, rest)
+    } else {
+        Ok(None)
+    }
+}
+
+/// An empty line and a comment.
+fn is_skipped(line: &[u8]) -> bool
+    ensures { result ≡ is_skipped line.now }
+{
+    matches!(line, [] | [b'#', ..])
+}
+
+fn line_event(alloc: Global, line: &[u8]) -> Result<Event, Memory>
+    ensures { IfOk result (λ event. event ≡ event_of_words (pieces 32 line.now)) }
+{
+    let Some((word, rest)) = split_once(line, b' ') else {
+        return Ok(word_event(line));
+    };
+    match verb_event(alloc, word, rest)? {
+        Some(event) => Ok(event),
+        None => Ok(Event::Bad),
+    }
+}
+
+/// The event of a line; none where the line is skipped.
+pub fn read_line(alloc: Global, line: &[u8]) -> Result<Option<Event>, Memory>
+    ensures event { IfOk result (λ event. event ≡ event_of line.now) }
+    ensures formed { IfOk result (λ event. IfSome event IsWellFormed) }
+{
+    if line.len() > 20000 {
+        return Ok(Some(Event::Bad));
+    }
+    if is_skipped(line) {
+        return Ok(None);
+    }
+    Ok(Some(line_event(alloc, line)?))
+}
