@@ -8,32 +8,8 @@ use Rattle.std.specs.Int.{bit_at}
 use Rattle.net_types.proofs.BitLemmas.{same_bits-quotient}
 use Rattle.net_types.proofs.PrefixLemmas.{prefix_from_bits, same_bits_sym, same_bits_trans}
 use Rattle.net_types.specs.Bits.{same_bits}
+pub use Rattle.net_types.specs.FirstBits.{cleared_address, first_bits_of}
 use Rattle.net_types.specs.declared.prefix.Prefix.{Prefix}
-
--- the address with zeros behind the first n bits
-abbrev pub cleared_address : ℕ → ℕ → ℕ
-cleared_address n a = a % 2 ^ 32 / 2 ^ (32 - min n 32) * 2 ^ (32 - min n 32)
-
-short : (n : ℕ) → min n 32 ≤ 32
-short n = omega arith
-
-in_range : (n a : ℕ) → cleared_address n a < 2 ^ 32
-in_range n a =
-    let small : a % 2 ^ 32 < 2 ^ 32 = mod-lt a (lit< tt) in
-    omega (arith, small, div-mul-le_self (a % 2 ^ 32) (2 ^ (32 - min n 32)))
-
-zeros : (n a : ℕ) → cleared_address n a % 2 ^ (32 - min n 32) ≡ 0
-zeros n a = mul-mod_left (a % 2 ^ 32 / 2 ^ (32 - min n 32)) (2 ^ (32 - min n 32))
-
--- the prefix of the first n bits
-pub first_bits_of : ℕ → ℕ → Prefix
-first_bits_of n a = record {
-  address = record { 0 = cleared_address n a };
-  len = min n 32;
-  in_range = in_range n a;
-  short = short n;
-  host_bits_zero = zeros n a;
-}
 
 pub first_bits_of-len : (n a : ℕ) → n ≤ 32 → (first_bits_of n a).len ≡ n
 unfolding first_bits_of
@@ -58,7 +34,7 @@ first_bits_of-bits n a le =
     let quotient : cleared_address n a / 2 ^ (32 - n) ≡ a % 2 ^ 32 / 2 ^ (32 - n) =
     ap (λ (m : ℕ). a % 2 ^ 32 / 2 ^ (32 - m) * 2 ^ (32 - m) / 2 ^ (32 - n)) e ∙ mul-div_left (a % 2 ^ 32 / 2 ^ (32 - n)) (pow_pos (32 - n)) in
     same_bits_trans n (cleared_address n a) (a % 2 ^ 32) a
-    (same_bits-quotient n (cleared_address n a) (a % 2 ^ 32) le (in_range n a) small ∙ eq-eqb _ _ quotient)
+    (same_bits-quotient n (cleared_address n a) (a % 2 ^ 32) le (first_bits_of n a).in_range small ∙ eq-eqb _ _ quotient)
     (same_low_bits n a le)
 
 -- prefixes of one length that have the first bits of one address are one

@@ -1,3 +1,2 @@
-pub mod Isolation
 pub mod Measures
 pub mod SmallExchange

@@ -3,12 +3,12 @@
 ghost use Rattle.std.specs.Prelude.{◌≡◌};
 ghost use Rattle.policy_syntax.specs.Views.{test_of, target_of, pred_of, policy_of};
 ghost use Rattle.policy_syntax.specs.Nodes.{node_of};
-ghost use Rattle.policy_isolate.specs.Isolation.{first_of, pred_faults, in_test, in_target, in_faults};
+ghost use Rattle.net_types.specs.Isolation.{first_of, pred_faults, in_test, in_target, in_faults};
 
-use crate::fault::{IsolateFault, Kind, refused};
+use crate::fault::refused;
 use crate::names::Names;
 use crate::ports::own_port;
-use net_types::{Pid, Span};
+use net_types::{IsolateFault, Kind, Pid, Span};
 use policy_syntax::{Node, Pred, Target, Test, Tree};
 
 fn tested(test: Test, span: Span) -> Result<(), IsolateFault>

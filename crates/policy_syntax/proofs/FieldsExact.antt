@@ -10,7 +10,7 @@ use Rattle.grammar.specs.TextReading as reading
 use Rattle.grammar.specs.TextReading.{Reader, read_word, read_maybe, read_either}
 use Rattle.grammar.specs.TokenReading.{read_name, read_number, read_spaces, read_sign}
 use Rattle.net_types.specs.Policies.{Name, Src, Dst, Proto, Sport, Dport}
-use Rattle.policy_syntax.specs.PolicyGrammar.{inport_is, number_is, SrcIs, DstIs, SportIs, DportIs, target, prefix, prefix_of, field, test, assign}
+use Rattle.net_types.specs.PolicyGrammar.{inport_is, number_is, SrcIs, DstIs, SportIs, DportIs, target, prefix, prefix_of, field, test, assign}
 use Rattle.grammar.specs.Tokens.{address}
 use Rattle.grammar.specs.Octets.{among}
 use Rattle.policy_syntax.specs.PolicyReading.{read_target, read_prefix, read_prefix_len, read_lead, read_field, read_end, read_test, read_assign}

@@ -3,7 +3,7 @@ use Rattle.std.proofs.Common.{◌≡◌, ℕ, ◌≤◌, IsTrue, sym, subst, ◌
 use Rattle.net_types.specs.Bits.{same_bits}
 use Rattle.net_types.specs.declared.prefix.Prefix.{Prefix}
 use Rattle.net_types.proofs.FirstBits.{first_bits_of-len, first_bits_of-bits, one_of_bits}
-use Rattle.policy_syntax.specs.PolicyGrammar.{prefix_of}
+use Rattle.net_types.specs.PolicyGrammar.{prefix_of}
 
 pub is_prefix_of : (ip len : ℕ) (p : Prefix) → len ≤ 32 → p.len ≡ len → IsTrue (same_bits len p.address.0 ip) → p ≡ prefix_of ip len
 is_prefix_of ip len p le e h =

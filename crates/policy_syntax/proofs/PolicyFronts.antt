@@ -5,7 +5,7 @@ use Rattle.grammar.specs.Rules.{Rule, pure, run, ◌>>=◌}
 use Rattle.grammar.specs.Tokens.{is_space, number}
 use Rattle.grammar.specs.Exactness.{HasFronts}
 use Rattle.net_types.specs.Policies.{Policy, Pred}
-use Rattle.policy_syntax.specs.PolicyGrammar.{target, prefix, field, test, assign, prim_with, lit_with, conj_with, pred_with, pred_group, fwd, match_with, assigned, modify, keyword, atom_with, chain_with, policy_with, policy_group, policy}
+use Rattle.net_types.specs.PolicyGrammar.{target, prefix, field, test, assign, prim_with, lit_with, conj_with, pred_with, pred_group, fwd, match_with, assigned, modify, keyword, atom_with, chain_with, policy_with, policy_group, policy}
 use Rattle.grammar.proofs.Fronts.{pure_fronts, place_fronts, never_fronts, word_fronts, run_fronts, either_fronts, maybe_fronts, both_fronts, many_fronts, name_fronts, number_fronts, sign_fronts, parens_fronts, groups_fronts, address_fronts}
 
 target_fronts : HasFronts target

@@ -8,7 +8,7 @@ use Rattle.net_types.specs.Policies.{Target, Name, Test, Src, Dst, Proto, Sport,
 use Rattle.net_types.specs.declared.prefix.Prefix.{Prefix}
 use Rattle.net_types.specs.declared.headers.Assign.{Assign}
 use Rattle.net_types.specs.Headers.{no_change}
-use Rattle.policy_syntax.specs.PolicyGrammar.{inport_is, number_is, Field, SrcIs, DstIs, SportIs, DportIs, span, prefix_of, with_field}
+use Rattle.net_types.specs.PolicyGrammar.{inport_is, number_is, Field, SrcIs, DstIs, SportIs, DportIs, span, prefix_of, with_field}
 
 unfoldable pub read_target : Reader Target
 read_target = read_either is_letter (do n ← read_name; pure (Name n)) (do n ← read_number 1 65279; pure (number_is n))

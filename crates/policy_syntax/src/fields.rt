@@ -2,7 +2,7 @@
 
 ghost use Rattle.std.specs.Prelude.{◌≡◌, ◌<◌, ◌≤◌, ◌^◌, length, codes, IfOk};
 ghost use Rattle.grammar.specs.TokenReading.{read_number, read_address};
-ghost use Rattle.policy_syntax.specs.PolicyGrammar.{prefix_of, inport_is, SrcIs, DstIs, SportIs, DportIs};
+ghost use Rattle.net_types.specs.PolicyGrammar.{prefix_of, inport_is, SrcIs, DstIs, SportIs, DportIs};
 ghost use Rattle.policy_syntax.specs.PolicyReading.{read_target, read_prefix_len, read_prefix, read_lead, read_field, read_end, read_test, read_assign, read_assign_spaces, read_set, read_sets};
 ghost use Rattle.net_types.specs.Policies.{Proto, Src, Sport, Dst, Dport};
 ghost use Rattle.policy_syntax.specs.Answers.{Gives};

@@ -1,12 +1,13 @@
 -- Isolation: what a part of a policy may not do, as the exchange's own rule. The faults of a policy stand in the order of its text.
-use Rattle.std.specs.Prelude.{ℕ, ◌==◌, Option, Some, None, List, [], ◌∷◌, ◌++◌, Result, Ok, Err, if◌then◌else◌}
+use Rattle.std.specs.Prelude.{◌≡◌, ℕ, ◌==◌, ◌<◌, ◌⊎◌, Option, Some, None, List, [], ◌∷◌, ◌++◌, Result, Ok, Err, if◌then◌else◌}
 use Rattle.net_types.specs.declared.address.Pid.{Pid}
 use Rattle.net_types.specs.declared.address.PortNo.{PortNo}
 use Rattle.net_types.specs.declared.headers.Span.{Span}
+use Rattle.net_types.specs.Sets.{Member}
 use Rattle.net_types.specs.Policies.{Target, Name, Number, Test, Inport, Src, Dst, Proto, Sport, Dport, Pred, Yes, Is, Not, And, Or, Policy, Drop, Pass, Block, Fwd, Match, Set, Both, Then}
-use Rattle.policy_isolate.specs.declared.fault.Kind.{Kind}
-use Rattle.policy_isolate.specs.declared.fault.Kind.TheVariants.{UnknownName, OwnName, FwdKind, ForeignPort, ModifyOutbound, InportInbound}
-use Rattle.policy_isolate.specs.declared.fault.IsolateFault.{IsolateFault}
+use Rattle.net_types.specs.declared.isolation.Kind.{Kind}
+use Rattle.net_types.specs.declared.isolation.Kind.TheVariants.{UnknownName, OwnName, FwdKind, ForeignPort, ModifyOutbound, InportInbound}
+use Rattle.net_types.specs.declared.isolation.IsolateFault.{IsolateFault}
 
 -- the one fault of a part that stands there
 abbrev pub broken : Kind → Span → List IsolateFault
@@ -84,3 +85,8 @@ in_faults owner_of me (Then p q) = in_faults owner_of me p ++ in_faults owner_of
 abbrev pub first_of : List IsolateFault → Result (Unit {0}) IsolateFault
 first_of [] = Ok tt
 first_of (fault ∷ faults) = Err fault
+
+-- it is one of the faults, and each other one begins further on in the text
+pub record IsFirstInText (fault : IsolateFault) (faults : List IsolateFault) : Type 0 where
+  pub one : Member fault faults
+  pub first : (other : IsolateFault) → Member other faults → (other ≡ fault) ⊎ (fault.span.start < other.span.start)

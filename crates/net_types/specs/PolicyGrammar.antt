@@ -10,7 +10,7 @@ use Rattle.net_types.specs.declared.headers.Assign.{Assign}
 use Rattle.net_types.specs.declared.prefix.Prefix.{Prefix}
 use Rattle.net_types.specs.Headers.{no_change}
 use Rattle.net_types.specs.Policies.{Target, Name, Number, Test, Inport, Src, Dst, Proto, Sport, Dport, Pred, Yes, Is, Not, And, Or, Policy, Drop, Pass, Block, Fwd, Match, Set, Both, Then}
-use Rattle.net_types.proofs.FirstBits.{first_bits_of}
+use Rattle.net_types.specs.FirstBits.{first_bits_of}
 
 -- an assignment to one field
 pub data Field : Type 0 where
