@@ -1,7 +1,6 @@
 pub mod FieldsExact
 pub mod PolicyExact
 pub mod PolicyFronts
-pub mod FirstBits
 pub mod Answered
 pub mod ReadBack
 pub mod PolicyBack

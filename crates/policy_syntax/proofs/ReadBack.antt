@@ -19,7 +19,7 @@ use Rattle.policy_syntax.specs.Canonical.{Level, Loose, Middle, Tight, Single, g
 use Rattle.policy_syntax.specs.ReadsBack.{SoundTest, bare_pred, FitsPred}
 use Rattle.grammar.proofs.Numbers.{number_from-append}
 use Rattle.net_types.proofs.PrefixLemmas.{same_bits_refl}
-use Rattle.policy_syntax.proofs.FirstBits.{is_prefix_of}
+use Rattle.text_fields.proofs.FirstBits.{is_prefix_of}
 
 -- ---- numbers
 

@@ -1,6 +1,6 @@
 use Rattle.std.proofs.Common.{length, ◌+◌, ◌≡◌, drop}
 use Rattle.grammar.specs.TextReading.{read_word}
-use Rattle.policy_syntax.proofs.tokens.word.Given as goal
+use Rattle.text_fields.proofs.tokens.word.Given as goal
 
 -- what is left of the word is still to be read
 abbrev pub invariant-loop-octet : goal.invariant-loop-octet

@@ -1,7 +1,7 @@
 use Rattle.std.proofs.Common.{sym, ◌∙◌, subst}
 use Rattle.std.specs.Str.{IsUtf8}
 use Rattle.grammar.proofs.TokenLoops.{name_utf8}
-use Rattle.policy_syntax.proofs.tokens.name.Goals as goal
+use Rattle.text_fields.proofs.tokens.name.Goals as goal
 
 pub unreachable-requires : goal.unreachable-requires
 unreachable-requires c =

@@ -1,8 +1,8 @@
 use Rattle.std.proofs.Common.{subst, sym}
-use Rattle.policy_syntax.specs.Answers.{Fails}
+use Rattle.text_fields.specs.Answers.{Fails}
 use Rattle.grammar.specs.TextReading.{read_word}
 use Rattle.grammar.proofs.TokenLoops.{word_at_end}
-use Rattle.policy_syntax.proofs.tokens.word.Goals as goal
+use Rattle.text_fields.proofs.tokens.word.Goals as goal
 
 pub returns-in-empty-clause-reads : goal.returns-in-empty-clause-reads
 returns-in-empty-clause-reads c =

@@ -1,7 +1,7 @@
 use Rattle.std.proofs.Common.{◌≤◌, ◌≡◌, length}
 use Rattle.grammar.specs.Tokens.{is_space}
 use Rattle.grammar.specs.TextReading.{after_run}
-use Rattle.policy_syntax.proofs.tokens.spaces.Given as goal
+use Rattle.text_fields.proofs.tokens.spaces.Given as goal
 
 -- the spaces behind those so far are those of the whole
 abbrev pub invariant-loop-left : goal.invariant-loop-left

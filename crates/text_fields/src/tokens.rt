@@ -5,10 +5,10 @@ ghost use Rattle.std.specs.List.{list_any};
 ghost use Rattle.grammar.specs.Octets.{among, next_is};
 ghost use Rattle.grammar.specs.Tokens.{is_letter, is_digit, is_name_octet, is_space};
 ghost use Rattle.grammar.specs.TextReading.{after_run, read_word};
-ghost use Rattle.grammar.specs.TokenReading.{read_sign, name_len, read_name, read_number};
-ghost use Rattle.policy_syntax.specs.Answers.{Gives};
+ghost use Rattle.grammar.specs.TokenReading.{read_sign, name_len, read_name, read_number, read_gap};
+ghost use Rattle.text_fields.specs.Answers.{Gives};
 
-use crate::fault::SyntaxFault;
+use crate::fault::WrongOctet;
 use std::str;
 
 /// The place at which the rest of a text stands.
@@ -19,16 +19,18 @@ pub fn place(size: usize, rest: &[u8]) -> u32
     size.saturating_sub(rest.len()) as u32
 }
 
-pub fn wrong(size: usize, rest: &[u8]) -> SyntaxFault
+/// No text goes on with the next octet, or ends here.
+pub fn wrong(size: usize, rest: &[u8]) -> WrongOctet
     requires { size < 2 ^ 32 }
-    ensures { result ≡ SyntaxFault.Syntax (size - length rest.now) }
+    ensures { result ≡ record { at = size - length rest.now } }
 {
-    SyntaxFault::Syntax {
+    WrongOctet {
         at: place(size, rest),
     }
 }
 
-pub fn word<'a>(size: usize, word: &[u8], rest: &'a [u8]) -> Result<&'a [u8], SyntaxFault>
+/// What is left behind a word.
+pub fn word<'a>(size: usize, word: &[u8], rest: &'a [u8]) -> Result<&'a [u8], WrongOctet>
     requires { size < 2 ^ 32 }
     ensures reads { Gives (λ r. (tt, r.now)) result (read_word word.now size rest.now) }
     ensures left { IfOk result (λ r. length r.now + length word.now ≡ length rest.now) }
@@ -54,7 +56,7 @@ fn is_among(octet: u8, octets: &[u8]) -> bool
     octets.iter().any(|x| octet == *x)
 }
 
-/// The next octet is one of these.
+/// Whether the next octet is one of these.
 pub fn next_is(octets: &[u8], rest: &[u8]) -> bool
     ensures { result ≡ next_is (among octets.now) rest.now }
 {
@@ -64,6 +66,7 @@ pub fn next_is(octets: &[u8], rest: &[u8]) -> bool
     }
 }
 
+/// What is left behind the spaces, of which there may be none.
 pub fn spaces(rest: &[u8]) -> &[u8]
     ensures reads { result.now ≡ after_run is_space rest.now }
     ensures left { length result.now ≤ length rest.now }
@@ -75,8 +78,20 @@ pub fn spaces(rest: &[u8]) -> &[u8]
     left
 }
 
-/// A word or a sign, and the spaces behind it.
-pub fn sign<'a>(size: usize, sign: &[u8], rest: &'a [u8]) -> Result<&'a [u8], SyntaxFault>
+/// What is left behind at least one space.
+pub fn gap(size: usize, rest: &[u8]) -> Result<&[u8], WrongOctet>
+    requires { size < 2 ^ 32 }
+    ensures reads { Gives (λ r. (tt, r.now)) result (read_gap size rest.now) }
+    ensures left { IfOk result (λ r. length r.now < length rest.now) }
+{
+    match rest {
+        [b' ', others @ ..] => Ok(spaces(others)),
+        _ => Err(wrong(size, rest)),
+    }
+}
+
+/// What is left behind a word or a sign and the spaces behind it.
+pub fn sign<'a>(size: usize, sign: &[u8], rest: &'a [u8]) -> Result<&'a [u8], WrongOctet>
     requires { size < 2 ^ 32 }
     ensures reads { Gives (λ r. (tt, r.now)) result (read_sign sign.now size rest.now) }
     ensures left { IfOk result (λ r. length r.now + length sign.now ≤ length rest.now) }
@@ -84,6 +99,7 @@ pub fn sign<'a>(size: usize, sign: &[u8], rest: &'a [u8]) -> Result<&'a [u8], Sy
     Ok(spaces(word(size, sign, rest)?))
 }
 
+/// Whether an octet is a letter of either case.
 pub fn is_letter(octet: u8) -> bool
     ensures { result ≡ is_letter octet }
 {
@@ -107,7 +123,8 @@ fn name_len(rest: &[u8]) -> usize
         .count()
 }
 
-pub fn name(size: usize, rest: &[u8]) -> Result<(&str, &[u8]), SyntaxFault>
+/// A name, of which as many octets are read as may be, and what is left.
+pub fn name(size: usize, rest: &[u8]) -> Result<(&str, &[u8]), WrongOctet>
     requires { size < 2 ^ 32 }
     ensures reads { Gives (λ x. (x.0.now, x.1.now)) result (read_name size rest.now) }
     ensures left { IfOk result (λ x. length x.1.now < length rest.now) }
@@ -124,8 +141,8 @@ pub fn name(size: usize, rest: &[u8]) -> Result<(&str, &[u8]), SyntaxFault>
     }
 }
 
-/// A number from low to high, of which more digits are read as long as it stays up to high.
-pub fn number(size: usize, low: u32, high: u32, rest: &[u8]) -> Result<(u32, &[u8]), SyntaxFault>
+/// A number from low to high, of which more digits are read as long as it stays up to high, and what is left.
+pub fn number(size: usize, low: u32, high: u32, rest: &[u8]) -> Result<(u32, &[u8]), WrongOctet>
     requires size { size < 2 ^ 32 }
     requires nine { 9 ≤ high }
     requires high { high < 2 ^ 16 }

@@ -1,6 +1,6 @@
 use Rattle.std.proofs.Common.{◌<◌, ◌≡◌, ◌≤◌, length}
 use Rattle.grammar.specs.TokenReading.{digits_from}
-use Rattle.policy_syntax.proofs.tokens.number.Given as goal
+use Rattle.text_fields.proofs.tokens.number.Given as goal
 
 -- the digits behind those so far make the same number
 abbrev pub invariant-loop-left : goal.invariant-loop-left
