@@ -1,5 +1,7 @@
 //! Rows of the registry's calls: three participants and their four ports.
 
+ghost use Rattle.std.specs.Prelude.{◌≡◌, length, IfOk};
+
 use crate::{RegFault, Registry};
 use net_types::{Ip, Mac, Pid, PortNo};
 use std::alloc::Global;
@@ -9,7 +11,9 @@ fn mac(last: u8) -> Mac {
     Mac([2, 0, 0, 0, 0, last])
 }
 
-fn three(alloc: Global) -> Result<Registry, RegFault> {
+fn three(alloc: Global) -> Result<Registry, RegFault>
+    ensures { IfOk result (λ names. length names.participants ≡ 3) }
+{
     let mut names = Registry::new(alloc);
     names.add_participant("A", 65001, Ip(0x0A000001))?;
     names.add_participant("B", 65002, Ip(0x0A000002))?;
@@ -44,15 +48,17 @@ fn names_and_ports_are_found(rt: HostRuntime) -> Result<(), Fail> {
 #[test]
 fn what_is_declared_is_taken(rt: HostRuntime) -> Result<(), Fail> {
     let mut names = three(rt.alloc())?;
-    assert!(rt; names.add_participant("B", 1, Ip(1)) == Err(RegFault::Taken));
     let rows = [
-        (PortNo(4), Ip(9), mac(9)),
-        (PortNo(9), Ip(0xAC100101), mac(9)),
-        (PortNo(9), Ip(9), mac(2)),
+        (PortNo(4), Ip(9), mac(9), true),
+        (PortNo(9), Ip(0xAC100101), mac(9), true),
+        (PortNo(9), Ip(9), mac(2), true),
+        (PortNo(9), Ip(9), mac(9), false),
     ];
-    for (number, ip, mac) in rows {
-        assert!(rt; names.add_port(Pid(0), number, ip, mac) == Err(RegFault::Taken));
+    for (number, ip, mac, taken) in rows {
+        assert!(rt; names.is_taken(number, ip, mac) == taken);
     }
-    assert!(rt; names.add_port(Pid(0), PortNo(9), Ip(9), mac(9)) == Ok(()));
+    let port = names.add_port(Pid(0), PortNo(4), Ip(9), mac(9));
+    assert!(rt; port == Err(RegFault::Taken));
+    assert!(rt; names.add_participant("B", 1, Ip(1)) == Err(RegFault::Taken));
     Ok(())
 }
