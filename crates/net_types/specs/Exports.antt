@@ -1,4 +1,9 @@
 -- Export rules, and which routes a participant gives to which other (this exchange's own rule).
+-- which prefixes a rule is about: every one, one alone, or one and all that lie within it
+pub use Rattle.net_types.specs.declared.export.Which.{Which}
+pub use Rattle.net_types.specs.declared.export.Which.TheVariants.{Every, Exactly, Within}
+-- a rule without a participant is about every one
+pub use Rattle.net_types.specs.declared.export.ExportRule.{ExportRule}
 use Rattle.std.specs.Prelude.{ℕ, Bool, true, false, ◌&&◌, not, nat_eq, List, [], ◌∷◌, slice_get, Option, unwrap_or, if◌then◌else◌}
 use Rattle.std.specs.List.{list_any, position_from}
 use Rattle.std.specs.Option.{option_map, option_map_or}
@@ -13,18 +18,6 @@ use Rattle.net_types.specs.declared.route.Participant.{Participant}
 use Rattle.net_types.specs.declared.route.PortInfo.{PortInfo}
 use Rattle.net_types.specs.declared.route.Segment.{Segment}
 use Rattle.net_types.specs.declared.route.Segment.TheVariants.{Set, Sequence}
-
--- which prefixes a rule is about: every one, one alone, or one and all that lie within it
-pub data Which : Type 0 where
-  Every : Which
-  Exactly : Prefix → Which
-  Within : Prefix → Which
-
--- a rule without a participant is about every one
-pub record ExportRule : Type 0 where
-  pub allow : Bool
-  pub who : Option Pid
-  pub which : Which
 
 -- the same address and length
 abbrev pub same_prefix : Prefix → Prefix → Bool

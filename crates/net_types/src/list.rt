@@ -3,6 +3,7 @@
 ghost use Rattle.std.specs.Prelude.{◌≡◌, ◌==◌, ◌++◌, ◌∷◌, [], OnOk, OnErr, List, length};
 
 use crate::address::{Ip, Pid, Tag};
+use crate::export::ExportRule;
 use crate::memory::Memory;
 use crate::prefix::Prefix;
 use crate::route::{Offer, Part, Segment, Unknown};
@@ -113,3 +114,6 @@ pub type Offers = Items<Offer>;
 pub type Sig = Items<Part>;
 
 pub type Actions = Items<Action>;
+
+/// A participant's export rules, in their order.
+pub type ExportRules = Items<ExportRule>;

@@ -1,7 +1,7 @@
 -- The first fault of two parts, one behind the other.
 use Rattle.std.proofs.Common.{◌≡◌, List, [], ◌∷◌, ◌++◌, Result, Ok, Err}
-use Rattle.policy_isolate.specs.declared.fault.IsolateFault.{IsolateFault}
-use Rattle.policy_isolate.specs.Isolation.{first_of}
+use Rattle.net_types.specs.declared.isolation.IsolateFault.{IsolateFault}
+use Rattle.net_types.specs.Isolation.{first_of}
 
 pub first_then : (xs ys : List IsolateFault) (r : Result (Unit {0}) IsolateFault) → Ok tt ≡ first_of xs → r ≡ first_of ys → r ≡ first_of (xs ++ ys)
 first_then [] ys r h k = k

@@ -1,3 +1,1 @@
-pub mod Isolation
 pub mod Measures
-pub mod SmallExchange

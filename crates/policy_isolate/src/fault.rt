@@ -1,33 +1,9 @@
 //! How a policy breaks isolation.
 
 ghost use Rattle.std.specs.Prelude.{◌≡◌};
-ghost use Rattle.policy_isolate.specs.Isolation.{first_of, broken};
+ghost use Rattle.net_types.specs.Isolation.{first_of, broken};
 
-use net_types::Span;
-
-/// What a part of a policy does that its owner may not.
-#[derive(Clone, Copy, Debug, PartialEq, Eq)]
-pub enum Kind {
-    /// It sends to a name that nobody has.
-    UnknownName,
-    /// It sends to its own participant.
-    OwnName,
-    /// It sends out of a port where a participant is to be named, or the other way round.
-    FwdKind,
-    /// It names another participant's port, or one that isn't there.
-    ForeignPort,
-    /// It sets fields of what leaves its participant.
-    ModifyOutbound,
-    /// It asks by which port a packet came in that it receives.
-    InportInbound,
-}
-
-/// The first part of a policy that breaks isolation, with the octets where it stands.
-#[derive(Clone, Copy, Debug, PartialEq, Eq)]
-pub struct IsolateFault {
-    pub kind: Kind,
-    pub span: Span,
-}
+use net_types::{IsolateFault, Kind, Span};
 
 pub(crate) fn refused(kind: Kind, span: Span) -> Result<(), IsolateFault>
     ensures { result ≡ first_of (broken kind span) }

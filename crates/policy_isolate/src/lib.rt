@@ -9,7 +9,7 @@ mod ports;
 #[cfg(test)]
 mod tests;
 
-pub use fault::{IsolateFault, Kind};
 pub use inbound::check_in;
 pub use names::Names;
+pub use net_types::{IsolateFault, Kind};
 pub use outbound::check_out;

@@ -5,6 +5,7 @@ ghost use Rattle.net_types.specs.declared.address.Pid.{Pid};
 ghost use Rattle.net_types.specs.declared.address.PortNo.{PortNo};
 
 use net_types::{Pid, PortNo};
+use registry::Registry;
 
 /// Participants by their names, and ports by their owners.
 pub trait Names {
@@ -19,4 +20,26 @@ pub trait Names {
 
     fn owner(&self, port: PortNo) -> Option<Pid>
         ensures { result ≡ owner_of self.now port };
+}
+
+/// Those that are declared.
+impl Names for Registry {
+    ghost use Rattle.std.specs.Option.{option_map};
+    ghost use Rattle.net_types.specs.declared.route.PortInfo.{PortInfo};
+    ghost use Rattle.registry.specs.Registered.{named, port_of};
+
+    ghost pid_of = { λ r name. named r name };
+
+    ghost owner_of = { λ r number. option_map (λ (port : PortInfo). port.owner) (port_of r number) };
+
+    fn find(&self, name: &str) -> Option<Pid> {
+        self.find_octets(name.as_bytes())
+    }
+
+    fn owner(&self, port: PortNo) -> Option<Pid> {
+        match self.port(port) {
+            None => None,
+            Some(port) => Some(port.owner),
+        }
+    }
 }

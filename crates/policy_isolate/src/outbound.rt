@@ -1,14 +1,15 @@
 //! What a participant may do with the packets that it sends.
 
-ghost use Rattle.std.specs.Prelude.{◌≡◌};
+ghost use Rattle.std.specs.Prelude.{◌≡◌, ℕ, List, IfErr};
 ghost use Rattle.policy_syntax.specs.Views.{test_of, target_of, pred_of, policy_of};
 ghost use Rattle.policy_syntax.specs.Nodes.{node_of};
-ghost use Rattle.policy_isolate.specs.Isolation.{first_of, pred_faults, out_test, out_target, out_faults};
+ghost use Rattle.net_types.specs.PolicyTexts.{SpellsPolicy};
+ghost use Rattle.net_types.specs.Isolation.{IsFirstInText, first_of, pred_faults, out_test, out_target, out_faults};
 
-use crate::fault::{IsolateFault, Kind, refused};
+use crate::fault::refused;
 use crate::names::Names;
 use crate::ports::own_port;
-use net_types::{Pid, Span};
+use net_types::{IsolateFault, Kind, Pid, Span};
 use policy_syntax::{Node, Pred, Target, Test, Tree};
 
 fn tested<N: Names>(names: &N, me: Pid, test: Test, span: Span) -> Result<(), IsolateFault>
@@ -92,7 +93,10 @@ fn passed<N: Names>(names: &N, me: Pid, node: Node<'_, '_>) -> Result<(), Isolat
 /// Whether a participant may have the policy as its outbound one; the first fault in the text where it may not.
 #[cycle(outbound)]
 pub fn check_out<N: Names>(tree: &Tree<'_>, names: &N, me: Pid) -> Result<(), IsolateFault>
-    ensures { result ≡ first_of (out_faults (N.pid_of names.now) (N.owner_of names.now) me (policy_of tree.now)) }
+    // It may have a policy without faults.
+    ensures told { result ≡ first_of (out_faults (N.pid_of names.now) (N.owner_of names.now) me (policy_of tree.now)) }
+    // Of a tree that a text spells no other fault begins before the one that is told.
+    ensures first { (text : List ℕ) → SpellsPolicy text (policy_of tree.now) → IfErr result (λ fault. IsFirstInText fault (out_faults (N.pid_of names.now) (N.owner_of names.now) me (policy_of tree.now))) }
 {
     passed(names, me, tree.node())
 }

@@ -1,11 +1,11 @@
 //! Ports of a participant's own.
 
 ghost use Rattle.std.specs.Prelude.{◌≡◌};
-ghost use Rattle.policy_isolate.specs.Isolation.{first_of, port_faults};
+ghost use Rattle.net_types.specs.Isolation.{first_of, port_faults};
 
-use crate::fault::{IsolateFault, Kind, refused};
+use crate::fault::refused;
 use crate::names::Names;
-use net_types::{Pid, PortNo, Span};
+use net_types::{IsolateFault, Kind, Pid, PortNo, Span};
 
 /// Refuses a port that isn't the participant's.
 pub(crate) fn own_port<N: Names>(

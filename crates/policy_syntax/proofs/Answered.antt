@@ -7,7 +7,7 @@ use Rattle.grammar.proofs.TextAnswers.{text_ok, text_err, text_found}
 use Rattle.net_types.specs.Policies.{Policy}
 use Rattle.policy_syntax.specs.declared.fault.SyntaxFault.{SyntaxFault}
 use Rattle.policy_syntax.specs.declared.fault.SyntaxFault.TheVariants.{TextLong, Syntax, TooDeep, Memory}
-use Rattle.policy_syntax.specs.PolicyGrammar.{policy}
+use Rattle.net_types.specs.PolicyGrammar.{policy}
 use Rattle.policy_syntax.specs.PolicyReading.{read_start}
 use Rattle.policy_syntax.specs.After.{after_policy}
 use Rattle.policy_syntax.specs.Answers.{cause_of, Gives, IsCause, FindsText}

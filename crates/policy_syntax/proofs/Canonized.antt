@@ -2,7 +2,7 @@
 use Rattle.std.proofs.Common.{ℕ, List, [], subst}
 use Rattle.std.proofs.lemmas.List.{append-nil}
 use Rattle.net_types.specs.Policies.{Policy}
-use Rattle.policy_syntax.specs.PolicyGrammar.{policy_with, pred_group, policy_group}
+use Rattle.net_types.specs.PolicyGrammar.{policy_with, pred_group, policy_group}
 use Rattle.policy_syntax.specs.Canonical.{canonical, Loose}
 use Rattle.policy_syntax.specs.ReadsBack.{FitsPolicy, SoundAssign, ReadsBack}
 use Rattle.policy_syntax.proofs.ReadBack.{no_spaces}

@@ -1,19 +1,22 @@
 -- Targets, addresses, prefixes and fields are read exactly.
 use Rattle.grammar.proofs.DottedAddresses as dotted
+use Rattle.text_fields.proofs.PrefixExact as prefixes
+use Rattle.text_fields.proofs.PrefixExact.{prefix_heads}
+use Rattle.text_fields.specs.PrefixReading.{read_prefix}
 use Rattle.std.proofs.Common.{◌≡◌, ℕ, ◌≤◌, Bool, true, false, List, [], ◌∷◌, ◌++◌, refl, sym, ap, arith, inl, inr, leb, eqb}
 use Rattle.std.specs.Prelude.{◌⊎◌, ◌&&◌, not, codes}
 use Rattle.std.proofs.lemmas.Bool.{or_left, eq-eqb, both_ways, or_cases, and_parts, leb-true, eqb-true, not_from_false, not-true, false_from_ne_true}
 use Rattle.grammar.specs.Rules as rules
-use Rattle.grammar.specs.Rules.{Rule, ◌>>=◌, either, maybe, word}
+use Rattle.grammar.specs.Rules.{Rule, ◌>>=◌, either, word}
 use Rattle.grammar.specs.Tokens.{name, number, is_letter, is_digit, is_name_octet}
 use Rattle.grammar.specs.TextReading as reading
-use Rattle.grammar.specs.TextReading.{Reader, read_word, read_maybe, read_either}
+use Rattle.grammar.specs.TextReading.{Reader, read_word, read_either}
 use Rattle.grammar.specs.TokenReading.{read_name, read_number, read_spaces, read_sign}
 use Rattle.net_types.specs.Policies.{Name, Src, Dst, Proto, Sport, Dport}
-use Rattle.policy_syntax.specs.PolicyGrammar.{inport_is, number_is, SrcIs, DstIs, SportIs, DportIs, target, prefix, prefix_of, field, test, assign}
+use Rattle.net_types.specs.PolicyGrammar.{inport_is, number_is, SrcIs, DstIs, SportIs, DportIs, target, prefix, field, test, assign}
 use Rattle.grammar.specs.Tokens.{address}
 use Rattle.grammar.specs.Octets.{among}
-use Rattle.policy_syntax.specs.PolicyReading.{read_target, read_prefix, read_prefix_len, read_lead, read_field, read_end, read_test, read_assign}
+use Rattle.policy_syntax.specs.PolicyReading.{read_target, read_lead, read_field, read_end, read_test, read_assign}
 use Rattle.grammar.specs.TokenReading.{read_address}
 use Rattle.grammar.proofs.Exact.{same_reader, on_read-on_read, both_exact, tighter}
 use Rattle.grammar.specs.Exactness.{IsExact}
@@ -84,45 +87,13 @@ target_exact d =
 pub address_exact : (d : ℕ) → IsExact (λ e. address) d after_address read_address
 address_exact d = dotted.address_exact d after_address (flip after_address is_digit (among_apart (codes "/ )|&,") is_digit refl))
 
--- ---- prefixes
-
-abbrev is_slash : ℕ → Bool
-is_slash = among (codes "/")
-
-length_heads : Heads (λ e. rules.◌>>◌ (word (codes "/")) (number 0 32)) is_slash
-length_heads = both_heads (λ e. word (codes "/")) (λ _ e. number 0 32) is_slash (word_heads 47 [] is_slash refl)
-
-length_opens : (at c : ℕ) → is_slash c ≡ true → (rules.◌>>◌ (word (codes "/")) (number 0 32)).Begins at (c ∷ [])
-unfolding ◌>>=◌
-length_opens at c h = go (or_cases (eqb c 47) false h)
-  where
-    go : (eqb c 47 ≡ true) ⊎ (false ≡ true) → (rules.◌>>◌ (word (codes "/")) (number 0 32)).Begins at (c ∷ [])
-    go (inl e) = let same : c ≡ 47 = eqb-true c 47 e in inl ([], ap (λ (x : ℕ). x ∷ []) (sym same))
-    go (inr e) = absurd cc
-
-slash_apart : Apart is_slash after_value
-slash_apart = among_apart (codes "/") after_value refl
-
-slash_within : Within is_slash after_address
-slash_within = among_within (codes "/") after_address refl
-
 value_within : Within after_value after_address
 value_within = among_within (codes " )|&,") after_address refl
 
-pub prefix_exact : (d : ℕ) → IsExact (λ e. prefix) d after_value read_prefix
-unfolding read_prefix read_prefix_len
-prefix_exact d =
-    both_exact (λ e. address) _ d after_address after_value
-    (λ ip. both_leads _ _ after_value after_value after_address
-    (maybe_leads 32 _ d is_slash after_value length_heads slash_apart length_opens after_address slash_within value_within)
-    (λ len. pure_leads (prefix_of ip len) after_value after_value (λ c h. h)))
-    read_address _ (address_exact d)
-    (λ ip. map_exact _ (λ len. prefix_of ip len) d after_value _
-    (maybe_exact 32 _ d is_slash after_value length_heads slash_apart length_opens _
-    (word_then (codes "/") (λ e. number 0 32) d after_value (read_number 0 32) (number_exact 0 32 (omega arith) (omega arith) d after_value (flip after_value is_digit (among_apart (codes " )|&,") is_digit refl))))))
+-- ---- prefixes
 
-pub prefix_heads : Heads (λ e. prefix) is_digit
-prefix_heads = both_heads _ _ is_digit address_heads
+prefix_exact : (d : ℕ) → IsExact (λ e. prefix) d after_value read_prefix
+prefix_exact d = prefixes.prefix_exact (codes " )|&,") refl refl d
 
 -- ---- fields
 

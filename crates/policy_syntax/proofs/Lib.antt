@@ -1,10 +1,10 @@
 pub mod FieldsExact
 pub mod PolicyExact
 pub mod PolicyFronts
-pub mod FirstBits
 pub mod Answered
 pub mod ReadBack
 pub mod PolicyBack
 pub mod SetsBack
 pub mod Canonized
 pub mod SpelledFits
+pub mod SpelledSpans

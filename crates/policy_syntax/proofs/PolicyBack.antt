@@ -7,7 +7,7 @@ use Rattle.grammar.specs.Rules.{Rule, place, word, ◌>>=◌}
 use Rattle.grammar.specs.Octets.{AllPass}
 use Rattle.grammar.specs.Tokens.{is_space, number, name, spaces}
 use Rattle.net_types.specs.declared.headers.Span.{Span}
-use Rattle.policy_syntax.specs.PolicyGrammar.{number_is, span, target, pred_with, pred_group, policy_group, fwd, match_with, modify, atom_from, atom_with, chain_with, policy_with, then_atom, plus_chain}
+use Rattle.net_types.specs.PolicyGrammar.{number_is, span, target, pred_with, pred_group, policy_group, fwd, match_with, modify, atom_from, atom_with, chain_with, policy_with, then_atom, plus_chain}
 use Rattle.net_types.specs.declared.headers.Assign.{Assign}
 use Rattle.net_types.specs.Policies.{Target, Name, Number, Pred, Policy, Drop, Pass, Block, Fwd, Match, Set, Both, Then}
 use Rattle.grammar.specs.Tokens.{parens}

@@ -5,15 +5,12 @@ use Rattle.grammar.specs.Rules.{Rule, pure, run, ◌>>=◌}
 use Rattle.grammar.specs.Tokens.{is_space, number}
 use Rattle.grammar.specs.Exactness.{HasFronts}
 use Rattle.net_types.specs.Policies.{Policy, Pred}
-use Rattle.policy_syntax.specs.PolicyGrammar.{target, prefix, field, test, assign, prim_with, lit_with, conj_with, pred_with, pred_group, fwd, match_with, assigned, modify, keyword, atom_with, chain_with, policy_with, policy_group, policy}
-use Rattle.grammar.proofs.Fronts.{pure_fronts, place_fronts, never_fronts, word_fronts, run_fronts, either_fronts, maybe_fronts, both_fronts, many_fronts, name_fronts, number_fronts, sign_fronts, parens_fronts, groups_fronts, address_fronts}
+use Rattle.text_fields.proofs.PrefixExact.{prefix_fronts}
+use Rattle.net_types.specs.PolicyGrammar.{target, field, test, assign, prim_with, lit_with, conj_with, pred_with, pred_group, fwd, match_with, assigned, modify, keyword, atom_with, chain_with, policy_with, policy_group, policy}
+use Rattle.grammar.proofs.Fronts.{pure_fronts, place_fronts, never_fronts, word_fronts, run_fronts, either_fronts, both_fronts, many_fronts, name_fronts, number_fronts, sign_fronts, parens_fronts, groups_fronts, address_fronts}
 
 target_fronts : HasFronts target
 target_fronts = either_fronts _ _ (both_fronts _ _ name_fronts (λ n. pure_fronts _)) (both_fronts _ _ (number_fronts 1 65279 (omega arith) (omega arith)) (λ n. pure_fronts _))
-
-prefix_fronts : HasFronts prefix
-prefix_fronts =
-    both_fronts _ _ address_fronts (λ ip. both_fronts _ _ (maybe_fronts 32 _ (both_fronts _ _ (word_fronts (codes "/")) (λ _. number_fronts 0 32 (omega arith) (omega arith)))) (λ len. pure_fronts _))
 
 field_fronts : {X Y : Type 0} (w : List ℕ) (value : Rule X) (make : X → Y) → HasFronts value → HasFronts (field w value make)
 field_fronts w value make hv =

@@ -11,7 +11,7 @@ use Rattle.grammar.specs.Octets.{AllPass}
 use Rattle.grammar.specs.Tokens.{is_digit, is_space, number_of, IsNumber, number, sign, spaces}
 use Rattle.grammar.specs.Rules.{place}
 use Rattle.net_types.specs.declared.prefix.Prefix.{Prefix}
-use Rattle.policy_syntax.specs.PolicyGrammar.{inport_is, prefix_of, span, field, prefix, test, tested, prim_with, lit_with, conj_with, pred_with, and_lit, or_conj, pred_group}
+use Rattle.net_types.specs.PolicyGrammar.{inport_is, prefix_of, span, field, prefix, test, tested, prim_with, lit_with, conj_with, pred_with, and_lit, or_conj, pred_group}
 use Rattle.net_types.specs.declared.headers.Span.{Span}
 use Rattle.net_types.specs.Policies.{Test, Inport, Src, Dst, Proto, Sport, Dport, Pred, Yes, Is, Not, And, Or}
 use Rattle.grammar.specs.Tokens.{address, parens}
@@ -19,7 +19,7 @@ use Rattle.policy_syntax.specs.Canonical.{Level, Loose, Middle, Tight, Single, g
 use Rattle.policy_syntax.specs.ReadsBack.{SoundTest, bare_pred, FitsPred}
 use Rattle.grammar.proofs.Numbers.{number_from-append}
 use Rattle.net_types.proofs.PrefixLemmas.{same_bits_refl}
-use Rattle.policy_syntax.proofs.FirstBits.{is_prefix_of}
+use Rattle.text_fields.proofs.FirstBits.{is_prefix_of}
 
 -- ---- numbers
 

@@ -7,7 +7,7 @@ use Rattle.std.proofs.lemmas.List.{append-nil}
 use Rattle.grammar.specs.Rules.{place, word, ◌>>=◌, many, SpellsTimes}
 use Rattle.grammar.specs.Octets.{AllPass}
 use Rattle.grammar.specs.Tokens.{is_space, number, spaces}
-use Rattle.policy_syntax.specs.PolicyGrammar.{span, with_field, Field, SrcIs, DstIs, SportIs, DportIs, assign, assigned, more_assigned, modify}
+use Rattle.net_types.specs.PolicyGrammar.{span, with_field, Field, SrcIs, DstIs, SportIs, DportIs, assign, assigned, more_assigned, modify}
 use Rattle.net_types.specs.declared.headers.Assign.{Assign}
 use Rattle.net_types.specs.Headers.{no_change}
 use Rattle.net_types.specs.Policies.{Set}

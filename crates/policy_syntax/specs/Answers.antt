@@ -7,7 +7,7 @@ use Rattle.grammar.specs.Texts.{IsSyntaxFault, IsDeepFault}
 use Rattle.net_types.specs.Policies.{Policy}
 use Rattle.policy_syntax.specs.declared.fault.SyntaxFault.{SyntaxFault}
 use Rattle.policy_syntax.specs.declared.fault.SyntaxFault.TheVariants.{TextLong, Syntax, TooDeep, Memory}
-use Rattle.policy_syntax.specs.PolicyGrammar.{policy}
+use Rattle.net_types.specs.PolicyGrammar.{policy}
 
 -- what a fault says of a reading
 abbrev pub cause_of : SyntaxFault → Cause Fault

@@ -1,4 +1,3 @@
-pub mod PolicyGrammar
 pub mod PolicyReading
 pub mod After
 pub mod Views

@@ -1,26 +1,17 @@
 -- Reading a policy from left to right, one octet ahead.
 use Rattle.std.specs.Prelude.{ℕ, zero, suc, List, length, codes}
 use Rattle.grammar.specs.Tokens.{is_letter}
-use Rattle.grammar.specs.TextReading.{Reader, ◌>>=◌, ◌>>◌, pure, place, read_word, read_either, read_maybe, read_many}
+use Rattle.grammar.specs.TextReading.{Reader, ◌>>=◌, ◌>>◌, pure, place, read_word, read_either, read_many}
 use Rattle.grammar.specs.Octets.{among}
 use Rattle.grammar.specs.TokenReading.{read_parens, read_too_deep, read_address, read_sign, read_spaces, read_name, read_number}
 use Rattle.net_types.specs.Policies.{Target, Name, Test, Src, Dst, Proto, Sport, Dport, Pred, Yes, Is, Not, And, Or, Policy, Drop, Pass, Block, Fwd, Match, Set, Both, Then}
-use Rattle.net_types.specs.declared.prefix.Prefix.{Prefix}
+use Rattle.text_fields.specs.PrefixReading.{read_prefix}
 use Rattle.net_types.specs.declared.headers.Assign.{Assign}
 use Rattle.net_types.specs.Headers.{no_change}
-use Rattle.policy_syntax.specs.PolicyGrammar.{inport_is, number_is, Field, SrcIs, DstIs, SportIs, DportIs, span, prefix_of, with_field}
+use Rattle.net_types.specs.PolicyGrammar.{inport_is, number_is, Field, SrcIs, DstIs, SportIs, DportIs, span, with_field}
 
 unfoldable pub read_target : Reader Target
 read_target = read_either is_letter (do n ← read_name; pure (Name n)) (do n ← read_number 1 65279; pure (number_is n))
-
-unfoldable pub read_prefix_len : Reader ℕ
-read_prefix_len = read_maybe (among (codes "/")) 32 (do read_word (codes "/"); read_number 0 32)
-
-unfoldable pub read_prefix : Reader Prefix
-read_prefix = do
-  ip ← read_address
-  len ← read_prefix_len
-  pure (prefix_of ip len)
 
 -- a field from behind the part of its name that tells it apart
 unfoldable pub read_lead : List ℕ → Reader (Unit {0})

@@ -4,7 +4,7 @@ use Rattle.grammar.specs.Tokens.{IsName}
 use Rattle.net_types.specs.declared.address.Ip.{Ip}
 use Rattle.net_types.specs.declared.headers.Assign.{Assign}
 use Rattle.net_types.specs.Policies.{Target, Name, Number, Test, Inport, Src, Dst, Proto, Sport, Dport, Pred, Yes, Is, Not, And, Or, Policy, Drop, Pass, Block, Fwd, Match, Set, Both, Then}
-use Rattle.policy_syntax.specs.PolicyGrammar.{span, Field, SrcIs, DstIs, SportIs, DportIs, policy}
+use Rattle.net_types.specs.PolicyGrammar.{span, Field, SrcIs, DstIs, SportIs, DportIs, policy}
 use Rattle.policy_syntax.specs.Canonical.{Level, Loose, Middle, Tight, Single, group_first, group_second, group_third, canonical}
 
 abbrev pub SoundTest : Test → Type 0

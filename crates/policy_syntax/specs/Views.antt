@@ -10,7 +10,7 @@ use Rattle.policy_syntax.specs.declared.tree.Pred.TheVariants as preds
 use Rattle.policy_syntax.specs.declared.tree.Tree as tree
 use Rattle.policy_syntax.specs.declared.tree.Tree.TheVariants as trees
 use Rattle.net_types.specs.Policies.{Target, Test, Pred, Policy, Name, Number, Inport, Src, Dst, Proto, Sport, Dport, Yes, Is, Not, And, Or, Drop, Pass, Block, Fwd, Match, Set, Both, Then}
-use Rattle.policy_syntax.specs.PolicyGrammar.{Field, SrcIs, DstIs, SportIs, DportIs}
+use Rattle.net_types.specs.PolicyGrammar.{Field, SrcIs, DstIs, SportIs, DportIs}
 
 -- an assignment to one field
 abbrev pub field_of : field.Field → Field

@@ -1,9 +1,10 @@
 //! Why a text is no policy.
 
 ghost use Rattle.std.specs.Prelude.{◌≡◌};
-ghost use Rattle.policy_syntax.specs.declared.fault.SyntaxFault.TheVariants.{Memory};
+ghost use Rattle.policy_syntax.specs.declared.fault.SyntaxFault.TheVariants.{Syntax, Memory};
 
 use std::alloc::{AllocError, AllocFailed};
+use text_fields::WrongOctet;
 
 /// What is wrong with a text.
 #[derive(Clone, Copy, Debug, PartialEq, Eq)]
@@ -16,6 +17,14 @@ pub enum SyntaxFault {
     TooDeep { at: u32 },
     /// Memory ran out.
     Memory,
+}
+
+impl From<WrongOctet> for SyntaxFault {
+    ghost from_gives = { λ wrong e. e ≡ Syntax wrong.at };
+
+    fn from(wrong: WrongOctet) -> SyntaxFault {
+        SyntaxFault::Syntax { at: wrong.at }
+    }
 }
 
 impl From<AllocError> for SyntaxFault {

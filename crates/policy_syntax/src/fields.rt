@@ -1,19 +1,19 @@
-//! Targets, addresses and fields.
+//! Targets and fields.
 
 ghost use Rattle.std.specs.Prelude.{◌≡◌, ◌<◌, ◌≤◌, ◌^◌, length, codes, IfOk};
 ghost use Rattle.grammar.specs.TokenReading.{read_number, read_address};
-ghost use Rattle.policy_syntax.specs.PolicyGrammar.{prefix_of, inport_is, SrcIs, DstIs, SportIs, DportIs};
-ghost use Rattle.policy_syntax.specs.PolicyReading.{read_target, read_prefix_len, read_prefix, read_lead, read_field, read_end, read_test, read_assign, read_assign_spaces, read_set, read_sets};
+ghost use Rattle.net_types.specs.PolicyGrammar.{inport_is, SrcIs, DstIs, SportIs, DportIs};
+ghost use Rattle.policy_syntax.specs.PolicyReading.{read_target, read_lead, read_field, read_end, read_test, read_assign, read_assign_spaces, read_set, read_sets};
 ghost use Rattle.net_types.specs.Policies.{Proto, Src, Sport, Dst, Dport};
-ghost use Rattle.policy_syntax.specs.Answers.{Gives};
+ghost use Rattle.text_fields.specs.PrefixReading.{read_prefix};
+ghost use Rattle.text_fields.specs.Answers.{Gives};
 ghost use Rattle.policy_syntax.specs.Views.{target_of, test_of, field_of};
 
-use crate::fault::SyntaxFault;
-use crate::tokens::{is_letter, name, next_is, number, sign, spaces, word};
 use crate::tree::{Field, Target, Test};
-use net_types::{Assign, Ip, PortNo, Prefix};
+use net_types::{Assign, Ip, PortNo};
+use text_fields::{WrongOctet, address, is_letter, name, next_is, number, prefix, sign, spaces, word};
 
-pub fn port(size: usize, low: u32, high: u32, rest: &[u8]) -> Result<(u16, &[u8]), SyntaxFault>
+pub fn port(size: usize, low: u32, high: u32, rest: &[u8]) -> Result<(u16, &[u8]), WrongOctet>
     requires size { size < 2 ^ 32 }
     requires nine { 9 ≤ high }
     requires high { high < 2 ^ 16 }
@@ -26,7 +26,7 @@ pub fn port(size: usize, low: u32, high: u32, rest: &[u8]) -> Result<(u16, &[u8]
 }
 
 #[tactic(auto, unfolding(crate::specs::PolicyReading::read_target))]
-pub fn target(size: usize, rest: &[u8]) -> Result<(Target<'_>, &[u8]), SyntaxFault>
+pub fn target(size: usize, rest: &[u8]) -> Result<(Target<'_>, &[u8]), WrongOctet>
     requires { size < 2 ^ 32 }
     ensures reads { Gives (λ x. (target_of x.0, x.1.now)) result (read_target size rest.now) }
     ensures left { IfOk result (λ x. length x.1.now < length rest.now) }
@@ -43,60 +43,9 @@ pub fn target(size: usize, rest: &[u8]) -> Result<(Target<'_>, &[u8]), SyntaxFau
     }
 }
 
-#[tactic(auto, unfolding(grammar::specs::TokenReading::read_address))]
-pub fn address(size: usize, rest: &[u8]) -> Result<(u32, &[u8]), SyntaxFault>
-    requires { size < 2 ^ 32 }
-    ensures reads { Gives (λ x. (x.0, x.1.now)) result (read_address size rest.now) }
-    ensures left { IfOk result (λ x. length x.1.now < length rest.now) }
-{
-    let (a, rest) = number(size, 0, 255, rest)?;
-    let rest = word(size, b".", rest)?;
-    let (b, rest) = number(size, 0, 255, rest)?;
-    let rest = word(size, b".", rest)?;
-    let (c, rest) = number(size, 0, 255, rest)?;
-    let rest = word(size, b".", rest)?;
-    let (d, rest) = number(size, 0, 255, rest)?;
-    Ok((((a * 256 + b) * 256 + c) * 256 + d, rest))
-}
-
-// The bits of the address past the first are cleared.
-fn first_bits(ip: u32, len: u8) -> Prefix
-    requires { len ≤ 32 }
-    ensures { result ≡ prefix_of ip len }
-{
-    match Prefix::new(Ip(ip), len) {
-        Ok(prefix) => prefix,
-        Err(_) => unreachable!(),
-    }
-}
-
-#[tactic(auto, unfolding(crate::specs::PolicyReading::read_prefix_len))]
-fn prefix_len(size: usize, rest: &[u8]) -> Result<(u32, &[u8]), SyntaxFault>
-    requires { size < 2 ^ 32 }
-    ensures reads { Gives (λ x. (x.0, x.1.now)) result (read_prefix_len size rest.now) }
-    ensures within { IfOk result (λ x. x.0 ≤ 32) }
-    ensures left { IfOk result (λ x. length x.1.now ≤ length rest.now) }
-{
-    match rest {
-        [b'/', ..] => number(size, 0, 32, word(size, b"/", rest)?),
-        _ => Ok((32, rest)),
-    }
-}
-
-#[tactic(auto, unfolding(crate::specs::PolicyReading::read_prefix))]
-pub fn prefix(size: usize, rest: &[u8]) -> Result<(Prefix, &[u8]), SyntaxFault>
-    requires { size < 2 ^ 32 }
-    ensures reads { Gives (λ x. (x.0, x.1.now)) result (read_prefix size rest.now) }
-    ensures left { IfOk result (λ x. length x.1.now < length rest.now) }
-{
-    let (ip, rest) = address(size, rest)?;
-    let (len, rest) = prefix_len(size, rest)?;
-    Ok((first_bits(ip, len as u8), rest))
-}
-
 /// A field's name and the sign behind it.
 #[tactic(auto, unfolding(crate::specs::PolicyReading::read_lead))]
-pub fn lead<'a>(size: usize, name: &[u8], rest: &'a [u8]) -> Result<&'a [u8], SyntaxFault>
+pub fn lead<'a>(size: usize, name: &[u8], rest: &'a [u8]) -> Result<&'a [u8], WrongOctet>
     requires { size < 2 ^ 32 }
     ensures reads { Gives (λ r. (tt, r.now)) result (read_lead name.now size rest.now) }
     ensures left { IfOk result (λ r. length r.now ≤ length rest.now) }
@@ -106,7 +55,7 @@ pub fn lead<'a>(size: usize, name: &[u8], rest: &'a [u8]) -> Result<&'a [u8], Sy
 }
 
 #[tactic(auto, unfolding(crate::specs::PolicyReading::read_field, crate::specs::PolicyReading::read_end))]
-fn src_test(size: usize, rest: &[u8]) -> Result<(Test, &[u8]), SyntaxFault>
+fn src_test(size: usize, rest: &[u8]) -> Result<(Test, &[u8]), WrongOctet>
     requires { size < 2 ^ 32 }
     ensures reads { Gives (λ x. (test_of x.0, x.1.now)) result (read_end (codes "src") read_prefix Src Sport size rest.now) }
     ensures left { IfOk result (λ x. length x.1.now < length rest.now) }
@@ -125,7 +74,7 @@ fn src_test(size: usize, rest: &[u8]) -> Result<(Test, &[u8]), SyntaxFault>
 }
 
 #[tactic(auto, unfolding(crate::specs::PolicyReading::read_field, crate::specs::PolicyReading::read_end))]
-fn dst_test(size: usize, rest: &[u8]) -> Result<(Test, &[u8]), SyntaxFault>
+fn dst_test(size: usize, rest: &[u8]) -> Result<(Test, &[u8]), WrongOctet>
     requires { size < 2 ^ 32 }
     ensures reads { Gives (λ x. (test_of x.0, x.1.now)) result (read_end (codes "dst") read_prefix Dst Dport size rest.now) }
     ensures left { IfOk result (λ x. length x.1.now < length rest.now) }
@@ -144,7 +93,7 @@ fn dst_test(size: usize, rest: &[u8]) -> Result<(Test, &[u8]), SyntaxFault>
 }
 
 #[tactic(auto, unfolding(crate::specs::PolicyReading::read_field, crate::specs::PolicyReading::read_end))]
-fn src_field(size: usize, rest: &[u8]) -> Result<(Field, &[u8]), SyntaxFault>
+fn src_field(size: usize, rest: &[u8]) -> Result<(Field, &[u8]), WrongOctet>
     requires { size < 2 ^ 32 }
     ensures reads { Gives (λ x. (field_of x.0, x.1.now)) result (read_end (codes "src") read_address SrcIs SportIs size rest.now) }
     ensures left { IfOk result (λ x. length x.1.now < length rest.now) }
@@ -163,7 +112,7 @@ fn src_field(size: usize, rest: &[u8]) -> Result<(Field, &[u8]), SyntaxFault>
 }
 
 #[tactic(auto, unfolding(crate::specs::PolicyReading::read_field, crate::specs::PolicyReading::read_end))]
-fn dst_field(size: usize, rest: &[u8]) -> Result<(Field, &[u8]), SyntaxFault>
+fn dst_field(size: usize, rest: &[u8]) -> Result<(Field, &[u8]), WrongOctet>
     requires { size < 2 ^ 32 }
     ensures reads { Gives (λ x. (field_of x.0, x.1.now)) result (read_end (codes "dst") read_address DstIs DportIs size rest.now) }
     ensures left { IfOk result (λ x. length x.1.now < length rest.now) }
@@ -182,7 +131,7 @@ fn dst_field(size: usize, rest: &[u8]) -> Result<(Field, &[u8]), SyntaxFault>
 }
 
 #[tactic(auto, unfolding(crate::specs::PolicyReading::read_field))]
-fn inport(size: usize, rest: &[u8]) -> Result<(Test, &[u8]), SyntaxFault>
+fn inport(size: usize, rest: &[u8]) -> Result<(Test, &[u8]), WrongOctet>
     requires { size < 2 ^ 32 }
     ensures reads { Gives (λ x. (test_of x.0, x.1.now)) result (read_field (codes "inport") (read_number 1 65279) inport_is size rest.now) }
     ensures left { IfOk result (λ x. length x.1.now < length rest.now) }
@@ -192,7 +141,7 @@ fn inport(size: usize, rest: &[u8]) -> Result<(Test, &[u8]), SyntaxFault>
 }
 
 #[tactic(auto, unfolding(crate::specs::PolicyReading::read_field))]
-fn protocol(size: usize, rest: &[u8]) -> Result<(Test, &[u8]), SyntaxFault>
+fn protocol(size: usize, rest: &[u8]) -> Result<(Test, &[u8]), WrongOctet>
     requires { size < 2 ^ 32 }
     ensures reads { Gives (λ x. (test_of x.0, x.1.now)) result (read_field (codes "proto") (read_number 0 255) Proto size rest.now) }
     ensures left { IfOk result (λ x. length x.1.now < length rest.now) }
@@ -202,7 +151,7 @@ fn protocol(size: usize, rest: &[u8]) -> Result<(Test, &[u8]), SyntaxFault>
 }
 
 #[tactic(auto, unfolding(crate::specs::PolicyReading::read_test))]
-pub fn test(size: usize, rest: &[u8]) -> Result<(Test, &[u8]), SyntaxFault>
+pub fn test(size: usize, rest: &[u8]) -> Result<(Test, &[u8]), WrongOctet>
     requires { size < 2 ^ 32 }
     ensures reads { Gives (λ x. (test_of x.0, x.1.now)) result (read_test size rest.now) }
     ensures left { IfOk result (λ x. length x.1.now < length rest.now) }
@@ -216,7 +165,7 @@ pub fn test(size: usize, rest: &[u8]) -> Result<(Test, &[u8]), SyntaxFault>
 }
 
 #[tactic(auto, unfolding(crate::specs::PolicyReading::read_assign))]
-fn assign(size: usize, rest: &[u8]) -> Result<(Field, &[u8]), SyntaxFault>
+fn assign(size: usize, rest: &[u8]) -> Result<(Field, &[u8]), WrongOctet>
     requires { size < 2 ^ 32 }
     ensures reads { Gives (λ x. (field_of x.0, x.1.now)) result (read_assign size rest.now) }
     ensures left { IfOk result (λ x. length x.1.now < length rest.now) }
@@ -229,7 +178,7 @@ fn assign(size: usize, rest: &[u8]) -> Result<(Field, &[u8]), SyntaxFault>
 
 /// An assignment and the spaces behind it.
 #[tactic(auto, unfolding(crate::specs::PolicyReading::read_assign_spaces))]
-pub fn assigned(size: usize, rest: &[u8]) -> Result<(Field, &[u8]), SyntaxFault>
+pub fn assigned(size: usize, rest: &[u8]) -> Result<(Field, &[u8]), WrongOctet>
     requires { size < 2 ^ 32 }
     ensures reads { Gives (λ x. (field_of x.0, x.1.now)) result (read_assign_spaces size rest.now) }
     ensures left { IfOk result (λ x. length x.1.now < length rest.now) }
@@ -240,7 +189,7 @@ pub fn assigned(size: usize, rest: &[u8]) -> Result<(Field, &[u8]), SyntaxFault>
 
 // A further assignment.
 #[tactic(auto, unfolding(crate::specs::PolicyReading::read_set))]
-fn more_assigned(size: usize, rest: &[u8]) -> Result<(Field, &[u8]), SyntaxFault>
+fn more_assigned(size: usize, rest: &[u8]) -> Result<(Field, &[u8]), WrongOctet>
     requires { size < 2 ^ 32 }
     ensures reads { Gives (λ x. (field_of x.0, x.1.now)) result (read_set size rest.now) }
     ensures left { IfOk result (λ x. length x.1.now < length rest.now) }
@@ -249,7 +198,7 @@ fn more_assigned(size: usize, rest: &[u8]) -> Result<(Field, &[u8]), SyntaxFault
 }
 
 /// The assignments behind the first one.
-pub fn all_assigned(size: usize, first: Assign, rest: &[u8]) -> Result<(Assign, &[u8]), SyntaxFault>
+pub fn all_assigned(size: usize, first: Assign, rest: &[u8]) -> Result<(Assign, &[u8]), WrongOctet>
     requires { size < 2 ^ 32 }
     ensures reads { Gives (λ x. (x.0, x.1.now)) result (read_sets first size rest.now) }
     ensures left { IfOk result (λ x. length x.1.now ≤ length rest.now) }

@@ -11,7 +11,6 @@ mod rule;
 #[cfg(test)]
 mod tests;
 mod text;
-mod tokens;
 mod tree;
 
 pub use fault::SyntaxFault;

@@ -9,10 +9,10 @@ ghost use Rattle.policy_syntax.specs.Views.{policy_of};
 use crate::fault::SyntaxFault;
 use crate::fields::{all_assigned, assigned, target};
 use crate::preds::{pred, too_deep};
-use crate::tokens::{next_is, place, sign, spaces, word};
 use crate::tree::Tree;
 use bumpalo::Bump;
 use net_types::{Assign, Span};
+use text_fields::{next_is, place, sign, spaces, word};
 
 #[tactic(auto, unfolding(crate::specs::PolicyReading::read_keyword))]
 fn drop_word(size: usize, rest: &[u8]) -> Result<(Tree<'_>, &[u8]), SyntaxFault>

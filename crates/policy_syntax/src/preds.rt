@@ -6,15 +6,16 @@ ghost use Rattle.grammar.specs.Octets.{among};
 ghost use Rattle.grammar.specs.TextReading.{read_either};
 ghost use Rattle.grammar.specs.TokenReading.{read_too_deep, read_sign};
 ghost use Rattle.policy_syntax.specs.Answers.{Gives, Fails};
+ghost use Rattle.text_fields.specs.Answers.{Gives as TokenGives};
 ghost use Rattle.net_types.specs.Policies.{Pred as Predicate, Policy};
 ghost use Rattle.policy_syntax.specs.Views.{pred_of};
 
 use crate::fault::SyntaxFault;
 use crate::fields::test;
-use crate::tokens::{next_is, place, sign, spaces, word, wrong};
 use crate::tree::Pred;
 use bumpalo::Bump;
 use net_types::Span;
+use text_fields::{WrongOctet, next_is, place, sign, spaces, word};
 
 #[tactic(auto, unfolding(crate::specs::PolicyReading::read_is))]
 fn tested(size: usize, rest: &[u8]) -> Result<(Pred<'_>, &[u8]), SyntaxFault>
@@ -49,7 +50,9 @@ pub fn too_deep(size: usize, rest: &[u8]) -> SyntaxFault
         [b'(', ..] => SyntaxFault::TooDeep {
             at: place(size, rest),
         },
-        _ => wrong(size, rest),
+        _ => SyntaxFault::Syntax {
+            at: place(size, rest),
+        },
     }
 }
 
@@ -95,9 +98,9 @@ fn lit<'a>(
 }
 
 // One of the signs of a conjunction.
-fn and_sign(size: usize, rest: &[u8]) -> Result<&[u8], SyntaxFault>
+fn and_sign(size: usize, rest: &[u8]) -> Result<&[u8], WrongOctet>
     requires { size < 2 ^ 32 }
-    ensures reads { Gives (λ r. (tt, r.now)) result (read_either (among (codes "&")) (read_sign (codes "&")) (read_sign (codes ",")) size rest.now) }
+    ensures reads { TokenGives (λ r. (tt, r.now)) result (read_either (among (codes "&")) (read_sign (codes "&")) (read_sign (codes ",")) size rest.now) }
     ensures left { IfOk result (λ r. length r.now < length rest.now) }
 {
     match rest {

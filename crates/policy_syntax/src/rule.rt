@@ -1,7 +1,7 @@
 //! The laws of rules of texts, for policies.
 
 ghost use Rattle.net_types.specs.Policies.{Policy};
-ghost use Rattle.policy_syntax.specs.PolicyGrammar.{policy};
+ghost use Rattle.net_types.specs.PolicyGrammar.{policy};
 ghost use Rattle.policy_syntax.specs.PolicyReading.{read_start};
 ghost use Rattle.policy_syntax.specs.After.{after_policy};
 

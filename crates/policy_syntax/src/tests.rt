@@ -1,6 +1,6 @@
 //! Texts with the answers that they have, and trees with theirs.
 
-use crate::{Node, SyntaxFault, Tree, parse, print};
+use crate::{Node, SyntaxFault, Target, Tree, parse, print};
 use bumpalo::Bump;
 use net_types::Span;
 use std::alloc::Global;
@@ -85,6 +85,7 @@ fn fields_have_values_in_range(rt: HostRuntime) -> Result<(), Fail> {
         ("match(srcip=10.0.0.256)", Answer::Wrong(21)),
         ("match(srcport=65535)", Answer::Read),
         ("match(srcport=65536)", Answer::Wrong(18)),
+        ("match(dstport=80) >> fwd(B)", Answer::Read),
         ("match(dstport=70000) >> fwd(B)", Answer::Wrong(18)),
         ("match(dstport=080)", Answer::Wrong(15)),
         ("match(srcx=1)", Answer::Wrong(9)),
@@ -142,22 +143,31 @@ fn texts_have_8192_octets_at_most(rt: HostRuntime) -> Result<(), Fail> {
     Ok(())
 }
 
-// The place of the first part of a chain.
-fn first_span(tree: &Tree<'_>) -> Option<Span> {
+// A forward of a chain to a participant: the name and the place.
+fn forward<'a>(tree: &Tree<'a>) -> Option<(&'a str, Span)> {
     match tree.node() {
-        Node::Then(first, _) => match first.node() {
-            Node::Fwd(_, span) => Some(span),
-            _ => None,
-        },
+        Node::Fwd(Target::Name(name), span) => Some((name, span)),
         _ => None,
     }
 }
 
 #[test]
-fn a_span_is_the_atom_alone(rt: HostRuntime) -> Result<(), Fail> {
+fn a_tree_as_its_text_groups_it(rt: HostRuntime) -> Result<(), Fail> {
     let arena = Bump::new(rt.alloc());
-    let tree = parse(rt.alloc(), &arena, " fwd ( B ) >> drop")?;
-    assert_eq!(rt; first_span(&tree), Some(Span { start: 1, end: 10 }));
+    let tree = parse(rt.alloc(), &arena, "pass+(drop+block)>>fwd( B)")?;
+    let Node::Both(pass, chain) = tree.node() else {
+        panic!(rt; "no sum");
+    };
+    let Node::Then(group, last) = chain.node() else {
+        panic!(rt; "no chain");
+    };
+    let Node::Both(drop, block) = group.node() else {
+        panic!(rt; "no group");
+    };
+    assert!(rt; matches!(pass.node(), Node::Pass));
+    assert!(rt; matches!(drop.node(), Node::Drop));
+    assert!(rt; matches!(block.node(), Node::Block));
+    assert!(rt; forward(last) == Some(("B", Span { start: 19, end: 26 })));
     Ok(())
 }
 

@@ -2,7 +2,7 @@
 
 ghost use Rattle.std.specs.Prelude.{◌≡◌, ◌<◌, ◌≤◌, length, IfOk, IfErr};
 ghost use Rattle.grammar.specs.Texts.{IsText, read_whole};
-ghost use Rattle.policy_syntax.specs.PolicyGrammar.{policy};
+ghost use Rattle.net_types.specs.PolicyGrammar.{policy};
 ghost use Rattle.policy_syntax.specs.PolicyReading.{read_start};
 ghost use Rattle.policy_syntax.specs.Answers.{Gives, IsCause, FindsText};
 ghost use Rattle.policy_syntax.specs.ReadsBack.{EachPart, ReadsBack};
@@ -10,10 +10,10 @@ ghost use Rattle.policy_syntax.specs.Views.{policy_of};
 
 use crate::fault::SyntaxFault;
 use crate::policies::start;
-use crate::tokens::wrong;
 use crate::tree::Tree;
 use bumpalo::Bump;
 use std::alloc::Global;
+use text_fields::place;
 
 #[tactic(auto, unfolding(grammar::specs::Texts::read_whole))]
 fn read<'a>(arena: &'a Bump, text: &'a str) -> Result<Tree<'a>, SyntaxFault>
@@ -22,7 +22,9 @@ fn read<'a>(arena: &'a Bump, text: &'a str) -> Result<Tree<'a>, SyntaxFault>
 {
     let (tree, rest) = start(arena, 64, text.len(), text.as_bytes())?;
     if !rest.is_empty() {
-        return Err(wrong(text.len(), rest));
+        return Err(SyntaxFault::Syntax {
+            at: place(text.len(), rest),
+        });
     }
     Ok(tree)
 }

@@ -13,7 +13,7 @@ pub(crate) enum Field {
 
 impl Field {
     ghost use Rattle.std.specs.Prelude.{◌≡◌};
-    ghost use Rattle.policy_syntax.specs.PolicyGrammar.{with_field};
+    ghost use Rattle.net_types.specs.PolicyGrammar.{with_field};
     ghost use Rattle.policy_syntax.specs.Views.{field_of};
 
     /// These assignments and this one, which counts where both set a field.

@@ -1,6 +1,6 @@
 use Rattle.std.proofs.Common.{arith}
 use Rattle.std.specs.Prelude.{codes}
-use Rattle.policy_syntax.specs.PolicyGrammar.{with_field}
+use Rattle.net_types.specs.PolicyGrammar.{with_field}
 use Rattle.grammar.specs.Octets.{among}
 use Rattle.policy_syntax.specs.PolicyReading.{read_set, read_sets}
 use Rattle.grammar.proofs.RepeatLoops.{starts_reading}

@@ -1,0 +1,3 @@
+mod FilterLemmas
+mod WinnerLemmas
+pub mod PlaceLemmas

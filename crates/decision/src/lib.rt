@@ -1,0 +1,11 @@
+//! The choice of the best of a participant's routes (RFC 4271 9.1.2.2).
+#![tactic(auto)]
+
+mod candidate;
+mod choice;
+mod eliminations;
+#[cfg(test)]
+mod tests;
+
+pub use candidate::Candidate;
+pub use choice::best;

@@ -1,0 +1,20 @@
+-- Rules bound one after another.
+use Rattle.std.proofs.Common.{◌≡◌, ℕ, ◌+◌, ◌<◌, Option, Some, None, List, [], ◌∷◌, ◌++◌, length, drop, refl, sym, ap, ◌∙◌, append_assoc}
+use Rattle.net_types.specs.declared.address.Pid.{Pid}
+use Rattle.net_types.specs.declared.export.ExportRule.{ExportRule}
+use Rattle.net_types.specs.declared.named_rule.NamedRule.{NamedRule}
+use Rattle.net_types.specs.ExportTexts.{bound_rule, bound_before, bound}
+
+-- rules that are bound, and those behind them
+abbrev pub behind : List ExportRule → Option (List ExportRule) → Option (List ExportRule)
+behind rs None = None
+behind rs (Some others) = Some (rs ++ others)
+
+pub behind-none : (o : Option (List ExportRule)) → behind [] o ≡ o
+behind-none None = refl
+behind-none (Some others) = refl
+
+-- one rule more
+pub behind-one : (rs : List ExportRule) (r : ExportRule) (o : Option (List ExportRule)) → behind rs (bound_before (Some r) o) ≡ behind (rs ++ r ∷ []) o
+behind-one rs r None = refl
+behind-one rs r (Some others) = ap Some (sym (append_assoc rs (r ∷ []) others))

@@ -1,0 +1,3 @@
+pub mod RulesExact
+pub mod Binding
+pub mod Answered

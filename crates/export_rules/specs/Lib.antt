@@ -1,0 +1,3 @@
+pub mod RulesReading
+pub mod Views
+pub mod Answers

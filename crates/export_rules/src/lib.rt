@@ -1,0 +1,13 @@
+//! Export rules: their texts, the participants that they name, and what they allow.
+#![tactic(auto)]
+
+mod bound;
+mod fault;
+mod parsed;
+mod reading;
+#[cfg(test)]
+mod tests;
+
+pub use bound::Bound;
+pub use fault::{BindFault, RulesFault};
+pub use parsed::{Rules, parse_rules};

@@ -1,0 +1,14 @@
+//! The participants and ports of an exchange, in order of declaration.
+#![tactic(auto)]
+
+mod fault;
+mod index;
+mod owners;
+mod participants;
+mod ports;
+mod registry;
+#[cfg(test)]
+mod tests;
+
+pub use fault::RegFault;
+pub use registry::Registry;

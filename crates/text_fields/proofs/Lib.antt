@@ -1,0 +1,2 @@
+pub mod FirstBits
+pub mod PrefixExact
