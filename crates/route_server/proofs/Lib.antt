@@ -1,0 +1,5 @@
+mod RowSteps
+mod RowLaws
+mod ServedLaws
+mod Parts
+mod EditLaws

@@ -1,0 +1,10 @@
+//! Routes, export rules, and what follows from them: each participant's best route, and the signature of a prefix.
+#![tactic(auto)]
+
+mod change;
+mod edits;
+mod held;
+mod rows;
+mod rules;
+mod signature;
+
