@@ -4,7 +4,7 @@ use Rattle.std.specs.Option.{option_map}
 use Rattle.std.specs.FinMap.{FinMap, insert, remove, retain_keys}
 use Rattle.net_types.specs.Exports.{Routing}
 use Rattle.net_types.specs.Keys.{RouteKey, route_cmp}
-use Rattle.net_types.specs.Routes.{Candidate, best}
+use Rattle.net_types.specs.Routes.{Candidate, best, pids}
 use Rattle.net_types.specs.Sets.{IsRising, Member}
 use Rattle.net_types.specs.Signatures.{signature}
 use Rattle.net_types.specs.UpdateSpelling.{is_before}
@@ -40,9 +40,9 @@ without_routes from m = retain_keys m (λ (k : RouteKey). not (nat_eq k.from.0 f
 abbrev pub best_attrs : Routing → Pid → Prefix → Option Attrs
 best_attrs r to p = option_map (λ (c : Candidate). c.attrs) (best r to p)
 
--- the signature, or somebody's best attributes, are others
+-- the signature, or some participant's best attributes, are others
 abbrev pub Differs : Routing → Routing → Prefix → Type 0
-Differs r s p = (signature r p ≢ signature s p) ⊎ ((to : Pid) × (best_attrs r to p ≢ best_attrs s to p))
+Differs r s p = (signature r p ≢ signature s p) ⊎ ((to : Pid) × Member to (pids r) × (best_attrs r to p ≢ best_attrs s to p))
 
 -- These are exactly the prefixes at which two routings differ, ascending, each once.
 pub record AreTouched (r s : Routing) (ps : List Prefix) : Type 0 where

@@ -3,3 +3,5 @@ mod RowLaws
 mod ServedLaws
 mod Parts
 mod EditLaws
+mod SameLaws
+mod EffectLaws

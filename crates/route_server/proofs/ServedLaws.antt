@@ -4,7 +4,7 @@ use Rattle.std.specs.Prelude.{flat_map, IfSome}
 use Rattle.std.specs.List.{list_any, filter_map, cons_option}
 use Rattle.std.specs.Option.{option_and_then, option_map}
 use Rattle.std.specs.Ordering.{eq_by_cmp, is_eq, ordering_then, nat_cmp}
-use Rattle.std.specs.FinMap.{FinMap, get, insert, remove, entries, find, same_map, get-entries, get-insert, get-remove}
+use Rattle.std.specs.FinMap.{FinMap, empty, get, get-empty, insert, remove, entries, find, same_map, get-entries, get-insert, get-remove}
 use Rattle.std.specs.Prelude.{Result, Ok, Err, OnOk, IsOk}
 use Rattle.route_server.specs.declared.change.Change.{Change}
 use Rattle.std.specs.declared.cmp.Ordering.{Ordering}
@@ -175,3 +175,11 @@ signature_of_row names s rules row p same rising is declared =
     parts_alike [] = refl
     parts_alike (w ∷ ws) = ap (λ gs. cons_option (part_of (routing names s) w gs) (filter_map (part (routing names s) p) ws)) (candidates_offered (routing names s) w p row below is)
         ∙ ap (cons_option (part_of (ruled names s.rules) w (offered (ruled names s.rules) w p row))) (parts_alike ws)
+
+-- without rows there are no routes
+pub no_rows : (rows : FinMap prefix_cmp (List Held)) → rows ≡ empty → AreRows rows
+no_rows rows is p = subst (λ o. IfSome o (λ row. Rising 0 256 row)) (sym (ap (λ m. get m p) is ∙ get-empty prefix_cmp p)) tt
+
+pub no_routes : (rows : FinMap prefix_cmp (List Held)) → rows ≡ empty → routes_of rows ≡ empty
+no_routes rows is = same_map routes_total route_cmp-IsAntisymmetric (routes_of rows) empty (λ q.
+    get-routes_of rows q ∙ ap (option_and_then (λ row. look row q.from.0)) (ap (λ m. get m q.prefix) is ∙ get-empty prefix_cmp q.prefix) ∙ sym (get-empty route_cmp q))

@@ -3,8 +3,13 @@
 
 mod change;
 mod edits;
+mod effect;
+mod effects;
 mod held;
 mod rows;
 mod rules;
+mod same;
+mod server;
 mod signature;
 
+pub use server::RouteServer;
