@@ -1,0 +1,7 @@
+mod RowSteps
+mod RowLaws
+mod ServedLaws
+mod Parts
+mod EditLaws
+mod SameLaws
+mod EffectLaws

@@ -1,0 +1,148 @@
+//! What changes of rows do: which prefixes they touch, and what is true of these afterwards.
+
+ghost use Rattle.std.specs.Prelude.{◌≡◌, ◌≤◌, ◌&&◌, length, map, IfOk};
+ghost use Rattle.std.specs.List.{list_all};
+ghost use Rattle.std.specs.FinMap.{FinMap};
+ghost use Rattle.net_types.specs.Attributes.{same_option, same_attrs};
+ghost use Rattle.net_types.specs.Keys.{route_cmp};
+ghost use Rattle.net_types.specs.Routes.{pids};
+ghost use Rattle.net_types.specs.declared.route.Attrs.{Attrs};
+ghost use Rattle.route_server.specs.Rows.{ruled};
+ghost use Rattle.route_server.specs.Served.{routing, AreDeclared};
+ghost use Rattle.route_server.specs.Effects.{place_attrs, best_by_row, IsEffectOf, AreEffects, AreRowsOf, routing_after};
+
+use crate::change::Change;
+use crate::effect::Effect;
+use crate::held::Held;
+use crate::rows::{best_attrs_in, best_in};
+use crate::same::{same_items, same_optional};
+use crate::server::RouteServer;
+use crate::signature::signature_in;
+use net_types::{ExportRules, Memory, Pid, Prefix};
+use registry::Registry;
+use std::alloc::Global;
+
+/// The place of each participant's best route in a row.
+fn bests_in(
+    alloc: Global,
+    names: &Registry,
+    rules: &[ExportRules],
+    row: &[Held],
+    prefix: Prefix,
+) -> Result<Vec<Option<usize>>, Memory>
+    requires short { length row.now ≤ 256 }
+    ensures { IfOk result (λ bests. map (place_attrs row.now) bests.items ≡ map (best_by_row (ruled names.now rules.now) prefix row.now) (pids (ruled names.now rules.now))) }
+{
+    let mut bests = Vec::new(alloc);
+    let count = names.participants().len() as u32;
+    for number in 0..count {
+        let place = best_in(names, rules, row, Pid(number), prefix);
+        bests.push(place)?;
+    }
+    Ok(bests)
+}
+
+/// Whether a participant's best attributes stay the same.
+fn same_best(
+    names: &Registry,
+    rules: &[ExportRules],
+    old: &[Held],
+    after: &[ExportRules],
+    new: &[Held],
+    to: Pid,
+    prefix: Prefix,
+) -> bool
+    requires old_short { length old.now ≤ 256 }
+    requires new_short { length new.now ≤ 256 }
+    ensures { result ≡ same_option same_attrs (best_by_row (ruled names.now rules.now) prefix old.now to) (best_by_row (ruled names.now after.now) prefix new.now to) }
+{
+    let before = best_attrs_in(names, rules, old, to, prefix);
+    let now = best_attrs_in(names, after, new, to, prefix);
+    same_optional(before, now)
+}
+
+/// Whether every participant's best attributes stay the same.
+fn same_bests(
+    names: &Registry,
+    rules: &[ExportRules],
+    old: &[Held],
+    after: &[ExportRules],
+    new: &[Held],
+    prefix: Prefix,
+) -> bool
+    requires old_short { length old.now ≤ 256 }
+    requires new_short { length new.now ≤ 256 }
+    ensures { result ≡ list_all (λ to. same_option same_attrs (best_by_row (ruled names.now rules.now) prefix old.now to) (best_by_row (ruled names.now after.now) prefix new.now to)) (pids (ruled names.now rules.now)) }
+{
+    let count = names.participants().len() as u32;
+    for number in 0..count {
+        if !same_best(names, rules, old, after, new, Pid(number), prefix) {
+            return false;
+        }
+    }
+    true
+}
+
+fn both(one: bool, two: bool) -> bool
+    ensures { result ≡ (one && two) }
+{
+    one && two
+}
+
+/// What a change does, or nothing where all stays the same.
+fn effect_of(
+    alloc: Global,
+    names: &Registry,
+    rules: &[ExportRules],
+    old: &[Held],
+    after: &[ExportRules],
+    change: &Change,
+    at: usize,
+) -> Result<Option<Effect>, Memory>
+    requires old_short { length old.now ≤ 256 }
+    requires new_short { length change.now.row ≤ 256 }
+    ensures { IfOk result (λ effect. IsEffectOf (ruled names.now rules.now) (ruled names.now after.now) old.now change.now at effect) }
+{
+    let prefix = change.prefix;
+    let row = change.row.items();
+    let sig = signature_in(alloc, names, after, row, prefix)?;
+    let before = signature_in(alloc, names, rules, old, prefix)?;
+    let same_sig = same_items(sig.items(), before.items());
+    let same_best = same_bests(names, rules, old, after, row, prefix);
+    if both(same_sig, same_best) {
+        return Ok(None);
+    }
+    let bests = bests_in(alloc, names, after, row, prefix)?;
+    Ok(Some(Effect {
+        at,
+        prefix,
+        sig,
+        bests,
+    }))
+}
+
+/// What the changes do to the server's routes and rules, where these rules hold afterwards.
+pub fn effects_of(
+    server: &RouteServer,
+    names: &Registry,
+    after: &[ExportRules],
+    changes: &[Change],
+) -> Result<Vec<Effect>, Memory>
+    requires { AreDeclared names.now server.now.routes }
+    ensures { IfOk result (λ effects. (m : FinMap route_cmp Attrs) → AreDeclared names.now m → AreRowsOf changes.now m → AreEffects (routing names.now server.now) (routing_after names.now after.now m) changes.now (length changes.now) effects.items) }
+{
+    let alloc = server.allocator();
+    let rules = server.rules();
+    let mut effects = Vec::new(alloc);
+    for (at, change) in changes.iter().enumerate() {
+        let old = server.row(change.prefix);
+        let effect = effect_of(alloc, names, rules, old, after, change, at)?;
+        match effect {
+            Some(own) => {
+                effects.push(own)?;
+            }
+            None => {}
+        }
+    }
+    Ok(effects)
+}

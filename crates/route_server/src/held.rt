@@ -1,0 +1,15 @@
+//! A participant's route for a prefix.
+
+ghost use Rattle.std.specs.Prelude.{◌≡◌, sum_by};
+ghost use Rattle.net_types.specs.Routes.{hops_of};
+
+use net_types::{Attrs, Pid};
+
+/// A route, with the number of its hops, which is counted once.
+#[derive(Drop)]
+pub struct Held {
+    pub from: Pid,
+    pub hops: u32,
+    pub attrs: Attrs,
+    ghost counted: { hops ≡ sum_by hops_of attrs.path },
+}

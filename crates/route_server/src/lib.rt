@@ -1,0 +1,15 @@
+//! Routes, export rules, and what follows from them: each participant's best route, and the signature of a prefix.
+#![tactic(auto)]
+
+mod change;
+mod edits;
+mod effect;
+mod effects;
+mod held;
+mod rows;
+mod rules;
+mod same;
+mod server;
+mod signature;
+
+pub use server::RouteServer;

@@ -1,0 +1,148 @@
+//! What a route server holds.
+
+ghost use Rattle.std.specs.Prelude.{◌≡◌, ℕ, ◌<◌, ◌≤◌, ◌+◌, [], length, Option, IfOk, OnOk};
+ghost use Rattle.std.specs.FinMap.{FinMap, empty, get};
+ghost use Rattle.std.specs.Option.{option_copied, option_map_or};
+ghost use Rattle.net_types.specs.Changes.{best_attrs};
+ghost use Rattle.net_types.specs.Keys.{RouteKey, route_cmp};
+ghost use Rattle.net_types.specs.Signatures.{signature};
+ghost use Rattle.net_types.specs.declared.route.Attrs.{Attrs};
+ghost use Rattle.route_server.specs.Rows.{look, Rising};
+ghost use Rattle.route_server.specs.Served.{Served, routing, AreRows, AreDeclared, route_in, one_after, route_after, Reaches};
+
+use crate::change::Change;
+use crate::held::Held;
+use crate::rows::best_attrs_in;
+use crate::signature::signature_in;
+use net_types::{Attrs, ExportRules, Items, Memory, Pid, Prefix, Sig};
+use prefix_map::PrefixMap;
+use registry::Registry;
+use std::alloc::Global;
+use std::marker::Model;
+
+/// The routes, by prefix and then by participant, and each participant's export rules.
+#[derive(Drop)]
+pub struct RouteServer {
+    rows: PrefixMap<Items<Held>>,
+    rules: Vec<ExportRules>,
+}
+
+impl Model for RouteServer {
+    ghost use Rattle.std.specs.Coded.{codes};
+    ghost use Rattle.std.specs.FinMap as map;
+    ghost use Rattle.route_server.specs.Served.{Served, routes_of, AreRows};
+
+    ghost Value = { Served };
+
+    ghost coded = { Prim.hlevel (codes, map.code) };
+
+    ghost view = { λ a. record { routes = routes_of a.rows.map; rules = a.rules.items; room = a.rows.room } };
+
+    ghost invariant = { λ a. AreRows a.rows.map };
+}
+
+/// Gives a prefix another row. It takes no memory, since there is room.
+fn put_row(rows: &mut PrefixMap<Items<Held>>, change: Change)
+    requires room { 0 < rows.old.room }
+    requires rows { AreRows rows.old.map }
+    ensures routes { (q : RouteKey) → route_in rows.new.map q ≡ one_after change (route_in rows.old.map) q }
+    ensures rows { AreRows rows.new.map }
+    ensures room { rows.old.room ≤ rows.new.room + 1 }
+{
+    if change.row.is_empty() {
+        rows.remove(change.prefix);
+    } else {
+        rows.put(change.prefix, change.row);
+    }
+}
+
+/// Gives prefixes other rows. It takes no memory, since there is room.
+fn put_rows(rows: &mut PrefixMap<Items<Held>>, changes: Vec<Change>)
+    requires room { length changes.items ≤ rows.old.room }
+    requires rows { AreRows rows.old.map }
+    ensures routes { (q : RouteKey) → route_in rows.new.map q ≡ route_after changes.items (route_in rows.old.map) q }
+    ensures rows { AreRows rows.new.map }
+{
+    for change in changes {
+        put_row(rows, change);
+    }
+}
+
+impl RouteServer {
+    /// No routes, and no rules.
+    pub fn new(alloc: Global) -> RouteServer
+        ensures routes { result.routes ≡ empty }
+        ensures rules { result.rules ≡ [] }
+    {
+        let rows = PrefixMap::new(alloc);
+        RouteServer {
+            rows,
+            rules: Vec::new(alloc),
+        }
+    }
+
+    /// Makes room for so many changes of rows.
+    pub(crate) fn reserve_rows(&mut self, changes: usize) -> Result<(), Memory>
+        ensures room { OnOk result (changes ≤ self.new.room) }
+        ensures routes { self.new.routes ≡ self.old.routes }
+        ensures rules { self.new.rules ≡ self.old.rules }
+    {
+        self.rows.reserve(changes)
+    }
+
+    /// Gives prefixes other rows, and participants other rules where there are any. It takes no memory.
+    pub(crate) fn set(&mut self, changes: Vec<Change>, rules: Option<Vec<ExportRules>>)
+        requires room { length changes.items ≤ self.old.room }
+        ensures routes { (m : FinMap route_cmp Attrs) → Reaches changes.items self.old.routes m → self.new.routes ≡ m }
+        ensures rules { self.new.rules ≡ option_map_or (λ r. r.items) rules self.old.rules }
+    {
+        put_rows(&mut self.rows, changes);
+        if let Some(rules) = rules {
+            self.rules = rules;
+        }
+    }
+
+    /// The routes for a prefix, in order of declaration.
+    pub(crate) fn row(&self, prefix: Prefix) -> &[Held]
+        ensures routes { (from : Pid) → get self.now.routes (record { from = from; prefix = prefix }) ≡ look result.now from.0 }
+        ensures rising { Rising 0 256 result.now }
+    {
+        match self.rows.get(prefix) {
+            Some(row) => row.items(),
+            None => &[],
+        }
+    }
+
+    /// The participants' export rules, in order of declaration.
+    pub(crate) fn rules(&self) -> &[ExportRules]
+        ensures { result.now ≡ self.now.rules }
+    {
+        self.rules.as_slice()
+    }
+
+    /// The allocator that the server takes its memory from.
+    pub(crate) fn allocator(&self) -> Global {
+        *self.rules.allocator()
+    }
+
+    /// The attributes of a participant's best route for a prefix; none where it has none. It takes no memory.
+    pub fn best_for(&self, names: &Registry, who: Pid, prefix: Prefix) -> Option<&Attrs>
+        requires { AreDeclared names.now self.now.routes }
+        ensures { option_copied result ≡ best_attrs (routing names.now self.now) who prefix }
+    {
+        let row = self.row(prefix);
+        let rules = self.rules();
+        best_attrs_in(names, rules, row, who, prefix)
+    }
+
+    /// The signature of a prefix: a part for each participant that has a best route, in order of declaration.
+    pub fn signature(&self, names: &Registry, prefix: Prefix) -> Result<Sig, Memory>
+        requires { AreDeclared names.now self.now.routes }
+        ensures { IfOk result (λ sig. sig ≡ signature (routing names.now self.now) prefix) }
+    {
+        let row = self.row(prefix);
+        let rules = self.rules();
+        let sig = signature_in(self.allocator(), names, rules, row, prefix)?;
+        Ok(sig)
+    }
+}
