@@ -3,5 +3,6 @@
 
 mod policies;
 mod preds;
+mod sets;
 
 pub use policies::compile;
