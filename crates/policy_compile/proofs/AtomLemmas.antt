@@ -182,3 +182,7 @@ atoms-found p found e = as_list found ∙ ap (λ o. model.atoms_where_plain o (m
 -- and else those of the parts
 pub atoms-apart : (p : model.Pred) → model.plain p ≡ None → model.part_atoms p ≡ model.pred_atoms p
 atoms-apart p e = ap (λ o. model.atoms_where_plain o (model.part_atoms p)) (sym e) ∙ sym (pred-atoms-is p)
+
+-- too many meets of the whole
+pub whole-decides : (p : Policy) (keys : List Cube) → DecidesMeets p keys → 65536 < length (meets keys) → HasWideMeets p
+whole-decides p keys f many = record { part = p; stands = itself p; many = omega (arith, many, same_count keys (atoms p) f.same) }

@@ -1,5 +1,6 @@
 -- The assignments of a policy's parts, counted.
-use Rattle.std.proofs.Common.{◌≡◌, ◌≤◌, ◌<◌, ◌⊎◌, ℕ, arith, length, Option, Some, None, MatchOption, List, [], ◌∷◌, ◌++◌, map, refl, inl, inr, sym, ap, ◌∙◌, subst}
+use Rattle.std.proofs.Common.{◌≡◌, ◌≤◌, ◌<◌, ◌⊎◌, ◌↔◌, Bool, true, false, not, is_some, ℕ, arith, length, Option, Some, None, MatchOption, List, [], ◌∷◌, ◌++◌, map, refl, inl, inr, sym, ap, ◌∙◌, subst}
+use Rattle.std.proofs.lemmas.Bool.{false≢true}
 use Rattle.std.proofs.lemmas.List.{length-map}
 use Rattle.std.specs.List.{IsDistinct}
 use Rattle.std.specs.HashSet.{HashSet}
@@ -88,3 +89,10 @@ only-few p set keys is one none = record {
     | inr nothing ↦ elim nothing [ ]
   ];
 }
+
+-- whether they were found says whether some part has too many
+pub mods-decided : {S : Type 0} (p : Policy) (found : Option (HashSet Fields S)) → IsModsOf p found → (lost : Bool) → is_some found ≡ not lost → (lost ≡ true) ↔ HasWideMods p
+mods-decided p None m true e = (λ _. m, λ _. refl)
+mods-decided p None m false e = absurd (false≢true e)
+mods-decided p (Some s) f true e = absurd (false≢true (sym e))
+mods-decided p (Some s) f false e = (λ t. absurd (false≢true t), λ m. absurd (f.few m.part m.stands m.many))

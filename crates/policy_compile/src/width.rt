@@ -5,7 +5,7 @@ ghost use Rattle.net_types.specs.Meets.{meets};
 ghost use Rattle.net_types.specs.Policies.{Policy, Both, Then, atoms};
 ghost use Rattle.net_types.specs.Widths.{IsTooWide, parts};
 ghost use Rattle.policy_syntax.specs.Views.{policy_of};
-ghost use Rattle.policy_compile.specs.Narrow.{IsNarrow, IsChain, IsApart};
+ghost use Rattle.policy_compile.specs.Narrow.{HasWideMods, HasWideMeets, IsNarrow, IsChain, IsApart};
 
 use crate::atoms::{atoms_of, chain_of, sum_of};
 use crate::meets::count_of;
@@ -80,7 +80,10 @@ fn behind(
         None => Ok(None),
         Some(first) => match second {
             None => Ok(None),
-            Some(second) => chain(alloc, tree, first, &second),
+            Some(second) => {
+                let found = chain(alloc, tree, first, &second)?;
+                Ok(found)
+            }
         },
     }
 }
@@ -109,6 +112,15 @@ fn narrow(alloc: Global, tree: &Tree<'_>) -> Result<Option<IndexSet<Cube>>, Memo
     }
 }
 
+/// A count that goes no further than one above a limit.
+fn capped(count: usize, limit: usize) -> usize
+    requires { limit < 2 ^ 32 }
+    ensures few { count ≤ limit → result ≡ count }
+    ensures many { limit < count → result ≡ limit + 1 }
+{
+    if count > limit { limit + 1 } else { count }
+}
+
 /// How many meets the atoms of a policy have; one more than `limit` where there are more. Stops at the limit.
 pub fn count_meets(alloc: Global, tree: &Tree<'_>, limit: usize) -> Result<usize, Memory>
     requires { limit < 2 ^ 32 }
@@ -118,18 +130,39 @@ pub fn count_meets(alloc: Global, tree: &Tree<'_>, limit: usize) -> Result<usize
 {
     let cubes = atoms_of(alloc, tree)?;
     let count = count_of(alloc, cubes.as_slice(), limit)?;
-    Ok(if count > limit { limit + 1 } else { count })
+    Ok(capped(count, limit))
+}
+
+/// Whether some part of a policy has too many assignments.
+fn has_wide_mods(alloc: Global, tree: &Tree<'_>) -> Result<bool, Memory>
+    ensures { IfOk result (λ wide. IsTrue wide ↔ HasWideMods (policy_of tree.now)) }
+{
+    let found = mods_of(alloc, tree)?;
+    Ok(found.is_none())
+}
+
+/// Whether some part of a policy has too many meets.
+fn has_wide_meets(alloc: Global, tree: &Tree<'_>) -> Result<bool, Memory>
+    ensures { IfOk result (λ wide. IsTrue wide ↔ HasWideMeets (policy_of tree.now)) }
+{
+    let found = narrow(alloc, tree)?;
+    match found {
+        None => Ok(true),
+        Some(cubes) => {
+            let wide = has_many(alloc, cubes.as_slice())?;
+            Ok(wide)
+        }
+    }
 }
 
 /// Whether some part of a policy has more than 65536 meets or more than 1024 different assignments.
 pub fn too_wide(alloc: Global, tree: &Tree<'_>) -> Result<bool, Memory>
     ensures { IfOk result (λ wide. IsTrue wide ↔ IsTooWide (policy_of tree.now)) }
 {
-    if mods_of(alloc, tree)?.is_none() {
+    let by_mods = has_wide_mods(alloc, tree)?;
+    if by_mods {
         return Ok(true);
     }
-    match narrow(alloc, tree)? {
-        None => Ok(true),
-        Some(cubes) => has_many(alloc, cubes.as_slice()),
-    }
+    let by_meets = has_wide_meets(alloc, tree)?;
+    Ok(by_meets)
 }
