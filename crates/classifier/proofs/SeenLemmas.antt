@@ -23,11 +23,11 @@ prefix_eq_exact p q h = let parts = and_parts (eqb p.address.0 q.address.0) (eqb
 prefix_eq_refl : (p : Prefix) → prefix_eq p p ≡ true
 prefix_eq_refl p = and_from _ _ (eq-eqb p.address.0 p.address.0 refl) (eq-eqb p.len p.len refl)
 
-cube_eq_refl : (a : Cube) → cube_eq a a ≡ true
+pub cube_eq_refl : (a : Cube) → cube_eq a a ≡ true
 cube_eq_refl a =
     and_from _ _ (option_eq_refl same_port (λ x. eq-eqb x.0 x.0 refl) a.inport) (and_from _ _ (prefix_eq_refl a.src) (and_from _ _ (prefix_eq_refl a.dst) (and_from _ _ (option_eq_refl eqb (λ x. eq-eqb x x refl) a.proto) (and_from _ _ (option_eq_refl eqb (λ x. eq-eqb x x refl) a.sport) (option_eq_refl eqb (λ x. eq-eqb x x refl) a.dport)))))
 
-cube_eq_exact : (a b : Cube) → cube_eq a b ≡ true → a ≡ b
+pub cube_eq_exact : (a b : Cube) → cube_eq a b ≡ true → a ≡ b
 cube_eq_exact a b h =
     let i = and_parts (option_eq same_port a.inport b.inport) (prefix_eq a.src b.src && (prefix_eq a.dst b.dst && (option_eq eqb a.proto b.proto && (option_eq eqb a.sport b.sport && option_eq eqb a.dport b.dport)))) h in
     let s = and_parts (prefix_eq a.src b.src) (prefix_eq a.dst b.dst && (option_eq eqb a.proto b.proto && (option_eq eqb a.sport b.sport && option_eq eqb a.dport b.dport))) i.1 in
@@ -47,7 +47,7 @@ same_cube_refl a = and_from _ _ (within_refl a) (within_refl a)
 same_cube_exact : (a b : Cube) → same_cube a b ≡ true → a ≡ b
 same_cube_exact a b h = let p = and_parts (lies_within_cube a b) (lies_within_cube b a) h in cubes_antisym a b p.0 p.1
 
-cube_eq_is : (a b : Cube) → cube_eq a b ≡ same_cube a b
+pub cube_eq_is : (a b : Cube) → cube_eq a b ≡ same_cube a b
 cube_eq_is a b = elim (cases_Bool (same_cube a b)) [
   | inl same ↦ ap (cube_eq a) (sym (same_cube_exact a b same)) ∙ cube_eq_refl a ∙ sym same
   | inr apart ↦ false_from_ne_true _ (λ h. false≢true (sym apart ∙ ap (same_cube a) (sym (cube_eq_exact a b h)) ∙ same_cube_refl a)) ∙ sym apart

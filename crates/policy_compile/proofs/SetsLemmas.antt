@@ -1,0 +1,150 @@
+-- Values put last, each once, as sets.
+use Rattle.std.proofs.Common.{◌≡◌, ◌≤◌, ◌<◌, ◌⊎◌, ℕ, arith, length, cond, Bool, true, false, eqb, ◌&&◌, ◌||◌, Option, Some, None, List, [], ◌∷◌, ◌++◌, ◌+◌, map, drop, get_or, append_assoc, refl, inl, inr, sym, ap, ◌∙◌, subst}
+use Rattle.std.specs.Option.{option_eq}
+use Rattle.std.specs.List.{list_any, list_all, IsDistinct, AllByRecursion}
+use Rattle.std.specs.HashSet.{HashSet, contains}
+use Rattle.std.proofs.lemmas.List.{at_drop_more}
+use Rattle.std.proofs.lemmas.Bool.{eqb-true, eq-eqb, and_parts, and_from, or_cases, cases_Bool, false≢true}
+use Rattle.indexmap.specs.IndexSet.{insert_key}
+use Rattle.net_types.specs.declared.address.Ip.{Ip}
+use Rattle.net_types.specs.declared.cube.Cube.{Cube}
+use Rattle.net_types.specs.declared.headers.Assign.{Assign}
+use Rattle.net_types.specs.Cubes.{lies_within_cube}
+use Rattle.net_types.specs.Sets.{Member, SameMembers, union_over}
+use Rattle.net_types.specs.Meets.{has_cube, add_found}
+use Rattle.net_types.specs.Widths.{Differ}
+use Rattle.net_types.proofs.SetLemmas
+use Rattle.classifier.specs.Seen.{cube_eq}
+use Rattle.classifier.proofs.ItemLemmas.{option_eq_exact, option_eq_refl}
+use Rattle.classifier.proofs.SeenLemmas.{cube_eq_exact, cube_eq_refl, cube_eq_is}
+use Rattle.policy_compile.specs.declared.fields.Fields.{Fields}
+use Rattle.policy_compile.specs.Sets.{adds, same_ip, same_fields, assign_of, assigns_of, fields_of, after, followed}
+
+or_true : (b : Bool) → (b || true) ≡ true
+or_true true = refl
+or_true false = refl
+
+module _ {A : Type 0} (eq : A → A → Bool) (exact : (x y : A) → eq x y ≡ true → x ≡ y) (reflexive : (x : A) → eq x x ≡ true) where
+  pub any-Member : (ks : List A) (x : A) → list_any (eq x) ks ≡ true → Member x ks
+  any-Member [] x h = absurd (false≢true h)
+  any-Member (k ∷ ks) x h = elim (or_cases (eq x k) (list_any (eq x) ks) h) [ inl here ↦ inl (exact x k here) | inr later ↦ inr (any-Member ks x later) ]
+
+  pub Member-any : (ks : List A) (x : A) → Member x ks → list_any (eq x) ks ≡ true
+  Member-any [] x h = elim h [ ]
+  Member-any (k ∷ ks) x (inl e) = ap (λ b. b || list_any (eq x) ks) (ap (eq x) (sym e) ∙ reflexive x)
+  Member-any (k ∷ ks) x (inr h) = ap (λ b. eq x k || b) (Member-any ks x h) ∙ or_true (eq x k)
+
+  -- what is there and the new value, and nothing else, is there afterwards
+  insert-same : (ks : List A) (x : A) → SameMembers (insert_key eq ks x) (ks ++ x ∷ [])
+  insert-same ks x = elim (cases_Bool (list_any (eq x) ks)) [
+    | inl there ↦ subst (λ b. SameMembers (cond b ks (ks ++ x ∷ [])) (ks ++ x ∷ [])) (sym there)
+        (record {
+          onto = λ z k. SetLemmas.Member-append_left ks (x ∷ []) z k;
+          back = λ z k. elim (SetLemmas.Member-append_cases ks (x ∷ []) z k) [
+            | inl old ↦ old
+            | inr new ↦ elim new [ inl e ↦ subst (λ y. Member y ks) (sym e) (any-Member ks x there) | inr none ↦ elim none [ ] ]
+          ];
+        })
+    | inr absent ↦ subst (λ b. SameMembers (cond b ks (ks ++ x ∷ [])) (ks ++ x ∷ [])) (sym absent) (SetLemmas.same_refl (ks ++ x ∷ []))
+  ]
+
+  pub adds-same : (ks xs : List A) → SameMembers (adds eq ks xs) (ks ++ xs)
+  adds-same ks [] = record { onto = λ z k. SetLemmas.Member-append_left ks [] z k; back = λ z k. elim (SetLemmas.Member-append_cases ks [] z k) [ inl old ↦ old | inr none ↦ elim none [ ] ] }
+  adds-same ks (x ∷ xs) =
+      SetLemmas.same_trans (adds-same (insert_key eq ks x) xs)
+      (SetLemmas.same_trans (SetLemmas.same_append (insert-same ks x) (SetLemmas.same_refl xs)) (SetLemmas.same_eq (append_assoc ks (x ∷ []) xs)))
+
+  -- keys that no test finds equal differ
+  pub IsDistinct-Differ : (ks : List A) → IsDistinct eq ks → Differ ks
+  unfolding IsDistinct
+  IsDistinct-Differ [] d = tt
+  IsDistinct-Differ (k ∷ ks) d = (λ h. apart ks h d.0, IsDistinct-Differ ks d.1)
+    where
+      apart : (xs : List A) → Member k xs → AllByRecursion (λ y. eq k y ≡ false) xs → ⊥
+      apart [] h a = elim h [ ]
+      apart (x ∷ xs) (inl e) a = false≢true (sym a.0 ∙ ap (eq k) (sym e) ∙ reflexive k)
+      apart (x ∷ xs) (inr h) a = apart xs h a.1
+
+pub adds_append : {A : Type 0} (eq : A → A → Bool) (ks xs ys : List A) → adds eq ks (xs ++ ys) ≡ adds eq (adds eq ks xs) ys
+adds_append eq ks [] ys = refl
+adds_append eq ks (x ∷ xs) ys = adds_append eq (insert_key eq ks x) xs ys
+
+-- ---- sets of cubes
+
+pub cubes-same : (ks xs : List Cube) → SameMembers (adds cube_eq ks xs) (ks ++ xs)
+cubes-same = adds-same cube_eq cube_eq_exact cube_eq_refl
+
+and_swap : (x y : Bool) → (x && y) ≡ (y && x)
+and_swap true true = refl
+and_swap true false = refl
+and_swap false true = refl
+and_swap false false = refl
+
+any-has_cube : (ks : List Cube) (c : Cube) → list_any (cube_eq c) ks ≡ has_cube ks c
+any-has_cube [] c = refl
+any-has_cube (k ∷ ks) c =
+    ap (λ b. b || list_any (cube_eq c) ks) (cube_eq_is c k ∙ and_swap (lies_within_cube c k) (lies_within_cube k c))
+    ∙ ap (λ b. (lies_within_cube k c && lies_within_cube c k) || b) (any-has_cube ks c)
+
+-- a cube put last, unless it is there, as a meet that is found
+pub insert_found : (ks : List Cube) (c : Cube) → insert_key cube_eq ks c ≡ add_found ks (Some c)
+insert_found ks c = ap (λ b. cond b ks (ks ++ c ∷ [])) (any-has_cube ks c)
+
+-- cubes that are all in a set stand in the list of its keys
+pub all-Member : {S : Type 0} (set : HashSet Cube S) (others : List Cube) → list_all (contains cube_eq set) others ≡ true → (c : Cube) → Member c others → Member c set.keys
+all-Member set [] h c k = elim k [ ]
+all-Member set (x ∷ others) h c k =
+    let parts = and_parts (contains cube_eq set x) (list_all (contains cube_eq set) others) h in
+    elim k [
+      | inl e ↦ subst (λ y. Member y set.keys) (sym e) (any-Member cube_eq cube_eq_exact cube_eq_refl set.keys x parts.0)
+      | inr later ↦ all-Member set others parts.1 c later
+    ]
+
+-- ---- sets of fields
+
+ips_exact : (a b : Ip) → same_ip a b ≡ true → a ≡ b
+ips_exact a b h = ap (λ n. let ip : Ip = record { 0 = n } in ip) (eqb-true a.0 b.0 h)
+
+abbrev built : Option Ip → Option Ip → Option ℕ → Option ℕ → Fields
+built src dst sport dport = record { src = src; dst = dst; sport = sport; dport = dport }
+
+-- no fields
+abbrev pub blank : Fields
+blank = record { src = None; dst = None; sport = None; dport = None }
+
+pub fields_exact : (a b : Fields) → same_fields a b ≡ true → a ≡ b
+fields_exact a b h =
+    let s = and_parts (option_eq same_ip a.src b.src) (option_eq same_ip a.dst b.dst && (option_eq eqb a.sport b.sport && option_eq eqb a.dport b.dport)) h in
+    let d = and_parts (option_eq same_ip a.dst b.dst) (option_eq eqb a.sport b.sport && option_eq eqb a.dport b.dport) s.1 in
+    let p = and_parts (option_eq eqb a.sport b.sport) (option_eq eqb a.dport b.dport) d.1 in
+    ap (λ x. built x a.dst a.sport a.dport) (option_eq_exact same_ip ips_exact a.src b.src s.0)
+    ∙ ap (λ x. built b.src x a.sport a.dport) (option_eq_exact same_ip ips_exact a.dst b.dst d.0)
+    ∙ ap (λ x. built b.src b.dst x a.dport) (option_eq_exact eqb eqb-true a.sport b.sport p.0)
+    ∙ ap (λ x. built b.src b.dst b.sport x) (option_eq_exact eqb eqb-true a.dport b.dport p.1)
+
+pub fields_refl : (a : Fields) → same_fields a a ≡ true
+fields_refl a =
+    and_from _ _ (option_eq_refl same_ip (λ x. eq-eqb x.0 x.0 refl) a.src) (and_from _ _ (option_eq_refl same_ip (λ x. eq-eqb x.0 x.0 refl) a.dst) (and_from _ _ (option_eq_refl eqb (λ x. eq-eqb x x refl) a.sport) (option_eq_refl eqb (λ x. eq-eqb x x refl) a.dport)))
+
+pub fields-same : (ks xs : List Fields) → SameMembers (adds same_fields ks xs) (ks ++ xs)
+fields-same = adds-same same_fields fields_exact fields_refl
+
+-- different fields are different assignments
+assigns-Differ : (fs : List Fields) → Differ fs → Differ (assigns_of fs)
+assigns-Differ [] d = tt
+assigns-Differ (f ∷ fs) d = (λ k. d.0 (own f fs k), assigns-Differ fs d.1)
+  where
+    own : (f : Fields) (gs : List Fields) → Member (assign_of f) (assigns_of gs) → Member f gs
+    own f [] k = elim k [ ]
+    own f (g ∷ gs) (inl e) = inl (ap fields_of e)
+    own f (g ∷ gs) (inr k) = inr (own f gs k)
+
+pub distinct-assigns : (fs : List Fields) → IsDistinct same_fields fs → Differ (assigns_of fs)
+distinct-assigns fs d = assigns-Differ fs (IsDistinct-Differ same_fields fields_exact fields_refl fs d)
+
+-- the step of a loop that puts what each item of a list gives
+module _ {A B : Type 0} (eq : A → A → Bool) (F : List B → List A) (f : B → List A) (head : (x : B) (xs : List B) → F (x ∷ xs) ≡ f x ++ F xs) where
+  pub adds_more : (kept : List A) (xs : List B) (i : ℕ) (d : B) → i < length xs → adds eq kept (F (drop i xs)) ≡ adds eq (adds eq kept (f (get_or xs i d))) (F (drop (i + 1) xs))
+  adds_more kept xs i d lt =
+      ap (adds eq kept) (at_drop_more F xs i d lt ∙ head (get_or xs i d) (drop (i + 1) xs))
+      ∙ adds_append eq kept (f (get_or xs i d)) (F (drop (i + 1) xs))

@@ -1,0 +1,59 @@
+use Rattle.std.proofs.Common.{List}
+use Rattle.net_types.specs.declared.headers.Assign.{Assign}
+use Rattle.net_types.specs.declared.headers.Loc.{Loc}
+use Rattle.classifier.specs.Items.{Item}
+use Rattle.std.proofs.Common.{◌∷◌, [], refl, ◌∙◌, ap, subst}
+use Rattle.net_types.specs.Headers.{no_change}
+use Rattle.net_types.specs.Policies as model
+use Rattle.net_types.specs.declared.headers.Loc.TheVariants.{Stay, Nowhere}
+use Rattle.policy_syntax.specs.Views.{policy_of, pred_of}
+use Rattle.policy_compile.specs.Compiled.{IsCompiled}
+use Rattle.policy_compile.proofs.CompileLemmas
+use Rattle.policy_compile.proofs.policies.+compiled.Goals as goal
+
+abbrev only : Assign → Loc → List Item
+only m l = (m, l) ∷ []
+
+pub returns-in_ok-none-in-Drop : goal.returns-in_ok-none-in-Drop
+returns-in_ok-none-in-Drop g t c =
+    let f = c.in_ok-none-in-Drop.ensures in
+    subst (λ p. IsCompiled (g.N.Names.pid_of c.args.names.now) p c.in_ok-none-in-Drop.none) c.in-Drop.ensures
+    (CompileLemmas.compiled-items c.new.result [] c.in_ok-none-in-Drop.none c.new.ensures f.all f.cubes f.assigns (g.N.Names.pid_of c.args.names.now) model.Drop (λ h l. refl) (CompileLemmas.among-none (no_change ∷ [])))
+
+pub returns-in_ok-all-in-Pass : goal.returns-in_ok-all-in-Pass
+returns-in_ok-all-in-Pass g t c =
+    let f = c.in_ok-all-in-Pass.ensures in
+    subst (λ p. IsCompiled (g.N.Names.pid_of c.args.names.now) p c.in_ok-all-in-Pass.all) c.in-Pass.ensures
+    (CompileLemmas.compiled-items c.in_ok-unchanged-in-Pass.field-0 ((no_change, Stay) ∷ []) c.in_ok-all-in-Pass.all c.in_ok-unchanged-in-Pass.ensures f.all f.cubes f.assigns (g.N.Names.pid_of c.args.names.now) model.Pass (λ h l. refl) (λ m k. k))
+
+pub returns-in_ok-blocked-in-Block : goal.returns-in_ok-blocked-in-Block
+returns-in_ok-blocked-in-Block g t c =
+    let f = c.in_ok-blocked-in-Block.ensures in
+    subst (λ p. IsCompiled (g.N.Names.pid_of c.args.names.now) p c.in_ok-blocked-in-Block.blocked) c.in-Block.ensures
+    (CompileLemmas.compiled-items c.in_ok-only-in-Block.field-0 ((no_change, Nowhere) ∷ []) c.in_ok-blocked-in-Block.blocked (c.in_ok-only-in-Block.ensures ∙ ap (λ m. only m Nowhere) c.none.ensures) f.all f.cubes f.assigns (g.N.Names.pid_of c.args.names.now) model.Block (λ h l. refl) (λ m k. k))
+
+pub returns-in_ok-changed-in-Set : goal.returns-in_ok-changed-in-Set
+returns-in_ok-changed-in-Set g t c =
+    let f = c.in_ok-changed-in-Set.ensures in
+    subst (λ p. IsCompiled (g.N.Names.pid_of c.args.names.now) p c.in_ok-changed-in-Set.changed) c.in-Set.ensures
+    (CompileLemmas.compiled-items c.in_ok-only-in-Set.field-0 ((c.in-Set.set, Stay) ∷ []) c.in_ok-changed-in-Set.changed c.in_ok-only-in-Set.ensures f.all f.cubes f.assigns (g.N.Names.pid_of c.args.names.now) (model.Set c.in-Set.set c.in-Set.field-1) (λ h l. refl) (λ m k. k))
+
+pub returns-in_ok-sent-in-Fwd : goal.returns-in_ok-sent-in-Fwd
+returns-in_ok-sent-in-Fwd g t c = subst (λ p. IsCompiled (g.N.Names.pid_of c.args.names.now) p c.in_ok-sent-in-Fwd.sent) c.in-Fwd.ensures c.in_ok-sent-in-Fwd.ensures
+
+pub returns-in_ok-kept-in-Test : goal.returns-in_ok-kept-in-Test
+returns-in_ok-kept-in-Test g t c =
+    subst (λ p. IsCompiled (g.N.Names.pid_of c.args.names.now) p c.in_ok-kept-in-Test.kept) c.in-Test.ensures
+    (CompileLemmas.compiled-match (g.N.Names.pid_of c.args.names.now) (pred_of c.in-Test.pred.now) c.in_ok-kept-in-Test.kept c.in_ok-kept-in-Test.ensures)
+
+pub returns-in_ok-either-in-Both : goal.returns-in_ok-either-in-Both
+returns-in_ok-either-in-Both g t c =
+    let f = c.in_ok-either-in-Both.ensures in
+    subst (λ p. IsCompiled (g.N.Names.pid_of c.args.names.now) p c.in_ok-either-in-Both.either) c.in-Both.ensures
+    (CompileLemmas.compiled-both (g.N.Names.pid_of c.args.names.now) (policy_of c.in-Both.first.now) (policy_of c.in-Both.second.now) c.in_ok-left-in-Both.left c.in_ok-right-in-Both.right c.in_ok-either-in-Both.either c.in_ok-left-in-Both.ensures c.in_ok-right-in-Both.ensures f.union f.cubes f.assigns)
+
+pub returns-in_ok-chained-in-Then : goal.returns-in_ok-chained-in-Then
+returns-in_ok-chained-in-Then g t c =
+    let f = c.in_ok-chained-in-Then.ensures in
+    subst (λ p. IsCompiled (g.N.Names.pid_of c.args.names.now) p c.in_ok-chained-in-Then.chained) c.in-Then.ensures
+    (CompileLemmas.compiled-then (g.N.Names.pid_of c.args.names.now) (policy_of c.in-Then.first.now) (policy_of c.in-Then.second.now) c.in_ok-left-in-Then.left c.in_ok-right-in-Then.right c.in_ok-chained-in-Then.chained c.in_ok-left-in-Then.ensures c.in_ok-right-in-Then.ensures f.chain f.cubes f.assigns)

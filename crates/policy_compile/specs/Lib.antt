@@ -1,0 +1,4 @@
+pub mod Compiled
+pub mod Sets
+pub mod Narrow
+pub mod Measures

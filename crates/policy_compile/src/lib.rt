@@ -1,0 +1,16 @@
+//! Policies compiled to classifiers, and how wide they are.
+#![tactic(auto)]
+
+mod atoms;
+mod fields;
+mod meets;
+mod mods;
+mod policies;
+mod preds;
+mod sets;
+#[cfg(test)]
+mod tests;
+mod width;
+
+pub use policies::compile;
+pub use width::{count_meets, too_wide};

@@ -1,0 +1,114 @@
+//! Policies compiled to classifiers.
+
+ghost use Rattle.std.specs.Prelude.{◌≡◌, ◌∷◌, [], IfOk};
+ghost use Rattle.net_types.specs.declared.cube.Cube.{Cube as AnyCube};
+ghost use Rattle.net_types.specs.declared.headers.Headers.{Headers as AnyHeaders};
+ghost use Rattle.net_types.specs.declared.headers.Loc.{Loc as AnyLoc};
+ghost use Rattle.net_types.specs.declared.headers.Assign.{Assign as AnyAssign};
+ghost use Rattle.net_types.specs.Meets.{IsMeet};
+ghost use Rattle.net_types.specs.Sets.{Member, SameMembers};
+ghost use Rattle.net_types.specs.Policies.{Fwd, den, atoms, mods};
+ghost use Rattle.classifier.specs.Classifiers.{meaning, cubes_of, assigns_of};
+ghost use Rattle.policy_syntax.specs.Views.{policy_of, target_of};
+ghost use Rattle.policy_compile.specs.Compiled.{IsCompiled};
+
+use crate::preds::{compile_pred, unchanged};
+use classifier::{Classifier, Results, parallel, sequence, single};
+use net_types::{Assign, Loc, Memory, Span};
+use policy_isolate::Names;
+use policy_syntax::{Node, Target, Tree};
+use std::alloc::Global;
+
+/// The one pair.
+fn only(alloc: Global, set: Assign, loc: Loc) -> Result<Results, Memory>
+    ensures { IfOk result (λ r. r ≡ (set, loc) ∷ []) }
+{
+    let mut results = Results::new(alloc);
+    results.push((set, loc))?;
+    Ok(results)
+}
+
+/// A packet goes to the target; it is lost where a name is nobody's.
+fn forward<N: Names>(
+    alloc: Global,
+    target: Target<'_>,
+    span: Span,
+    names: &N,
+) -> Result<Classifier, Memory>
+    ensures { IfOk result (λ c. IsCompiled (N.pid_of names.now) (Fwd (target_of target.entry) span) c) }
+{
+    match target {
+        Target::Number(port) => {
+            let out = single(alloc, only(alloc, Assign::none(), Loc::Out(port))?)?;
+            Ok(out)
+        }
+        Target::Name(name) => match names.find(name) {
+            Some(who) => {
+                let sent = single(alloc, only(alloc, Assign::none(), Loc::To(who))?)?;
+                Ok(sent)
+            }
+            None => {
+                let lost = single(alloc, Results::new(alloc))?;
+                Ok(lost)
+            }
+        },
+    }
+}
+
+/// What `compile` does, with its three promises as one.
+fn compiled<N: Names>(alloc: Global, tree: &Tree<'_>, names: &N) -> Result<Classifier, Memory>
+    ensures { IfOk result (λ c. IsCompiled (N.pid_of names.now) (policy_of tree.now) c) }
+{
+    match tree.node() {
+        Node::Drop => {
+            let none = single(alloc, Results::new(alloc))?;
+            Ok(none)
+        }
+        Node::Pass => {
+            let all = single(alloc, unchanged(alloc)?)?;
+            Ok(all)
+        }
+        Node::Block => {
+            let blocked = single(alloc, only(alloc, Assign::none(), Loc::Nowhere)?)?;
+            Ok(blocked)
+        }
+        Node::Fwd(target, span) => {
+            let sent = forward(alloc, target, span, names)?;
+            Ok(sent)
+        }
+        Node::Test(pred) => {
+            let kept = compile_pred(alloc, pred)?;
+            Ok(kept)
+        }
+        Node::Set(set, _) => {
+            let changed = single(alloc, only(alloc, set, Loc::Stay)?)?;
+            Ok(changed)
+        }
+        Node::Both(first, second) => {
+            let left = compiled(alloc, first, names)?;
+            let right = compiled(alloc, second, names)?;
+            let either = parallel(alloc, &left, &right)?;
+            Ok(either)
+        }
+        Node::Then(first, second) => {
+            let left = compiled(alloc, first, names)?;
+            let right = compiled(alloc, second, names)?;
+            let chained = sequence(alloc, &left, &right)?;
+            Ok(chained)
+        }
+    }
+}
+
+/// The classifier that makes of each packet what the policy makes of it. A name that is nobody's leads nowhere.
+pub fn compile<N: Names>(alloc: Global, tree: &Tree<'_>, names: &N) -> Result<Classifier, Memory>
+    // It gives the same set of packets as the policy, of all headers and locations.
+    ensures means { IfOk result (λ c. (h : AnyHeaders) (l : AnyLoc) →
+        SameMembers (meaning c h l) (den (N.pid_of names.now) (policy_of tree.now) h l)) }
+    // Its cubes are meets of the policy's atoms.
+    ensures cubes { IfOk result (λ c. (x : AnyCube) → Member x (cubes_of c) → IsMeet (atoms (policy_of tree.now)) x) }
+    // Its assignments are those of the policy's paths.
+    ensures assigns { IfOk result (λ c. (m : AnyAssign) → Member m (assigns_of c) → Member m (mods (policy_of tree.now))) }
+{
+    let made = compiled(alloc, tree, names)?;
+    Ok(made)
+}
