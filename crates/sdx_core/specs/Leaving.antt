@@ -11,6 +11,7 @@ use Rattle.events.specs.declared.Head.TheVariants.{Fine, Unresolved}
 use Rattle.events.specs.declared.Reply.{Reply}
 use Rattle.net_types.specs.Attributes.{same_option}
 use Rattle.net_types.specs.Frames.{headers_of, tag_mac}
+use Rattle.net_types.specs.declared.address.Pid.{Pid}
 use Rattle.net_types.specs.declared.address.PortNo.{PortNo}
 use Rattle.net_types.specs.declared.address.Tag.{Tag}
 use Rattle.net_types.specs.declared.headers.Headers.{Headers}
@@ -20,9 +21,9 @@ use Rattle.sdx_core.specs.View.{receives}
 use Rattle.sdx_core.specs.declared.announcement.Announcement.{Announcement}
 use Rattle.sdx_core.specs.declared.match_switch.forwarding.Exit.{Exit}
 
--- the port of an announcement, where a port's owner is given it
-abbrev pub port_for : List Participant → PortInfo → Announcement → Option PortNo
-port_for ms q a = if receives ms a q.owner then Some a.port else None
+-- the port of an announcement, where a participant is given it
+abbrev pub port_for : List Participant → Pid → Announcement → Option PortNo
+port_for ms to a = if receives ms a to then Some a.port else None
 
 -- the announcement that has a tag
 abbrev pub has_tag : Tag → Announcement → Bool
@@ -30,7 +31,7 @@ has_tag t a = same_option same_tag a.tag (Some t)
 
 -- the port by which the frames of a tag leave
 abbrev pub port_by_tag : List Participant → List Announcement → PortInfo → Tag → Option PortNo
-port_by_tag ms anns q t = option_and_then (port_for ms q) (find (has_tag t) anns)
+port_by_tag ms anns q t = option_and_then (port_for ms q.owner) (find (has_tag t) anns)
 
 -- a frame's headers, and the port by which it leaves
 abbrev pub exit_of : List Participant → List Announcement → PortInfo → List ℕ → Option Exit

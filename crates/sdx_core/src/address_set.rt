@@ -60,6 +60,7 @@ impl AddressSet {
     pub fn insert_all(&mut self, ips: &[Ip]) -> Result<(), Memory>
         ensures { OnOk result (self.new ≡ ordered ip_cmp (self.old ++ ips.now)) }
     {
+        self.addresses.reserve(ips.len())?;
         for ip in ips {
             self.insert(*ip)?;
         }

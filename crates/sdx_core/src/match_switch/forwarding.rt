@@ -3,14 +3,14 @@
 ghost use Rattle.std.specs.Prelude.{◌≡◌, ◌≤◌, length, IfOk, IfSome};
 ghost use Rattle.events.specs.Table.{tag_at};
 ghost use Rattle.ip_frame.specs.Rewriting.{CanTake};
-ghost use Rattle.sdx_core.specs.Leaving.{exit_of, frames_by, port_by_tag};
+ghost use Rattle.sdx_core.specs.Leaving.{exit_of, frames_by, port_by_tag, port_for};
 
 use crate::announcement::Announcement;
 use crate::ports::mac_of;
 use crate::route_server::receives;
 use events::{Frame, Frames};
 use ip_frame::{headers, rewrite};
-use net_types::{Headers, Items, Memory, Participant, PortInfo, PortNo, Tag};
+use net_types::{Headers, Items, Memory, Participant, Pid, PortInfo, PortNo, Tag};
 use std::alloc::Global;
 
 /// The headers of a frame, and the port by which it leaves.
@@ -71,8 +71,23 @@ fn port_by_tag(
 ) -> Option<PortNo>
     ensures { result ≡ port_by_tag participants.now announcements.now source.now tag }
 {
-    let announcement = announcements.iter().find(|a| a.tag == Some(tag))?;
-    if receives(participants, announcement, source.owner) {
+    for announcement in announcements {
+        if announcement.tag == Some(tag) {
+            return port_for(participants, announcement, source.owner);
+        }
+    }
+    None
+}
+
+/// The port of an announcement, where the participant is given it.
+fn port_for(
+    participants: &[Participant],
+    announcement: &Announcement,
+    to: Pid,
+) -> Option<PortNo>
+    ensures { result ≡ port_for participants.now to announcement.now }
+{
+    if receives(participants, announcement, to) {
         Some(announcement.port)
     } else {
         None
