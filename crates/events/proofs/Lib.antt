@@ -1,3 +1,5 @@
 pub mod Reached
 pub mod Drains
 pub mod Drained
+pub mod OrderedLemmas
+pub mod Routed

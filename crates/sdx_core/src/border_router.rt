@@ -1,7 +1,7 @@
 //! The router at a participant's port: by the longest prefix that it was told, a datagram goes to the MAC of that
 //! prefix's tag (RFC 1812 5.2.4.3).
 
-ghost use Rattle.std.specs.Prelude.{◌≡◌, ◌≤◌, IfSome, Option};
+ghost use Rattle.std.specs.Prelude.{◌≡◌, ◌≤◌, ◌++◌, IfSome, Option, length, drop};
 ghost use Rattle.std.specs.Option.{option_map};
 ghost use Rattle.net_types.specs.Frames.{tag_mac};
 ghost use Rattle.net_types.specs.Routes.{longest_of};
@@ -49,4 +49,12 @@ pub fn tag_mac(tag: Tag) -> Mac
     let middle = (tag.0 / 256 % 256) as u8;
     let low = (tag.0 % 256) as u8;
     Mac([2, 83, 68, high, middle, low])
+}
+
+/// Sends a frame to another MAC.
+pub fn readdress(frame: &mut [u8], to: Mac)
+    requires { 6 ≤ length frame.old }
+    ensures { frame.new ≡ to.0 ++ drop 6 frame.old }
+{
+    frame[..6].copy_from_slice(&to.0);
 }

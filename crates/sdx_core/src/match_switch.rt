@@ -5,6 +5,9 @@ ghost use Rattle.std.specs.List.Sorted.{IsPermutation, IsNonDecreasingBy};
 ghost use Rattle.sdx_core.specs.View.{receives, rule_to};
 ghost use Rattle.sdx_core.specs.Building.{flow_to};
 
+pub mod forwarding;
+pub mod listing;
+
 use crate::announcement::Announcement;
 use crate::route_server::receives;
 use events::{Flow, Flows};
@@ -48,7 +51,7 @@ pub fn flows(alloc: Global, ports: &[PortNo], tag: Tag, to: PortNo) -> Result<Fl
 }
 
 /// Everything leaves by the port.
-fn rule_to(alloc: Global, port: PortNo) -> Result<Rule, Memory>
+pub(crate) fn rule_to(alloc: Global, port: PortNo) -> Result<Rule, Memory>
     ensures { IfOk result (λ rule. rule ≡ rule_to port) }
 {
     let mut actions = Items::new(alloc);

@@ -1,6 +1,7 @@
 //! The declared ports by their numbers.
 
-ghost use Rattle.std.specs.Prelude.{◌≡◌, length, nat_eq, find};
+ghost use Rattle.std.specs.Prelude.{◌≡◌, ◌<◌, IfSome, length, nat_eq, find};
+ghost use Rattle.std.specs.List.{position_from};
 ghost use Rattle.events.specs.Table.{mac_of};
 
 use net_types::{Mac, PortInfo, PortNo};
@@ -12,6 +13,19 @@ pub fn find_port(ports: &[PortInfo], number: PortNo) -> Option<PortInfo>
     for port in ports {
         if port.number == number {
             return Some(*port);
+        }
+    }
+    None
+}
+
+/// The place of the first port of this number.
+pub fn find_place(ports: &[PortInfo], number: PortNo) -> Option<usize>
+    ensures place { result ≡ position_from (λ q. nat_eq q.number.0 number.0) 0 ports.now }
+    ensures within { IfSome result (λ place. place < length ports.now) }
+{
+    for (place, port) in ports.iter().enumerate() {
+        if port.number == number {
+            return Some(place);
         }
     }
     None

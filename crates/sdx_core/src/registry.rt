@@ -51,7 +51,8 @@ fn is_reserved(mac: Mac) -> bool
     &mac.0[..3] == [2u8, 83, 68].as_slice()
 }
 
-fn is_in_pool(base: Ip, size: u32, ip: Ip) -> bool
+/// Whether an address is one of the pool's.
+pub fn is_in_pool(base: Ip, size: u32, ip: Ip) -> bool
     ensures { result ≡ (nat_lt base.0 ip.0 && nat_le ip.0 (base.0 + size)) }
 {
     base.0 < ip.0 && ip.0 as u64 <= base.0 as u64 + size as u64

@@ -5,10 +5,11 @@ ghost use Rattle.events.specs.Fits.{IsStep, IsWellFormed};
 ghost use Rattle.events.specs.declared.Event.TheVariants as lines;
 
 use super::Sdx;
+use crate::address_set::AddressSet;
 use crate::registry::{find_name, is_taken};
 use crate::replies::{bare_reply, refused};
 use events::{Head, Phase, Refusal, Reply};
-use net_types::{Ip, Items, Mac, Memory, Name, Participant, Pid, PortInfo, PortNo, TryCopy};
+use net_types::{Ip, Mac, Memory, Name, Participant, Pid, PortInfo, PortNo, TryCopy};
 
 impl Sdx {
     pub(super) fn exchange(&mut self, base: Ip, size: u32, capacity: u32) -> Reply
@@ -73,7 +74,7 @@ impl Sdx {
         if is_taken(self.ports.items(), self.base, self.size, number, ip, mac) {
             return Ok(refused(self.alloc, Refusal::BadLine));
         }
-        self.resolved.push(Items::new(self.alloc))?;
+        self.resolved.push(AddressSet::new(self.alloc))?;
         let owner = Pid(who as u32);
         match self.ports.push(PortInfo {
             owner,

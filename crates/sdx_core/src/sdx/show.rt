@@ -5,13 +5,29 @@ ghost use Rattle.events.specs.Fits.{IsStep};
 ghost use Rattle.events.specs.declared.Event.TheVariants as lines;
 
 use super::Sdx;
-use events::Reply;
-use net_types::Memory;
+use crate::line_order::is_declared;
+use crate::match_switch::listing::all_flows;
+use crate::replies::{bare_reply, refused};
+use events::{Head, Phase, Refusal, Reply};
+use net_types::{Items, Memory};
 
 impl Sdx {
+    /// All rules of the table.
     pub(super) fn table(&mut self) -> Result<Reply, Memory>
         ensures { IfOk result (λ reply. IsStep self.old lines.Table reply self.new) }
     {
-        Err(Memory)
+        if !is_declared(self.phase) {
+            return Ok(refused(self.alloc, Refusal::Misplaced));
+        }
+        let flows = all_flows(
+            self.alloc,
+            self.participants.items(),
+            self.ports.items(),
+            self.announcements.as_slice(),
+        )?;
+        self.phase = Phase::Running;
+        let mut reply = bare_reply(self.alloc, Head::Fine);
+        reply.adds = Items::from_vec(flows);
+        Ok(reply)
     }
 }

@@ -1,0 +1,55 @@
+-- The different members of a list in an order: they rise, and depend on which members it has alone.
+use Rattle.std.proofs.Common.{◌≡◌, Bool, true, false, ◌||◌, List, [], ◌∷◌, sym, ap, subst, ◌∙◌, refl, inl, inr}
+use Rattle.std.specs.Prelude.{Some, is_some}
+use Rattle.std.specs.Cmp.{IsTotalOrder}
+use Rattle.std.specs.FinMap.{keys, contains_key-keys}
+use Rattle.std.specs.List.{list_any}
+use Rattle.std.specs.Ordering.{eq_by_cmp}
+use Rattle.std.specs.declared.cmp.Ordering.{Ordering}
+use Rattle.std.proofs.lemmas.Bool.{or_left, or_right}
+use Rattle.net_types.proofs.FindLemmas.{is_some-cond}
+use Rattle.net_types.proofs.MapLemmas.{get-tabulate}
+use Rattle.net_types.proofs.RisingLemmas.{before, before_itself, before_trans, keys-IsRising}
+use Rattle.net_types.proofs.SetLemmas.{rising_unique, same_trans, same_sym}
+use Rattle.net_types.proofs.TieLemmas.{ties_itself}
+use Rattle.net_types.specs.Maps.{ordered, tabulate}
+use Rattle.net_types.specs.Sets.{Member, SameMembers, IsRising}
+
+module _ {K : Type 0} (R : K → K → Ordering) (o : IsTotalOrder R) (tie : (x y : K) → eq_by_cmp R x y ≡ true → x ≡ y) where
+  pub member_any : (x : K) (ks : List K) → Member x ks → list_any (eq_by_cmp R x) ks ≡ true
+  member_any x [] m = elim m [ ]
+  member_any x (k ∷ ks) (inl e) = or_left (eq_by_cmp R x k) (list_any (eq_by_cmp R x) ks) (ap (eq_by_cmp R x) (sym e) ∙ ties_itself o x)
+  member_any x (k ∷ ks) (inr m) = or_right (eq_by_cmp R x k) (list_any (eq_by_cmp R x) ks) (member_any x ks m)
+
+  pub any_member : (x : K) (ks : List K) → list_any (eq_by_cmp R x) ks ≡ true → Member x ks
+  any_member x [] e = absurd (cc)
+  any_member x (k ∷ ks) e =
+      elim (eq_by_cmp R x k) as (λ b. eq_by_cmp R x k ≡ b → (b || list_any (eq_by_cmp R x) ks) ≡ true → Member x (k ∷ ks)) [
+        | true ↦ λ t is. inl (tie x k t)
+        | false ↦ λ t is. inr (any_member x ks is)
+      ] refl e
+
+  any_ordered : (x : K) (ks : List K) → list_any (eq_by_cmp R x) (ordered R ks) ≡ list_any (eq_by_cmp R x) ks
+  any_ordered x ks =
+      sym (contains_key-keys (tabulate R ks (λ k. Some k)) x)
+      ∙ ap is_some (get-tabulate R o (λ k. Some k) (λ q k t. ap Some (sym (tie q k t))) ks x)
+      ∙ is_some-cond (list_any (eq_by_cmp R x) ks) x
+
+  -- a list in order has the same members
+  pub ordered_same : (ks : List K) → SameMembers (ordered R ks) ks
+  ordered_same ks = record {
+    onto = λ x m. any_member x ks (sym (any_ordered x ks) ∙ member_any x (ordered R ks) m);
+    back = λ x m. any_member x (ordered R ks) (any_ordered x ks ∙ member_any x ks m);
+  }
+
+  pub ordered_rises : (ks : List K) → IsRising (before R) (ordered R ks)
+  ordered_rises ks = keys-IsRising R (tabulate R ks (λ k. Some k))
+
+  -- a rising list of the same members is the list in order
+  pub ordered_is : (xs ks : List K) → IsRising (before R) xs → SameMembers xs ks → xs ≡ ordered R ks
+  ordered_is xs ks rises same =
+      rising_unique (before R) (before_itself R o) (before_trans R o) xs (ordered R ks) rises (ordered_rises ks) (same_trans same (same_sym (ordered_same ks)))
+
+  -- lists of the same members are the same list in order
+  pub ordered_alike : (xs ys : List K) → SameMembers xs ys → ordered R xs ≡ ordered R ys
+  ordered_alike xs ys same = ordered_is (ordered R xs) ys (ordered_rises xs) (same_trans (ordered_same xs) same)

@@ -1,0 +1,278 @@
+-- What the table of a sound state makes of a frame for a tag that a participant was told, where that tag is still the
+-- prefix's, is what the policies and the present routes give.
+use Rattle.std.proofs.Common.{◌≡◌, ℕ, zero, suc, ◌+◌, ◌*◌, ◌^◌, ◌<◌, Bool, true, false, cond, nat_eq, List, [], ◌∷◌, ◌++◌, length, map, filter, sym, ap, subst, ◌∙◌, refl, arith, inl, inr}
+use Rattle.std.specs.Prelude.{Option, Some, None, is_some, find, slice_get, unwrap_or, slice_index, IfSome, MatchOption}
+use Rattle.std.specs.Cmp.{IsTotalOrder, nat_cmp_total}
+use Rattle.std.specs.Cmp.Lexicographic.{nat_list_cmp_total, slice_cmp}
+use Rattle.std.specs.FinMap.{get, nat_cmp-IsAntisymmetric, slice_cmp-IsAntisymmetric}
+use Rattle.std.specs.List.{filter_map, cons_option}
+use Rattle.std.specs.Option.{option_map, option_map_or, option_and_then}
+use Rattle.std.specs.Ordering.{eq_by_cmp, is_eq, nat_cmp}
+use Rattle.std.proofs.lemmas.Bool.{and_parts, eq-eqb, eqb-true, ne_eqb, or_left}
+use Rattle.std.proofs.lemmas.Cmp.{on_total, then_total}
+use Rattle.std.proofs.lemmas.Option.{option_and_then_some, cond_some}
+use Rattle.net_types.specs.Answers.{Policies, Leaving, answer, answer_for, answer_by, next_port, part_answer, offered_port, policy_of, sent, received, received_at, is_offered}
+use Rattle.net_types.specs.Exports.{Routing, exports, is_given, route}
+use Rattle.net_types.specs.Frames.{has_headers, has_ports, headers_of, ip_end}
+use Rattle.net_types.specs.Octets.{word_at}
+use Rattle.net_types.specs.Headers.{IsValid}
+use Rattle.net_types.specs.Keys.{prefix_cmp}
+use Rattle.net_types.specs.Policies.{Policy, Drop}
+use Rattle.net_types.specs.Routes.{Candidate, best, best_of, candidate, candidates, given, first_of_list, numbers, pids}
+use Rattle.net_types.specs.Sets.{Member, SameMembers, union_over}
+use Rattle.net_types.specs.Signatures.{offer, part, port_with, signature}
+use Rattle.net_types.specs.declared.address.Pid.{Pid}
+use Rattle.net_types.specs.declared.address.PortNo.{PortNo}
+use Rattle.net_types.specs.declared.address.Tag.{Tag}
+use Rattle.net_types.specs.declared.headers.Headers.{Headers}
+use Rattle.net_types.specs.declared.prefix.Prefix.{Prefix}
+use Rattle.net_types.specs.declared.route.Attrs.{Attrs}
+use Rattle.net_types.specs.declared.route.Offer.{Offer}
+use Rattle.net_types.specs.declared.route.Part.{Part}
+use Rattle.net_types.specs.declared.route.PortInfo.{PortInfo}
+use Rattle.net_types.specs.declared.rule.Pair.{Pair}
+use Rattle.net_types.specs.declared.rule.Rule.{Rule}
+use Rattle.net_types.proofs.FindLemmas.{find-IsFound, any_at}
+use Rattle.net_types.proofs.OrderLemmas.{prefixes_total}
+use Rattle.net_types.proofs.RisingLemmas.{filter-Member}
+use Rattle.net_types.proofs.SetLemmas.{Member-map, same_map, map-Member, same_eq, same_trans}
+use Rattle.net_types.proofs.PassLemmas.{is_some-any, some_there}
+use Rattle.net_types.proofs.TieLemmas.{then_ties, tie_Equal}
+use Rattle.net_types.proofs.ValueLemmas.{any_value}
+use Rattle.events.specs.Fits.{ReachesExporters}
+use Rattle.events.specs.Sound.{IsSound, IsRight, part_of, owners_part}
+use Rattle.events.specs.State.{State, Entry, AreRead, ArePolicies, told_to, present, port_of}
+use Rattle.events.specs.Table.{actions_on, done_by, first_match, first_rule, frame_cmp, frame_of, out, tag_at}
+use Rattle.events.specs.Tags.{is_live_for, is_live_pair, same_tag, tells}
+use Rattle.events.specs.declared.Frame.{Frame}
+use Rattle.events.proofs.OrderedLemmas.{ordered_alike}
+
+-- ---- frames in order
+
+pub frames_total : IsTotalOrder frame_cmp
+frames_total = then_total (on_total (λ (f : Frame). f.port.0) nat_cmp_total) (on_total (λ f. f.bytes) nat_list_cmp_total)
+
+pub frames_tie : (f g : Frame) → eq_by_cmp frame_cmp f g ≡ true → f ≡ g
+frames_tie f g e =
+    let parts = and_parts (is_eq (nat_cmp f.port.0 g.port.0)) (is_eq (slice_cmp nat_cmp f.bytes g.bytes)) (sym (then_ties (nat_cmp f.port.0 g.port.0) (slice_cmp nat_cmp f.bytes g.bytes)) ∙ e) in
+    λ i. record {
+      port = record { 0 = nat_cmp-IsAntisymmetric f.port.0 g.port.0 (tie_Equal (nat_cmp f.port.0 g.port.0) parts.0) i };
+      bytes = slice_cmp-IsAntisymmetric nat_cmp-IsAntisymmetric f.bytes g.bytes (tie_Equal (slice_cmp nat_cmp f.bytes g.bytes) parts.1) i;
+    }
+
+-- what leaves depends on the set alone
+pub out_alike : (ports : List PortInfo) (frame : List ℕ) (xs ys : List Leaving) → SameMembers xs ys → out ports frame xs ≡ out ports frame ys
+out_alike ports frame xs ys same = ordered_alike frame_cmp frames_total frames_tie (map (frame_of ports frame) xs) (map (frame_of ports frame) ys) (same_map (frame_of ports frame) same)
+
+-- ---- the candidates for a prefix
+
+-- a member of what a function gives of some, with what it comes from
+record IsGivenBy {A B : Type 0} (f : A → Option B) (y : B) : Type 0 where
+  source : A
+  is : f source ≡ Some y
+
+given_case : {A B : Type 0} (f : A → Option B) (x : A) (ys : List B) (y : B) (o : Option B) → f x ≡ o → Member y (cons_option o ys) → (Member y ys → IsGivenBy f y) → IsGivenBy f y
+given_case f x ys y None e m later = later m
+given_case f x ys y (Some z) e (inl same) later = record { source = x; is = e ∙ ap Some (sym same) }
+given_case f x ys y (Some z) e (inr m) later = later m
+
+filter_map-Member : {A B : Type 0} (f : A → Option B) (xs : List A) (y : B) → Member y (filter_map f xs) → IsGivenBy f y
+filter_map-Member f [] y m = elim m [ ]
+filter_map-Member f (x ∷ xs) y m = given_case f x (filter_map f xs) y (f x) refl m (filter_map-Member f xs y)
+
+-- a candidate is a route that is exported
+pub record IsExported (r : Routing) (to : Pid) (p : Prefix) (c : Candidate) : Type 0 where
+  pub routed : route r c.from p ≡ Some c.attrs
+  pub exported : exports r c.from to p ≡ true
+
+pub candidate_exported : (r : Routing) (to : Pid) (p : Prefix) (c : Candidate) → Member c (candidates r to p) → IsExported r to p c
+candidate_exported r to p c m =
+    let g = filter_map-Member (given r to p) (pids r) c m in
+    let from : Pid = g.source in
+    option_and_then_some (λ (attrs : Attrs). cond (is_given r from to p attrs) (Some (candidate r from attrs)) None) (route r from p) c g.is (λ attrs there is.
+    let parts = cond_some (is_given r from to p attrs) (candidate r from attrs) c is in
+    subst (IsExported r to p) parts.1 (record { routed = there; exported = ap (λ o. option_map_or (is_given r from to p) o false) there ∙ parts.0 }))
+
+first_Member : {A : Type 0} (xs : List A) (x : A) → first_of_list xs ≡ Some x → Member x xs
+first_Member [] x e = absurd (cc)
+first_Member (y ∷ xs) x e = inl (let same : y ≡ x = cc in sym same)
+
+-- the best route is one of the candidates
+pub best_Member : (r : Routing) (to : Pid) (p : Prefix) (c : Candidate) → best r to p ≡ Some c → Member c (candidates r to p)
+best_Member r to p c e = back _ _ (back _ _ (back _ _ (back _ _ (back _ _ (first_Member _ c e)))))
+  where
+    back : (test : Candidate → Bool) (xs : List Candidate) → Member c (filter test xs) → Member c xs
+    back test xs m = (filter-Member test xs c m).stands
+
+-- the port of an exporter's offer is that of its NEXT_HOP
+pub offered_hop : (r : Routing) (to : Pid) (p : Prefix) (c : Candidate) → Member c (candidates r to p) → offered_port (map (offer r) (candidates r to p)) c.from ≡ next_port r p c.from
+offered_hop r to p c m =
+    let offers : List Offer = map (offer r) (candidates r to p) in
+    let test : Offer → Bool = λ o. nat_eq o.exporter.0 c.from.0 in
+    let o = some_there (find test offers) (is_some-any test offers ∙ any_at test offers (offer r c) (Member-map (offer r) (candidates r to p) c m) (eq-eqb c.from.0 c.from.0 refl)) in
+    let found = find-IsFound test offers o.0 o.1 in
+    let image = map-Member (offer r) (candidates r to p) o.0 found.stands in
+    let d : Candidate = image.of in
+    let same : d.from.0 ≡ c.from.0 = ap (λ (x : Offer). x.exporter.0) (sym image.is) ∙ eqb-true o.0.exporter.0 c.from.0 found.passes in
+    ap (λ x. option_map_or (λ (y : Offer). y.port) x (record { 0 = 0 })) o.1
+    ∙ ap (λ (x : Offer). x.port) image.is
+    ∙ sym (ap (λ x. option_map_or (λ (attrs : Attrs). port_with r.ports attrs.next_hop) x (record { 0 = 0 })) (ap (λ n. route r (record { 0 = n }) p) (sym same) ∙ (candidate_exported r to p d image.stands).routed))
+
+-- ---- the part of a sender in the signature of a prefix
+
+skip_case : (who : Pid) (xs : List Part) (o : Option Part) → ((y : Part) → o ≡ Some y → nat_eq y.sender.0 who.0 ≡ false) → part_of (cons_option o xs) who ≡ part_of xs who
+skip_case who xs None other = refl
+skip_case who xs (Some y) other = ap (λ b. cond b (Some y) (part_of xs who)) (other y refl)
+
+part_from : (f : Pid → Option Part) → ((k : Pid) (x : Part) → f k ≡ Some x → x.sender.0 ≡ k.0) → (low count : ℕ) (who : Pid) (x : Part) → f who ≡ Some x → (k : ℕ) → who.0 ≡ low + k → k < count → part_of (filter_map f (map (λ n. record { 0 = n }) (numbers low count))) who ≡ Some x
+part_from f own low zero who x is k place below = absurd (omega arith)
+part_from f own low (suc count) who x is zero place below =
+    let here : who.0 ≡ low = omega arith in
+    let rest : List Part = filter_map f (map (λ n. record { 0 = n }) (numbers (low + 1) count)) in
+    ap (λ o. part_of (cons_option o rest) who) (ap (λ n. f (record { 0 = n })) (sym here) ∙ is)
+    ∙ ap (λ b. cond b (Some x) (part_of rest who)) (eq-eqb x.sender.0 who.0 (own who x is))
+part_from f own low (suc count) who x is (suc k) place below =
+    skip_case who (filter_map f (map (λ n. record { 0 = n }) (numbers (low + 1) count))) (f (record { 0 = low })) (λ y given. ne_eqb y.sender.0 who.0 (λ same. let mine : y.sender.0 ≡ low = own (record { 0 = low }) y given in omega arith))
+    ∙ part_from f own (low + 1) count who x is k (omega arith) (omega arith)
+
+part_sender : (r : Routing) (p : Prefix) (k : Pid) (x : Part) → part r p k ≡ Some x → x.sender.0 ≡ k.0
+part_sender r p k x e = by (best r k p) e
+  where
+    by : (o : Option Candidate) → option_map (λ (c : Candidate). let y : Part = record { sender = k; best = c.from; offers = map (offer r) (candidates r k p) } in y) o ≡ Some x → x.sender.0 ≡ k.0
+    by None e = absurd (cc)
+    by (Some c) e = let same : record { sender = k; best = c.from; offers = map (offer r) (candidates r k p) } ≡ x = cc in ap (λ (y : Part). y.sender.0) (sym same)
+
+-- the part of a participant with a best route
+abbrev pub part_with : Routing → Pid → Prefix → Candidate → Part
+part_with r who p c = record { sender = who; best = c.from; offers = map (offer r) (candidates r who p) }
+
+pub signature_part : (r : Routing) (who : Pid) (p : Prefix) (c : Candidate) → who.0 < length r.participants → best r who p ≡ Some c → part_of (signature r p) who ≡ Some (part_with r who p c)
+signature_part r who p c declared chosen =
+    part_from (part r p) (part_sender r p) 0 (length r.participants) who (part_with r who p c) (ap (option_map (λ (d : Candidate). part_with r who p d)) chosen) who.0 (omega arith) declared
+
+-- ---- policies that drop
+
+all_drop : (texts : List (List ℕ)) (ps : List Policy) → AreRead texts ps → (k : ℕ) → unwrap_or (slice_get ps k) Drop ≡ Drop
+all_drop [] [] read k = refl
+all_drop [] (p ∷ ps) read k = absurd read
+all_drop (t ∷ ts) [] read k = absurd read
+all_drop (t ∷ ts) (p ∷ ps) read zero = read.0.1
+all_drop (t ∷ ts) (p ∷ ps) read (suc k) = all_drop ts ps read.1 k
+
+-- the packet goes to the chosen participant, and leaves by its port as it is
+pub dropped_answer : (s : State) (ps : Policies) → ArePolicies s ps → (sender : Pid) (exporter : Pid → Bool) (chosen : Pid) (port : Pid → PortNo) (h : Headers) → answer_by ps sender exporter chosen port h ≡ record { headers = h; port = port chosen } ∷ []
+dropped_answer s ps are sender exporter chosen port h =
+    ap (λ (t : Policy). union_over (received_at ps port h) (sent ps.named t exporter chosen h)) (all_drop s.outbound ps.outbound are.outbound sender.0)
+    ∙ ap (λ (t : Policy). received ps.named t (port chosen) h ++ []) (all_drop s.inbound ps.inbound are.inbound chosen.0)
+
+-- ---- by the table and by the routes
+
+-- each route's NEXT_HOP is at a port of its participant
+abbrev pub HopsAreOwn : State → Type 0
+HopsAreOwn s = (who : Pid) (p : Prefix) (attrs : Attrs) → route s.routing who p ≡ Some attrs → option_map (λ (x : PortInfo). x.owner) (port_of s (port_with s.routing.ports attrs.next_hop)) ≡ Some who
+
+owned : (o : Option PortInfo) (who : Pid) (test : Pid → Bool) → option_map (λ (x : PortInfo). x.owner) o ≡ Some who → test who ≡ true → MatchOption o ⊥ (λ x. test x.owner ≡ true)
+owned None who test e t = absurd (cc)
+owned (Some x) who test e t = let same : x.owner ≡ who = cc in ap test same ∙ t
+
+pub inport_of : (port : PortNo) (frame : List ℕ) (h : Headers) → headers_of port frame ≡ Some h → h.inport ≡ port
+inport_of port frame h e = let parts = cond_some (has_headers frame) _ h e in ap (λ (x : Headers). x.inport) (sym parts.1)
+
+some_same : {A : Type 0} (o : Option A) (x y : A) → o ≡ Some x → o ≡ Some y → x ≡ y
+some_same o x y e f = cc
+
+module _ (s : State) (sound : IsSound s) (hops : HopsAreOwn s) (q : PortInfo) (at : port_of s q.number ≡ Some q) (declared : q.owner.0 < length s.routing.participants)
+    (p : Prefix) (told : Entry) (has : get (told_to s q.owner) p ≡ Some told) (tagged : get s.tag p ≡ Some told.tag) (c : Candidate) (chosen : best s.routing q.owner p ≡ Some c)
+    (frame : List ℕ) (h : Headers) (read : headers_of q.number frame ≡ Some h) (valid : IsValid h) (sent_to : tag_at frame ≡ Some told.tag) where
+  abbrev r : Routing
+  r = s.routing
+
+  abbrev pair : Pair
+  pair = record { port = q.number; tag = told.tag }
+
+  live : is_live_pair s pair ≡ true
+  live =
+      ap (λ o. option_map_or (is_live_for s told.tag) o false) at
+      ∙ or_left (tells (told_to s q.owner) told.tag) (tells (present s q.owner) told.tag)
+      (any_value prefix_cmp prefixes_total (λ (e : Entry). same_tag e.tag told.tag) (told_to s q.owner) p told has (eq-eqb told.tag.0 told.tag.0 refl))
+
+  abbrev ps : Policies
+  ps = sound.right.0
+
+  are : ArePolicies s ps
+  are = sound.right.1
+
+  kept_part : owners_part s pair ≡ Some (part_with r q.owner p c)
+  kept_part =
+      ap (option_and_then (λ (x : PortInfo). option_and_then (λ sig. part_of sig x.owner) (get s.kept told.tag))) at
+      ∙ ap (option_and_then (λ sig. part_of sig q.owner)) (sound.kept p told.tag tagged)
+      ∙ signature_part r q.owner p c declared chosen
+
+  by_answer : answer ps r q.owner p h ≡ record { headers = h; port = next_port r p c.from } ∷ []
+  by_answer = ap (answer_for ps r q.owner p h) chosen ∙ dropped_answer s ps are q.owner (λ who. exports r who q.owner p) c.from (next_port r p) h
+
+  -- what the kept part gives is what the routes give
+  by_part : part_answer ps (part_with r q.owner p c) h ≡ answer ps r q.owner p h
+  by_part =
+      let own : Part = part_with r q.owner p c in
+      dropped_answer s ps are q.owner (is_offered own.offers) c.from (offered_port own.offers) h
+      ∙ ap (λ n. let l : Leaving = record { headers = h; port = n } in l ∷ []) (offered_hop r q.owner p c (best_Member r q.owner p c chosen))
+      ∙ sym by_answer
+
+  -- the rules of the pair give what the kept part gives
+  by_rules : (rules : List Rule) → get s.table pair ≡ Some rules → SameMembers (first_match s.table q.number frame) (answer ps r q.owner p h)
+  by_rules rules there =
+      let right = sound.right.2 pair rules there in
+      let gives = right.2.gives h valid (inport_of q.number frame h read) in
+      let same : right.0 ≡ part_with r q.owner p c = some_same (owners_part s pair) right.0 (part_with r q.owner p c) right.1 kept_part in
+      let act : Headers → Tag → List Leaving = λ k u. actions_on (unwrap_or (get s.table (record { port = q.number; tag = u })) []) k in
+      let match : first_match s.table q.number frame ≡ map (done_by h) gives.0.actions =
+          ap (λ o. option_map_or (λ (k : Headers). option_map_or (act k) (tag_at frame) []) o []) read
+          ∙ ap (λ o. option_map_or (act h) o []) sent_to
+          ∙ ap (λ o. actions_on (unwrap_or o []) h) there
+          ∙ ap (λ o. option_map_or (λ (x : Rule). map (done_by h) x.actions) o []) gives.1 in
+      same_trans (same_eq match) (same_trans gives.2 (same_eq (ap (λ x. part_answer ps x h) same ∙ by_part)))
+
+  reaches : ReachesExporters s q.owner p (answer ps r q.owner p h)
+  reaches =
+      let from = candidate_exported r q.owner p c (best_Member r q.owner p c chosen) in
+      let hop : next_port r p c.from ≡ port_with r.ports c.attrs.next_hop = ap (λ o. option_map_or (λ (attrs : Attrs). port_with r.ports attrs.next_hop) o (record { 0 = 0 })) from.routed in
+      let here : MatchOption (port_of s (next_port r p c.from)) ⊥ (λ x. exports r x.owner q.owner p ≡ true) =
+          owned (port_of s (next_port r p c.from)) c.from (λ who. exports r who q.owner p) (ap (λ n. option_map (λ (x : PortInfo). x.owner) (port_of s n)) hop ∙ hops c.from p c.attrs from.routed) from.exported in
+      subst (ReachesExporters s q.owner p) (sym by_answer) (λ l m. elim m [
+        | inl same ↦ subst (λ (x : Leaving). MatchOption (port_of s x.port) ⊥ (λ y. exports r y.owner q.owner p ≡ true)) (sym same) here
+        | inr none ↦ absurd none
+      ])
+
+  -- by the table the frame leaves as the policies and the present routes say, and reaches exporters alone
+  pub routed : (ps : Policies) × ArePolicies s ps × MatchOption (headers_of q.number frame) ⊥ (λ k.
+      (out r.ports frame (first_match s.table q.number frame) ≡ out r.ports frame (answer ps r q.owner p k)) × ReachesExporters s q.owner p (answer ps r q.owner p k))
+  routed =
+      let there = some_there (get s.table pair) (sound.pairs pair ∙ live) in
+      (ps, are, subst (λ o. MatchOption o ⊥ (λ k. (out r.ports frame (first_match s.table q.number frame) ≡ out r.ports frame (answer ps r q.owner p k)) × ReachesExporters s q.owner p (answer ps r q.owner p k))) (sym read)
+      (out_alike r.ports frame (first_match s.table q.number frame) (answer ps r q.owner p h) (by_rules there.0 there.1), reaches))
+
+-- ---- headers of octets
+
+-- the headers of a frame of octets are in their ranges
+pub valid_headers : (port : PortNo) (frame : List ℕ) (h : Headers) → port.0 < 2 ^ 16 → ((k : ℕ) → slice_index frame k < 256) → headers_of port frame ≡ Some h → IsValid h
+valid_headers port frame h small octets e =
+    let parts = cond_some (has_headers frame) _ h e in
+    subst IsValid parts.1 (record {
+      inport = small;
+      src = address 26;
+      dst = address 30;
+      proto = octets 23;
+      sport = at 0 (has_ports frame);
+      dport = at 2 (has_ports frame);
+    })
+  where
+    words : (k : ℕ) → word_at k frame < 2 ^ 16
+    words k = let a = octets k in let b = octets (k + 1) in omega arith
+
+    address : (k : ℕ) → 65536 * word_at k frame + word_at (k + 2) frame < 2 ^ 32
+    address k = let a = words k in let b = words (k + 2) in omega arith
+
+    at : (k : ℕ) (b : Bool) → IfSome (cond b (Some (word_at (ip_end frame + k) frame)) None) (λ n. n < 2 ^ 16)
+    at k true = words (ip_end frame + k)
+    at k false = tt

@@ -1,0 +1,61 @@
+-- Which addresses a router has resolved, which it has still to resolve, and what the responder answers (RFC 826).
+use Rattle.std.specs.Prelude.{ℕ, ◌+◌, ◌-◌, Bool, ◌&&◌, nat_le, nat_lt, List, map, Option, Some, None, if◌then◌else◌}
+use Rattle.std.specs.List.{filter_map, list_any}
+use Rattle.std.specs.Option.{option_and_then}
+use Rattle.std.specs.Ordering.{is_lt}
+use Rattle.arp_frame.specs.declared.read.ArpRequest.{ArpRequest}
+use Rattle.events.specs.declared.Exchange.{Exchange}
+use Rattle.net_types.specs.Arp.{arp_reply, arp_request, asked_ip, asker_ip, asker_mac, is_arp_request}
+use Rattle.net_types.specs.Attributes.{same_ip}
+use Rattle.net_types.specs.Frames.{tag_mac}
+use Rattle.net_types.specs.Keys.{ip_cmp}
+use Rattle.net_types.specs.declared.address.Ip.{Ip}
+use Rattle.net_types.specs.declared.address.Mac.{Mac}
+use Rattle.net_types.specs.declared.address.Tag.{Tag}
+use Rattle.net_types.specs.declared.route.PortInfo.{PortInfo}
+use Rattle.sdx_core.specs.Given.{given_to}
+use Rattle.sdx_core.specs.declared.announcement.Announcement.{Announcement}
+use Rattle.sdx_core.specs.declared.given.Given.{Given}
+
+-- by number
+abbrev pub is_before : Ip → Ip → Bool
+is_before a b = is_lt (ip_cmp a b)
+
+-- an address is above the base, by at most the pool's size
+abbrev pub lies_in : Ip → ℕ → Ip → Bool
+lies_in base size ip = nat_lt base.0 ip.0 && nat_le ip.0 (base.0 + size)
+
+-- the MAC of the tag that an address of the pool stands for
+abbrev pub mac_at : Ip → Ip → Mac
+mac_at base ip = record { 0 = tag_mac (record { 0 = ip.0 - base.0 }) }
+
+-- the request that a frame is, where it asks for an address of the pool
+abbrev pub pool_request : Ip → ℕ → List ℕ → Option ArpRequest
+pool_request base size frame =
+    if is_arp_request frame && lies_in base size (asked_ip frame)
+    then Some (record { mac = asker_mac frame; ip = asker_ip frame; target = asked_ip frame })
+    else None
+
+-- the reply to a request for an address of the pool
+abbrev pub reply_to : Ip → ArpRequest → List ℕ
+reply_to base r = arp_reply r.mac r.ip r.target (mac_at base r.target)
+
+-- the router at a port asks for an address of the pool, and the responder replies
+abbrev pub exchange_for : Ip → PortInfo → Ip → Exchange
+exchange_for base q ip = record { request = Some (arp_request q.mac q.ip ip); reply = arp_reply q.mac q.ip ip (mac_at base ip) }
+
+-- the address of a tag
+abbrev pub address_of : Ip → Tag → Ip
+address_of base t = record { 0 = base.0 + t.0 }
+
+-- an address, where it isn't among those
+abbrev pub if_missing : List Ip → Ip → Option Ip
+if_missing known ip = if list_any (same_ip ip) known then None else Some ip
+
+-- the next hop of an announcement that a participant of this AS is given, where it isn't among those
+abbrev pub missing_hop : Ip → ℕ → List Ip → Announcement → Option Ip
+missing_hop base asn known a = option_and_then (λ (g : Given). if_missing known (address_of base g.tag)) (given_to asn a)
+
+-- the next hops that aren't among those, in the order of the announcements
+abbrev pub missing_hops : Ip → ℕ → List Ip → List Announcement → List Ip
+missing_hops base asn known anns = filter_map (missing_hop base asn known) anns

@@ -1,0 +1,69 @@
+//! Addresses, ascending, each once.
+
+ghost use Rattle.std.specs.Prelude.{◌≡◌, ◌++◌, ◌∷◌, [], OnOk};
+ghost use Rattle.std.specs.List.{list_any};
+ghost use Rattle.net_types.specs.Attributes.{same_ip};
+ghost use Rattle.net_types.specs.Keys.{ip_cmp};
+ghost use Rattle.net_types.specs.Maps.{ordered};
+
+use net_types::{Ip, Memory};
+use std::alloc::Global;
+use std::marker::Model;
+
+/// A set of addresses; contracts see the list of them, ascending.
+#[derive(Drop)]
+pub struct AddressSet {
+    addresses: Vec<Ip>,
+}
+
+impl Model for AddressSet {
+    ghost use Rattle.std.specs.Prelude.{List};
+    ghost use Rattle.net_types.specs.Sets.{IsRising};
+    ghost use Rattle.net_types.specs.declared.address.Ip.{Ip};
+    ghost use Rattle.sdx_core.specs.Resolved.{is_before};
+
+    ghost Value = { List Ip };
+
+    ghost view = { λ a. a.addresses.items };
+
+    ghost invariant = { λ a. IsRising is_before a.addresses.items };
+}
+
+impl AddressSet {
+    /// The empty set.
+    pub fn new(alloc: Global) -> AddressSet
+        ensures { result ≡ [] }
+    {
+        AddressSet {
+            addresses: Vec::new(alloc),
+        }
+    }
+
+    /// Whether the address is in the set.
+    pub fn contains(&self, ip: Ip) -> bool
+        ensures { result ≡ list_any (same_ip ip) self.now }
+    {
+        self.addresses.binary_search(&ip).is_ok()
+    }
+
+    /// Puts the address in. After want of memory the set is unchanged.
+    pub fn insert(&mut self, ip: Ip) -> Result<(), Memory>
+        ensures { OnOk result (self.new ≡ ordered ip_cmp (self.old ++ ip ∷ [])) }
+    {
+        if let Err(place) = self.addresses.binary_search(&ip) {
+            self.addresses.insert(place, ip)?;
+        }
+        Ok(())
+    }
+
+    /// Puts the addresses in, one after another.
+    pub fn insert_all(&mut self, ips: &[Ip]) -> Result<(), Memory>
+        ensures { OnOk result (self.new ≡ ordered ip_cmp (self.old ++ ips.now)) }
+    {
+        self.addresses.reserve(ips.len())?;
+        for ip in ips {
+            self.insert(*ip)?;
+        }
+        Ok(())
+    }
+}
