@@ -7,7 +7,7 @@ ghost use Rattle.net_types.specs.AttributeTypes.{type_flags, type_number};
 ghost use Rattle.net_types.specs.Updates.{aggregator_octets, atomic_octets, attribute, attrs_octets, communities_octets, long, med_octets, optional_attrs_octets, passed_on, prefix_octets, prefixes_octets, segment_octets};
 ghost use Rattle.net_types.specs.declared.route.Unknown.{Unknown as Foreign};
 
-use net_types::{Aggregator, AttributeType, Attrs, Ip, Memory, Prefix, Segment, Unknown, Update};
+use net_types::{Aggregator, AttributeType, Attrs, Ip, Memory, Prefix, Segment, Unknown};
 use std::alloc::Global;
 
 /// A number in two octets, without its upper part.
