@@ -15,3 +15,4 @@ mod ReadBack
 mod Values
 mod ReadAsSpelled
 mod SoundReading
+mod ShortReading

@@ -28,7 +28,7 @@ before_itself p e = false≢true (sym (ap is_lt (tied_itself prefixes_total p)) 
 pub before_trans : (p q r : Prefix) → is_before p q ≡ true → is_before q r ≡ true → is_before p r ≡ true
 before_trans p q r e f = ap is_lt (prefixes_total.trans p q r (less (prefix_cmp p q) e) (less (prefix_cmp q r) f))
 
-type_itself : (u : Unknown) → is_type_before u u ≡ true → ⊥
+pub type_itself : (u : Unknown) → is_type_before u u ≡ true → ⊥
 type_itself u e = let l : u.kind < u.kind = ltb-true u.kind u.kind e in omega arith
 
 type_trans : (u v w : Unknown) → is_type_before u v ≡ true → is_type_before v w ≡ true → is_type_before u w ≡ true

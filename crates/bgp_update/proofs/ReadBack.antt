@@ -52,7 +52,7 @@ seven m t k w l a n = simp length-append refl
 front : (m t k w l a : List ℕ) → m ++ (t ++ (k ++ (w ++ (l ++ (a ++ []))))) ≡ m ++ t ++ k ++ w ++ l ++ a
 front m t k w l a = simp (append_assoc, append-nil) refl
 
-message_length : (w a n : List ℕ) → length (update_message w a n) ≡ 23 + length w + length a + length n
+pub message_length : (w a n : List ℕ) → length (update_message w a n) ≡ 23 + length w + length a + length n
 message_length w a n = seven marker (word (23 + length w + length a + length n)) (2 ∷ word (length w)) w (word (length a)) a n ∙ omega arith
 
 head_spells : (n : ℕ) (w a : List ℕ) (ps : List Prefix) (xs : List Attribute) → n ≤ 4096 → 23 + length w + length a ≤ n → ItemsSpell prefix w ps → AllSpell attribute with_type no_types a xs

@@ -51,10 +51,10 @@ of_each : {A : Type 0} (P : A → Type 0) (xs : List A) → ((x : A) → Member 
 of_each P [] h = tt
 of_each P (x ∷ xs) h = (h x (inl refl), of_each P xs (λ y m. h y (inr m)))
 
-front : (s a b : List ℕ) → s ≡ a ++ b → AreOctets s → AreOctets a
+pub front : (s a b : List ℕ) → s ≡ a ++ b → AreOctets s → AreOctets a
 front s a b e h = each_front (λ c. c < 256) a b (subst AreOctets e h)
 
-behind : (s a b : List ℕ) → s ≡ a ++ b → AreOctets s → AreOctets b
+pub behind : (s a b : List ℕ) → s ≡ a ++ b → AreOctets s → AreOctets b
 behind s a b e h = each_back (λ c. c < 256) a b (subst AreOctets e h)
 
 -- ---- segments
@@ -64,7 +64,7 @@ words_fit [] h = tt
 words_fit (a ∷ []) h = tt
 words_fit (a ∷ b ∷ s) h = let one : a < 256 = h.0 in let two : b < 256 = h.1.0 in (omega (arith, one, two), words_fit s h.1.1)
 
-words_count : (n : ℕ) (s : List ℕ) → length s ≡ n * 2 → length (words s) ≡ n
+pub words_count : (n : ℕ) (s : List ℕ) → length s ≡ n * 2 → length (words s) ≡ n
 words_count zero [] e = refl
 words_count zero (a ∷ s) e = absurd (omega (arith, e))
 words_count (suc n) [] e = absurd (omega (arith, e))

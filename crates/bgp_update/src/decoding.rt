@@ -1,10 +1,11 @@
 //! Reading a whole message.
 
-ghost use Rattle.std.specs.Prelude.{◌≡◌, ◌==◌, ◌⊎◌, length, Ok, Err, IfOk, MatchResult};
+ghost use Rattle.std.specs.Prelude.{◌≡◌, ◌≤◌, ◌==◌, ◌⊎◌, length, Ok, Err, IfOk, MatchResult};
 ghost use Rattle.std.specs.List.{list_all};
 ghost use Rattle.net_types.specs.UpdateFormat.{no_types};
 ghost use Rattle.net_types.specs.SoundUpdates.{IsSoundUpdate};
 ghost use Rattle.net_types.specs.UpdateSpelling.{IsFault, Spells};
+ghost use Rattle.net_types.specs.Updates.{canonical};
 ghost use Rattle.net_types.specs.declared.update.Update.{Update as Value};
 ghost use Rattle.net_types.specs.declared.update.Fault.{Fault as Cause};
 ghost use Rattle.bgp_update.specs.Answers.{AreNew, Gives, IsDecoded, head_of};
@@ -71,6 +72,8 @@ pub fn decode(alloc: Global, bytes: &[u8]) -> Result<Update, UpdateFault>
     ensures only { IfOk result (λ u. (v : Value) → Spells bytes.now v → v ≡ u) }
     // It has the form of what messages say, as writing asks for.
     ensures form { IfOk result IsSoundUpdate }
+    // Its canonical message is no longer than a message may be, so it can be written again.
+    ensures short { IfOk result (λ u. length (canonical u) ≤ 4096) }
     // No check fails.
     ensures sound { IfOk result (λ u. (f : Cause) → IsFault bytes.now f → ⊥) }
     // A fault is that of the first check that fails, and of no other.

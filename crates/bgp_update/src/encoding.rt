@@ -1,15 +1,13 @@
 //! Writing the parts of a message: prefixes and attributes.
 
-ghost use Rattle.std.specs.Prelude.{◌≡◌, ◌≤◌, ◌<◌, ◌++◌, [], ◌∷◌, ◌+◌, if◌then◌else◌, length, IfOk, OnOk, filter, nat_lt, nat_le, List};
+ghost use Rattle.std.specs.Prelude.{◌≡◌, ◌<◌, ◌++◌, [], ◌∷◌, if◌then◌else◌, OnOk, nat_lt, nat_le};
 ghost use Rattle.std.specs.List.{flat_map};
 ghost use Rattle.net_types.specs.Octets.{address_octets, word};
 ghost use Rattle.net_types.specs.AttributeTypes.{type_flags, type_number};
-ghost use Rattle.net_types.specs.Updates.{aggregator_octets, atomic_octets, attribute, attrs_octets, canonical, communities_octets, long, med_octets, optional_attrs_octets, passed_on, prefix_octets, prefixes_octets, segment_octets, unknown_octets, update_message};
-ghost use Rattle.net_types.specs.SoundUpdates.{IsSoundUpdate};
-ghost use Rattle.net_types.specs.UpdateSpelling.{Spells};
+ghost use Rattle.net_types.specs.Updates.{aggregator_octets, atomic_octets, attribute, attrs_octets, communities_octets, long, med_octets, optional_attrs_octets, passed_on, prefix_octets, prefixes_octets, segment_octets};
 ghost use Rattle.net_types.specs.declared.route.Unknown.{Unknown as Foreign};
 
-use net_types::{Aggregator, AttributeType, Attrs, Ip, Memory, Prefix, Segment, Unknown, Update};
+use net_types::{Aggregator, AttributeType, Attrs, Ip, Memory, Prefix, Segment, Unknown};
 use std::alloc::Global;
 
 /// A number in two octets, without its upper part.

@@ -79,7 +79,7 @@ fn a_message_cut_at_each_octet_is_refused(rt: HostRuntime) -> Result<(), Fail> {
         assert!(rt; answer(rt.alloc(), &whole[..end])?.as_bytes() == b"bad-header".as_slice());
     }
     for end in 19..whole.len() {
-        whole[17] = end as u8;
+        whole[17] = (end % 256) as u8;
         let told = answer(rt.alloc(), &whole[..end])?;
         // What is left announces nothing at 41, and half a prefix at 42.
         let is_right = if end < 23 {
