@@ -1,9 +1,7 @@
 -- Rules bound one after another.
-use Rattle.std.proofs.Common.{◌≡◌, ℕ, ◌+◌, ◌<◌, Option, Some, None, List, [], ◌∷◌, ◌++◌, length, drop, refl, sym, ap, ◌∙◌, append_assoc}
-use Rattle.net_types.specs.declared.address.Pid.{Pid}
+use Rattle.std.proofs.Common.{◌≡◌, ◌+◌, Option, Some, None, List, [], ◌∷◌, ◌++◌, refl, sym, ap, append_assoc}
 use Rattle.net_types.specs.declared.export.ExportRule.{ExportRule}
-use Rattle.net_types.specs.declared.named_rule.NamedRule.{NamedRule}
-use Rattle.net_types.specs.ExportTexts.{bound_rule, bound_before, bound}
+use Rattle.net_types.specs.ExportTexts.{bound_before}
 
 -- rules that are bound, and those behind them
 abbrev pub behind : List ExportRule → Option (List ExportRule) → Option (List ExportRule)

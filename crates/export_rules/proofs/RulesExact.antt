@@ -11,7 +11,7 @@ use Rattle.grammar.specs.Tokens.{name, is_digit, is_letter, is_name_octet, is_sp
 use Rattle.grammar.specs.Octets.{among}
 use Rattle.grammar.specs.Exactness.{IsExact}
 use Rattle.grammar.proofs.Choices.{pick, either_exact, either_heads}
-use Rattle.grammar.proofs.Exact.{both_exact, both_heads, both_leads}
+use Rattle.grammar.proofs.Exact.{both_exact, both_heads}
 use Rattle.grammar.proofs.Firsts.{Heads, Heads-leads, Heads-within, word_heads, any_leads, headed}
 use Rattle.grammar.proofs.Names.{name_exact, name_heads}
 use Rattle.grammar.proofs.Nothing.{pure_exact, map_exact}
@@ -21,10 +21,8 @@ use Rattle.grammar.proofs.Repeats.{many_exact, many_leads}
 use Rattle.grammar.proofs.Spaces.{no_space, spaces_then, sign_then, sign_heads, sign_opens, gap_then, gap_heads, ends_exact, ends_leads, letters_no_space, digits_no_space}
 use Rattle.grammar.proofs.Words.{word_then}
 use Rattle.net_types.specs.declared.prefix.Prefix.{Prefix}
-use Rattle.net_types.specs.declared.export.Which as which
 use Rattle.net_types.specs.declared.export.Which.TheVariants.{Every, Exactly}
 use Rattle.net_types.specs.declared.export.Which.TheVariants as whiches
-use Rattle.net_types.specs.declared.named_rule.NamedRule.{NamedRule}
 use Rattle.net_types.specs.PolicyGrammar.{prefix}
 use Rattle.net_types.specs.ExportTexts.{verdict, receiver, reach, about, named, rule, more_rule, put_last}
 use Rattle.net_types.specs.ExportTexts as texts
@@ -33,7 +31,6 @@ use Rattle.text_fields.proofs.PrefixExact.{prefix_exact, prefix_heads}
 use Rattle.export_rules.specs.RulesReading.{read_verdict, read_receiver, read_reach, read_about, read_rule, read_more_rule, read_more_rules, read_rules}
 
 -- ---- what may stand behind each part
-
 
 abbrev after_receiver : ℕ → Bool
 after_receiver = among (codes " ")

@@ -30,3 +30,17 @@ fault_subcode faults.Origin = Some 6
 fault_subcode faults.NextHopSyntax = Some 8
 fault_subcode faults.Network = Some 10
 fault_subcode faults.AsPath = Some 11
+
+-- the error code: 1 for what is wrong with the header, 3 for what is wrong with the message (RFC 4271 4.5)
+abbrev pub fault_code : Fault → ℕ
+fault_code faults.NotUpdate = 1
+fault_code faults.BadHeader = 1
+fault_code faults.Malformed = 3
+fault_code faults.UnknownWellKnown = 3
+fault_code faults.MissingWellKnown = 3
+fault_code faults.Flags = 3
+fault_code faults.Length = 3
+fault_code faults.Origin = 3
+fault_code faults.NextHopSyntax = 3
+fault_code faults.Network = 3
+fault_code faults.AsPath = 3

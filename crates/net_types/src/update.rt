@@ -1,7 +1,7 @@
 //! What UPDATE messages say, and what may be wrong with them (RFC 4271 4.3, 6.1, 6.3).
 
 ghost use Rattle.std.specs.Prelude.{◌≡◌};
-ghost use Rattle.net_types.specs.Faults.{fault_word, fault_subcode};
+ghost use Rattle.net_types.specs.Faults.{fault_code, fault_subcode, fault_word};
 
 use crate::list::Prefixes;
 use crate::route::Attrs;
@@ -45,6 +45,7 @@ pub struct FaultRow {
 /// A row of the table of faults.
 fn row(word: &'static str, code: u8, subcode: Option<u8>) -> FaultRow
     ensures word { result.word.now ≡ word.now }
+    ensures code { result.code ≡ code }
     ensures subcode { result.subcode ≡ subcode }
 {
     FaultRow {
@@ -58,6 +59,7 @@ impl Fault {
     /// The table of faults.
     pub fn row(self) -> FaultRow
         ensures word { result.word.now ≡ fault_word self }
+        ensures code { result.code ≡ fault_code self }
         ensures subcode { result.subcode ≡ fault_subcode self }
     {
         match self {

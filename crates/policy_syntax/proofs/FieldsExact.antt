@@ -3,11 +3,11 @@ use Rattle.grammar.proofs.DottedAddresses as dotted
 use Rattle.text_fields.proofs.PrefixExact as prefixes
 use Rattle.text_fields.proofs.PrefixExact.{prefix_heads}
 use Rattle.text_fields.specs.PrefixReading.{read_prefix}
-use Rattle.std.proofs.Common.{◌≡◌, ℕ, ◌≤◌, Bool, true, false, List, [], ◌∷◌, ◌++◌, refl, sym, ap, arith, inl, inr, leb, eqb}
+use Rattle.std.proofs.Common.{◌≡◌, ℕ, ◌≤◌, Bool, true, false, List, [], ◌∷◌, ◌++◌, refl, arith, inl, inr, leb, eqb}
 use Rattle.std.specs.Prelude.{◌⊎◌, ◌&&◌, not, codes}
-use Rattle.std.proofs.lemmas.Bool.{or_left, eq-eqb, both_ways, or_cases, and_parts, leb-true, eqb-true, not_from_false, not-true, false_from_ne_true}
+use Rattle.std.proofs.lemmas.Bool.{or_left, eq-eqb, both_ways, or_cases, and_parts, leb-true, not_from_false, not-true, false_from_ne_true}
 use Rattle.grammar.specs.Rules as rules
-use Rattle.grammar.specs.Rules.{Rule, ◌>>=◌, either, word}
+use Rattle.grammar.specs.Rules.{Rule, ◌>>=◌, word}
 use Rattle.grammar.specs.Tokens.{name, number, is_letter, is_digit, is_name_octet}
 use Rattle.grammar.specs.TextReading as reading
 use Rattle.grammar.specs.TextReading.{Reader, read_word, read_either}
@@ -18,20 +18,18 @@ use Rattle.grammar.specs.Tokens.{address}
 use Rattle.grammar.specs.Octets.{among}
 use Rattle.policy_syntax.specs.PolicyReading.{read_target, read_lead, read_field, read_end, read_test, read_assign}
 use Rattle.grammar.specs.TokenReading.{read_address}
-use Rattle.grammar.proofs.Exact.{same_reader, on_read-on_read, both_exact, tighter}
+use Rattle.grammar.proofs.Exact.{same_reader, on_read-on_read, tighter}
 use Rattle.grammar.specs.Exactness.{IsExact}
 use Rattle.grammar.proofs.Firsts.{Heads, Heads-leads}
 use Rattle.grammar.proofs.OctetKinds.{Apart, Within}
-use Rattle.grammar.proofs.Nothing.{pure_leads}
 use Rattle.grammar.proofs.Choices.{one_of, either_exact, either_heads}
 use Rattle.grammar.proofs.Names.{name_exact}
 use Rattle.grammar.proofs.Numbers.{number_exact}
 use Rattle.grammar.proofs.OctetKinds.{besides, among_within, among_apart, besides_apart, besides_rest}
 use Rattle.grammar.proofs.Firsts.{Heads-within, word_heads}
-use Rattle.grammar.proofs.Exact.{both_heads, both_leads}
+use Rattle.grammar.proofs.Exact.{both_heads}
 use Rattle.grammar.proofs.Words.{word_then}
 use Rattle.grammar.proofs.Spaces.{spaces_then, sign_then, no_space}
-use Rattle.grammar.proofs.Optional.{maybe_exact, maybe_leads}
 use Rattle.grammar.proofs.Same.{same_exact}
 use Rattle.grammar.proofs.CommonFronts.{common_front}
 use Rattle.grammar.proofs.DottedAddresses.{address_heads}

@@ -4,8 +4,8 @@ use Rattle.std.specs.Prelude.{codes}
 use Rattle.grammar.specs.Rules.{Rule, ◌>>=◌, many, SpellsTimes}
 use Rattle.grammar.specs.Tokens.{parens}
 use Rattle.net_types.specs.declared.headers.Span.{Span}
-use Rattle.net_types.specs.Policies.{Test, Pred, Yes, Is, Not, And, Or, Policy, Drop, Pass, Block, Fwd, Match, Set, Both, Then}
-use Rattle.net_types.specs.PolicyGrammar.{span, field, test, truth, tested, prim_with, negation, lit_with, and_lit, conj_with, or_conj, pred_with, pred_group, fwd, match_with, modify, keyword, atom_from, atom_with, then_atom, chain_with, plus_chain, policy_with, policy_group, policy}
+use Rattle.net_types.specs.Policies.{Test, Pred, And, Or, Policy, Drop, Pass, Block, Both, Then}
+use Rattle.net_types.specs.PolicyGrammar.{field, test, truth, tested, prim_with, negation, lit_with, and_lit, conj_with, or_conj, pred_with, pred_group, fwd, match_with, modify, keyword, atom_from, atom_with, then_atom, chain_with, plus_chain, policy_with, policy_group}
 use Rattle.net_types.specs.PolicyTexts.{SpellsPolicy, pred_spans, policy_spans}
 
 -- ---- spans between two places

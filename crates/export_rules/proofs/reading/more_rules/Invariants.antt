@@ -1,4 +1,4 @@
-use Rattle.std.proofs.Common.{◌≤◌, length}
+use Rattle.std.proofs.Common.{length}
 use Rattle.std.specs.Prelude.{codes}
 use Rattle.grammar.specs.Octets.{among}
 use Rattle.grammar.proofs.RepeatLoops.{StillReads}
