@@ -45,10 +45,9 @@ use Rattle.sdx_core.specs.View.{AreTagged, ForEach, IsKept, IsOwn, announced_in,
 use Rattle.sdx_core.specs.declared.announcement.Announcement.{Announcement}
 use Rattle.sdx_core.specs.declared.given.Given.{Given}
 use Rattle.sdx_core.proofs.Framing.{destination_is, is_datagram-none, is_datagram-some, readdressed, tag_at-framed, tagged_headers, tagged_octets}
-use Rattle.sdx_core.proofs.GivenLemmas.{announced_member, given_tag, is_from, told_is, told_longest}
-use Rattle.sdx_core.proofs.Kept.{at_member, is_own, receives_at, route_from, route_kept}
-use Rattle.sdx_core.proofs.KeptMaps.{entry_of, take-AreApart, told_kept}
-use Rattle.sdx_core.proofs.Running.{in_place, numbered, owner_below, placed, refused_at, same_number, step_to}
+use Rattle.sdx_core.proofs.GivenLemmas.{given_tag, told_is, told_longest}
+use Rattle.sdx_core.proofs.Kept.{at_member, is_own, route_from, route_kept}
+use Rattle.sdx_core.proofs.Running.{in_place, numbered, owner_below, placed, refused_at, same_number, step_to, told_given}
 use Rattle.sdx_core.proofs.Soundness.{kept_sound}
 
 -- what a participant took is a front of the announcements
@@ -95,23 +94,6 @@ module _ {phase : Phase} {size capacity : ℕ} {ms : List Participant} {qs : Lis
     datagram : is_datagram bytes ≡ true
     datagram = is_datagram-some port to q.mac bytes h six_to six_from read
 
-    -- what the owner was told of what it is given
-    entry : (g : Given) → Member g (all_given m.asn (take n anns)) → (e : Entry) × (get (told_to s q.owner) g.prefix ≡ Some e) × (e.tag ≡ g.tag)
-    entry g given =
-        let from = is_from m.asn (take n anns) g given in
-        let a : Announcement = from.source in
-        let received : receives ms a q.owner ≡ true = receives_at ms a q.owner m declared ∙ from.other in
-        let e : Entry = record { attrs = a.attrs; tag = g.tag } in
-        (
-        e,
-        told_kept phase base size capacity ms qs rs anns ns kept.told kept.apart q.owner n took g.prefix
-        ∙ ap (λ p. option_and_then (entry_of ms q.owner) (announced_in (take n anns) p)) from.prefix
-        ∙ ap (option_and_then (entry_of ms q.owner)) (announced_member (take n anns) (take-AreApart n anns kept.apart) a from.stands)
-        ∙ ap (λ x. cond x (option_map (λ t. let y : Entry = record { attrs = a.attrs; tag = t } in y) a.tag) None) received
-        ∙ ap (option_map (λ t. let y : Entry = record { attrs = a.attrs; tag = t } in y)) from.tag,
-        refl,
-        )
-
     module _ (g : Given) (given : Member g (all_given m.asn (take n anns))) where
       abbrev frame : List ℕ
       frame = tagged_frame q g.tag bytes
@@ -145,7 +127,7 @@ module _ {phase : Phase} {size capacity : ℕ} {ms : List Participant} {qs : Lis
 
       sent_right : IsSent s q bytes (sent_by s q g.tag (framed to q.mac bytes)) (Some g.prefix)
       sent_right =
-          let e = entry g given in
+          let e = told_given kept q m n declared took g given in
           let b : Bool = is_resolved s q.number (tag_address s g.tag) in
           subst (λ o. MatchOption o ⊥ (λ told. IsTagged (is_resolved s q.number (tag_address s told.tag)) s q bytes g.prefix told (sent_by s q g.tag (framed to q.mac bytes)))) (sym e.1)
           (subst (λ t. IsTagged (is_resolved s q.number (tag_address s t)) s q bytes g.prefix e.0 (sent_by s q g.tag (framed to q.mac bytes))) (sym e.2)
@@ -194,8 +176,8 @@ module _ {phase : Phase} {size capacity : ℕ} {ms : List Participant} {qs : Lis
 
 -- the reply by what was found
 abbrev pub reply_from : State → PortInfo → List ℕ → Option Given → Reply
-reply_from st q frame None = bare Unrouted
-reply_from st q frame (Some g) = sent_by st q g.tag frame
+reply_from st q bytes None = bare Unrouted
+reply_from st q bytes (Some g) = sent_by st q g.tag bytes
 
 module _ {phase : Phase} {size capacity : ℕ} {ms : List Participant} {qs : List PortInfo} {rs : List (List Ip)} {anns : List Announcement} {ns : List ℕ} {rules : ℕ} {base : Ip} (kept : IsKept phase size capacity ms qs rs anns ns rules base) where
   abbrev here : State
@@ -204,11 +186,11 @@ module _ {phase : Phase} {size capacity : ℕ} {ms : List Participant} {qs : Lis
   abbrev there : State
   there = state_of Running base size capacity ms qs rs anns ns
 
-  replies : (q : PortInfo) (frame : List ℕ) (port : PortNo) (found : find (numbered port) qs ≡ Some q) (m : Participant) (n : ℕ) (declared : slice_get ms q.owner.0 ≡ Some m) (took : slice_get ns q.owner.0 ≡ Some n)
+  replies : (q : PortInfo) (f : List ℕ) (port : PortNo) (found : find (numbered port) qs ≡ Some q) (m : Participant) (n : ℕ) (declared : slice_get ms q.owner.0 ≡ Some m) (took : slice_get ns q.owner.0 ≡ Some n)
       (bytes : List ℕ) (to : Mac) (h : Headers) (six_to : length to.0 ≡ 6) (six_from : length q.mac.0 ≡ 6) (low : port.0 < 2 ^ 16) (octets : (k : ℕ) → slice_index (framed to q.mac bytes) k < 256) (read : headers_of port (framed to q.mac bytes) ≡ Some h)
       (o : Option Given) → reply_from here q (framed to q.mac bytes) o ≡ reply_by kept port q found m n declared took bytes to h six_to six_from low octets read o
-  replies q frame port found m n declared took bytes to h six_to six_from low octets read None = refl
-  replies q frame port found m n declared took bytes to h six_to six_from low octets read (Some g) = refl
+  replies q f port found m n declared took bytes to h six_to six_from low octets read None = refl
+  replies q f port found m n declared took bytes to h six_to six_from low octets read (Some g) = refl
 
   pub packet_found : (port : PortNo) (q : PortInfo) → find (numbered port) qs ≡ Some q → (m : Participant) (n : ℕ) → slice_get ms q.owner.0 ≡ Some m → slice_get ns q.owner.0 ≡ Some n
       → (bytes frame : List ℕ) (to : Mac) (h : Headers) → length to.0 ≡ 6 → length q.mac.0 ≡ 6 → port.0 < 2 ^ 16 → frame ≡ framed to q.mac bytes → ((k : ℕ) → slice_index frame k < 256) → headers_of port frame ≡ Some h

@@ -1,14 +1,15 @@
 -- The lines that change neither declarations nor routes: when they are in place, and the lists after them.
-use Rattle.std.proofs.Common.{◌≡◌, ℕ, zero, suc, ◌+◌, ◌≤◌, ◌<◌, Bool, true, false, cond, nat_eq, List, [], ◌∷◌, ◌++◌, length, sym, ap, subst, ◌∙◌, refl, arith}
+use Rattle.std.proofs.Common.{◌≡◌, ℕ, zero, suc, ◌+◌, ◌≤◌, ◌<◌, Bool, true, false, cond, nat_eq, List, [], ◌∷◌, ◌++◌, length, take, sym, ap, subst, ◌∙◌, refl, arith}
 use Rattle.std.specs.Prelude.{Option, Some, None, find, slice_get, slice_set, unwrap_or}
 use Rattle.std.specs.List.{position_from}
-use Rattle.std.specs.Option.{option_map_or}
+use Rattle.std.specs.FinMap.{get}
+use Rattle.std.specs.Option.{option_map, option_map_or, option_and_then}
 use Rattle.std.proofs.lemmas.Bool.{eqb-true}
 use Rattle.events.specs.After.{next}
 use Rattle.events.specs.Fits.{IsStep, IsAnswer, bare}
 use Rattle.events.specs.Refusals.{is_placed, refusal, refusal_in_place}
 use Rattle.events.specs.Resolving.{is_resolved, port_place, resolved_at, with_resolved}
-use Rattle.events.specs.State.{State, port_of}
+use Rattle.events.specs.State.{State, Entry, port_of, told_to}
 use Rattle.events.specs.declared.Event.{Event}
 use Rattle.events.specs.declared.Head.TheVariants.{Refused}
 use Rattle.events.specs.declared.Phase.{Phase}
@@ -23,10 +24,16 @@ use Rattle.net_types.specs.declared.address.PortNo.{PortNo}
 use Rattle.net_types.specs.declared.route.Participant.{Participant}
 use Rattle.net_types.specs.declared.route.PortInfo.{PortInfo}
 use Rattle.net_types.proofs.FindLemmas.{find-IsFound}
+use Rattle.net_types.specs.Sets.{Member}
+use Rattle.net_types.specs.declared.address.Tag.{Tag}
+use Rattle.sdx_core.specs.Given.{all_given}
 use Rattle.sdx_core.specs.Placed.{is_declared}
-use Rattle.sdx_core.specs.View.{HasOwner, IsKept, ForEach, state_of}
+use Rattle.sdx_core.specs.View.{HasOwner, IsKept, ForEach, announced_in, receives, state_of}
 use Rattle.sdx_core.specs.declared.announcement.Announcement.{Announcement}
-use Rattle.sdx_core.proofs.Kept.{at_member}
+use Rattle.sdx_core.specs.declared.given.Given.{Given}
+use Rattle.sdx_core.proofs.GivenLemmas.{announced_member, is_from}
+use Rattle.sdx_core.proofs.Kept.{at_member, receives_at}
+use Rattle.sdx_core.proofs.KeptMaps.{entry_of, take-AreApart, told_kept}
 use Rattle.sdx_core.proofs.Soundness.{kept_sound}
 use Rattle.sdx_core.proofs.Steps.{accepted, refused_step, step_at}
 
@@ -141,3 +148,19 @@ module _ {phase : Phase} {size capacity : ℕ} {ms : List Participant} {qs : Lis
   -- a port that was found is the one of its number
   pub found_again : (st : State) → s ≡ st → (port : PortNo) (q : PortInfo) → find (numbered port) qs ≡ Some q → port_of st q.number ≡ Some q
   found_again st is port q found = ap (λ x. port_of x q.number) (sym is) ∙ ap (λ x. find (numbered x) qs) (same_number qs port q found) ∙ found
+
+  -- what a port's owner was told of what it is given
+  pub told_given : (q : PortInfo) (m : Participant) (n : ℕ) → slice_get ms q.owner.0 ≡ Some m → slice_get ns q.owner.0 ≡ Some n → (g : Given) → Member g (all_given m.asn (take n anns)) → (e : Entry) × (get (told_to s q.owner) g.prefix ≡ Some e) × (e.tag ≡ g.tag)
+  told_given q m n declared took g given =
+      let from = is_from m.asn (take n anns) g given in
+      let a : Announcement = from.source in
+      let received : receives ms a q.owner ≡ true = receives_at ms a q.owner m declared ∙ from.other in
+      let e : Entry = record { attrs = a.attrs; tag = g.tag } in (
+        e,
+        told_kept phase base size capacity ms qs rs anns ns kept.told kept.apart q.owner n took g.prefix
+            ∙ ap (λ p. option_and_then (entry_of ms q.owner) (announced_in (take n anns) p)) from.prefix
+            ∙ ap (option_and_then (entry_of ms q.owner)) (announced_member (take n anns) (take-AreApart n anns kept.apart) a from.stands)
+            ∙ ap (λ x. cond x (option_map (λ t. let y : Entry = record { attrs = a.attrs; tag = t } in y) a.tag) None) received
+            ∙ ap (option_map (λ t. let y : Entry = record { attrs = a.attrs; tag = t } in y)) from.tag,
+        refl,
+      )
