@@ -37,7 +37,7 @@ pub tag_known : (o : Option Tag) (t : Tag) → same_option same_tag o (Some t) �
 tag_known None t e = cc
 tag_known (Some u) t e = λ i. Some (record { 0 = eqb-true u.0 t.0 e i })
 
-entry_parts : (b : Bool) (a : Announcement) (o : Option Tag) (e : Entry) → cond b (option_map (λ t. let x : Entry = record { attrs = a.attrs; tag = t } in x) o) None ≡ Some e → (b ≡ true) × (o ≡ Some e.tag)
+pub entry_parts : (b : Bool) (a : Announcement) (o : Option Tag) (e : Entry) → cond b (option_map (λ t. let x : Entry = record { attrs = a.attrs; tag = t } in x) o) None ≡ Some e → (b ≡ true) × (o ≡ Some e.tag)
 entry_parts true a None e is = absurd (cc)
 entry_parts true a (Some t) e is = (refl, ap (option_map (λ (x : Entry). x.tag)) is)
 entry_parts false a o e is = absurd (cc)

@@ -35,7 +35,7 @@ tag_place : (b : Bool) (n : ℕ) (t : Tag) → t.0 ≤ n → same_option same_ta
 tag_place true n t le = ne_eqb (n + 1) t.0 (λ e. omega arith)
 tag_place false n t le = refl
 
-count_up : (b : Bool) (n : ℕ) → n ≤ cond b (n + 1) n
+pub count_up : (b : Bool) (n : ℕ) → n ≤ cond b (n + 1) n
 count_up true n = omega arith
 count_up false n = omega arith
 

@@ -3,6 +3,7 @@
 ghost use Rattle.std.specs.Prelude.{◌≡◌, ◌<◌, IfSome, length, nat_eq, find};
 ghost use Rattle.std.specs.List.{position_from};
 ghost use Rattle.events.specs.Table.{mac_of};
+ghost use Rattle.ip_frame.specs.Places.{AreOctets};
 
 use net_types::{Mac, PortInfo, PortNo};
 
@@ -44,4 +45,9 @@ pub fn mac_of(ports: &[PortInfo], number: PortNo) -> Mac
 /// A hardware address has six octets.
 pub fn known(mac: Mac)
     ensures { length mac.0 ≡ 6 }
+{}
+
+/// Octets are below 256.
+pub fn are_octets(octets: &[u8])
+    ensures { AreOctets octets.now }
 {}

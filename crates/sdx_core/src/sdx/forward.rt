@@ -11,7 +11,7 @@ use super::Sdx;
 use crate::border_router::{longest_match, readdress, tag_mac};
 use crate::line_order::is_declared;
 use crate::match_switch::forwarding::{exit_of, leave};
-use crate::ports::{find_place, find_port, known};
+use crate::ports::{are_octets, find_place, find_port, known};
 use crate::replies::{bare_reply, refused};
 use events::{Frames, Head, Phase, Refusal, Reply};
 use ip_frame::{headers, wrap};
@@ -33,6 +33,7 @@ impl Sdx {
         };
         known(source.mac);
         let frame = wrap(self.alloc, bytes.items(), source.mac, NOBODY)?;
+        are_octets(frame.as_slice());
         let Some(fields) = headers(port, frame.as_slice()) else {
             return Ok(refused(self.alloc, Refusal::BadPacket));
         };
