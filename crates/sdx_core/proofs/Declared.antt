@@ -17,7 +17,8 @@ use Rattle.events.specs.declared.Phase.TheVariants.{Start, Declaring}
 use Rattle.events.specs.declared.Refusal.{Refusal}
 use Rattle.events.specs.declared.Refusal.TheVariants.{BadLine, Misplaced}
 use Rattle.events.specs.declared.Reply.{Reply}
-use Rattle.net_types.specs.Exports.{ExportRule, pid_of}
+use Rattle.net_types.specs.Exports.{pid_of}
+use Rattle.net_types.specs.declared.export.ExportRule.{ExportRule}
 use Rattle.net_types.specs.Octets.{same_octets}
 use Rattle.net_types.specs.declared.address.Ip.{Ip}
 use Rattle.net_types.specs.declared.address.Mac.{Mac}

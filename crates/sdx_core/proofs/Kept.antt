@@ -8,7 +8,8 @@ use Rattle.std.specs.Ordering.{nat_cmp, eq_by_cmp, is_eq}
 use Rattle.std.proofs.lemmas.Bool.{or_parts, eqb-true, eq-eqb, ne_eqb}
 use Rattle.std.proofs.lemmas.Option.{slice_get_within}
 use Rattle.events.specs.Tags.{is_carried}
-use Rattle.net_types.specs.Exports.{Routing, ExportRule, route, is_given, allows, is_in_path}
+use Rattle.net_types.specs.declared.export.ExportRule.{ExportRule}
+use Rattle.net_types.specs.Exports.{Routing, route, is_given, allows, is_in_path}
 use Rattle.net_types.specs.Keys.{prefix_cmp, RouteKey, route_cmp}
 use Rattle.net_types.specs.Routes.{Candidate, given, candidates, candidate, best, best_of, pids, numbers}
 use Rattle.net_types.specs.Sets.{Member}
