@@ -1,5 +1,5 @@
 use Rattle.std.proofs.Common.{◌≡◌, ◌<◌, ◌≤◌, length, List, [], ◌∷◌, ◌++◌, map, sym, ap, ◌∙◌, arith, get_or}
-use Rattle.std.specs.Prelude.{slice_set}
+use Rattle.std.specs.Prelude.{Some, slice_set}
 use Rattle.std.proofs.lemmas.List.{get_or_read}
 use Rattle.std.proofs.lemmas.Option.{slice_get-get_or}
 use Rattle.net_types.specs.Keys.{ip_cmp}
@@ -36,15 +36,16 @@ returns c =
     let here = slice_get-get_or a.ports place no_port less in
     let owner : q.owner.0 < length a.participants = owner_at a.participants a.ports place q c.self.invariant.owners here in
     let told : length a.told.items ≡ length a.participants = c.self.invariant.told in
-    let held : c.index_mut.result.now ≡ get_or a.resolved.items place c.index-as_slice-place.result =
-        get_or_read a.resolved.items place c.index_mut.result.now (omega arith) c.index_mut.ensures.value c.index-as_slice-place.result in
-    let missing = rw (c.items-2.ensures, c.items-3.ensures, c.as_slice.ensures.value, c.as_slice-2.ensures.value, c.as_slice-3.ensures.value) at c.in_ok-missing.ensures in
+    let set = c.index-as_slice-place.result in
+    let set_is : set ≡ get_or a.resolved.items place set = c.index-as_slice-place.is ∙ ap (λ xs. get_or xs place set) c.as_slice-3.ensures.value in
+    let held : c.index_mut.result.now ≡ set = get_or_read a.resolved.items place c.index_mut.result.now (omega arith) c.index_mut.ensures.value set ∙ sym set_is in
+    let missing = rw (c.items-2.ensures, c.items-3.ensures, c.as_slice.ensures.value, c.as_slice-2.ensures.value) at c.in_ok-missing.ensures in
     let plain = c.bare_reply-reply.ensures in
     let asks = (rw (c.items-2.ensures, c.as_slice-4.ensures.value) at c.in_ok-reply.ensures) in
     resolve_at c.self.invariant c.args.port place q (sym (rw c.items.ensures at c.find_place.ensures.place) ∙ c.in-Some.is) here
     (get_or a.participants q.owner.0 c.index-items-owner.result) (get_or a.told.items q.owner.0 0)
     (slice_get-get_or a.participants q.owner.0 c.index-items-owner.result owner) (slice_get-get_or a.told.items q.owner.0 0 (omega arith))
-    (get_or a.resolved.items place c.index-as_slice-place.result) (slice_get-get_or a.resolved.items place c.index-as_slice-place.result (omega arith))
+    set (slice_get-get_or a.resolved.items place set (omega arith) ∙ ap Some (sym set_is))
     (sym c.is_declared.ensures ∙ c.if-not-is_declared.false)
     (slice_set a.resolved.items place c.insert_all.new.self)
     (ap (slice_set a.resolved.items place) (c.in_ok-insert_all.ensures ∙ (λ i. ordered ip_cmp (held i ++ (c.as_slice-5.ensures.value ∙ missing) i))))
