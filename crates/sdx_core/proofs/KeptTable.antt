@@ -77,7 +77,7 @@ abbrev pub rules_for : List Participant → Announcement → PortInfo → Option
 rules_for ms a q = cond (receives ms a q.owner) (Some (rule_to a.port ∷ [])) None
 
 -- no later port has the first one's number
-number_once : (q : PortInfo) (qs : List PortInfo) (n : PortNo) → HasNoRepeats (numbers_of (q ∷ qs)) → with_number n q ≡ true → find (with_number n) qs ≡ None
+pub number_once : (q : PortInfo) (qs : List PortInfo) (n : PortNo) → HasNoRepeats (numbers_of (q ∷ qs)) → with_number n q ≡ true → find (with_number n) qs ≡ None
 number_once q qs n apart e =
     find_none (with_number n) qs (λ x m. ne_eqb x.number.0 n.0 (λ same.
     let alike : x.number.0 ≡ q.number.0 = (let first : q.number.0 ≡ n.0 = eqb-true q.number.0 n.0 e in omega arith) in
@@ -91,7 +91,7 @@ pub owner_cond : (o : Option Participant) (a : Announcement) (q : PortInfo) → 
 owner_cond None a q = refl
 owner_cond (Some m) a q = refl
 
-pair_ties : (pair : Pair) (q : PortInfo) (t : Tag) → eq_by_cmp pair_cmp pair (record { port = q.number; tag = t }) ≡ (nat_eq q.number.0 pair.port.0 && nat_eq t.0 pair.tag.0)
+pub pair_ties : (pair : Pair) (q : PortInfo) (t : Tag) → eq_by_cmp pair_cmp pair (record { port = q.number; tag = t }) ≡ (nat_eq q.number.0 pair.port.0 && nat_eq t.0 pair.tag.0)
 pair_ties pair q t =
     then_ties (nat_cmp pair.port.0 q.number.0) (nat_cmp pair.tag.0 t.0)
     ∙ ap (λ b. b && is_eq (nat_cmp pair.tag.0 t.0)) (nat_ties pair.port.0 q.number.0)

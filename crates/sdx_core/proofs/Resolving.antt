@@ -38,19 +38,20 @@ use Rattle.net_types.specs.declared.address.Tag.{Tag}
 use Rattle.net_types.specs.declared.route.Participant.{Participant}
 use Rattle.net_types.specs.declared.route.PortInfo.{PortInfo}
 use Rattle.net_types.proofs.FindLemmas.{Member-take, slice_get_some}
-use Rattle.net_types.proofs.MemberLemmas.{Member-filter_map}
+use Rattle.net_types.proofs.MemberLemmas.{Member-at, Member-filter_map}
 use Rattle.net_types.proofs.OrderLemmas.{prefixes_total}
 use Rattle.net_types.proofs.PassLemmas.{any_map}
+use Rattle.net_types.proofs.RisingLemmas.{filter-Member}
 use Rattle.net_types.proofs.SetLemmas.{Member-map, map-Member}
 use Rattle.net_types.proofs.ValueLemmas.{any_value, value_at}
 use Rattle.sdx_core.specs.Given.{all_given, given_to}
 use Rattle.sdx_core.specs.Placed.{is_declared}
-use Rattle.sdx_core.specs.Resolved.{address_of, exchange_for, if_missing, is_before, lies_in, missing_hop, missing_hops, pool_request, reply_to}
+use Rattle.sdx_core.specs.Resolved.{address_of, exchange_for, if_missing, is_before, learned, lies_in, missing_hop, missing_hops, pool_request, reply_to}
 use Rattle.sdx_core.specs.View.{AreTagged, IsKept, announced_in, is_given_on, receives, state_of, tag_at_place, tag_count}
 use Rattle.sdx_core.specs.declared.announcement.Announcement.{Announcement}
 use Rattle.sdx_core.specs.declared.given.Given.{Given}
 use Rattle.sdx_core.proofs.AddressSets.{among_member, ips_tie, ips_total, member_among}
-use Rattle.sdx_core.proofs.GivenLemmas.{announced_member, is_from, tag_below}
+use Rattle.sdx_core.proofs.GivenLemmas.{given_tag, is_from, tag_below}
 use Rattle.sdx_core.proofs.Kept.{announced_Member, receives_at}
 use Rattle.sdx_core.proofs.KeptLive.{entry_parts, take-AreTagged}
 use Rattle.sdx_core.proofs.KeptMaps.{entry_of, take-AreApart, told_kept}
@@ -111,14 +112,11 @@ before_from x y less = ap is_lt (sym (nat_cmp_is x.0 y.0 Less less))
 
 hops_rise : (base : Ip) (asn : ℕ) (ms : List Participant) (n : ℕ) (anns : List Announcement) → AreTagged ms n anns → IsRising is_before (hops base asn anns)
 hops_rise base asn ms n [] tagged = tt
-hops_rise base asn ms n (a ∷ anns) tagged = by (given_to asn a) refl
+hops_rise base asn ms n (a ∷ anns) tagged = by (given_to asn a) refl (hops_rise base asn ms (cond (is_given_on ms a) (n + 1) n) anns tagged.1)
   where
-    later : IsRising is_before (hops base asn anns)
-    later = hops_rise base asn ms (cond (is_given_on ms a) (n + 1) n) anns tagged.1
-
-    by : (o : Option Given) → given_to asn a ≡ o → IsRising is_before (map (λ (g : Given). address_of base g.tag) (cons_option o (all_given asn anns)))
-    by None e = later
-    by (Some g) e = (
+    by : (o : Option Given) → given_to asn a ≡ o → IsRising is_before (hops base asn anns) → IsRising is_before (map (λ (g : Given). address_of base g.tag) (cons_option o (all_given asn anns)))
+    by None e later = later
+    by (Some g) e later = (
       λ y m.
           let tag : a.tag ≡ Some g.tag = tag_case a g (not (is_in_path asn a.attrs.path)) a.tag e in
           let most : g.tag.0 ≤ cond (is_given_on ms a) (n + 1) n = (above_case (is_given_on ms a) n g.tag (sym tag ∙ tagged.0)).1 in
@@ -126,6 +124,11 @@ hops_rise base asn ms n (a ∷ anns) tagged = by (given_to asn a) refl
           before_from (address_of base g.tag) y (omega arith),
       later,
     )
+
+set_same : {A : Type 0} (xs : List A) (k : ℕ) (x : A) → slice_get xs k ≡ Some x → slice_set xs k x ≡ xs
+set_same [] k x e = absurd (cc)
+set_same (y ∷ xs) zero x e = (let same : y ≡ x = cc in ap (λ z. z ∷ xs) (sym same))
+set_same (y ∷ xs) (suc k) x e = ap (λ ys. y ∷ ys) (set_same xs k x e)
 
 -- ---- lines of ports
 
@@ -181,31 +184,25 @@ module _ {phase : Phase} {size capacity : ℕ} {ms : List Participant} {qs : Lis
           is reply
 
       -- the router has resolved the address where it asked with its own MAC
-      pub answered_at : is_declared phase ≡ true → (asked : ArpRequest) → pool_request base size bytes ≡ Some asked → (set : List Ip) → slice_get rs place ≡ Some set → (own : Bool) → same_octets asked.mac.0 q.mac.0 ≡ own
-          → (rs' : List (List Ip)) → rs' ≡ cond own (slice_set rs place (ordered ip_cmp (set ++ asked.target ∷ []))) rs → (st : State) (r : Reply) → s ≡ st
+      pub answered_at : is_declared phase ≡ true → (asked : ArpRequest) → pool_request base size bytes ≡ Some asked → (set : List Ip) → slice_get rs place ≡ Some set
+          → (rs' : List (List Ip)) → rs' ≡ slice_set rs place (learned set q.mac asked) → (st : State) (r : Reply) → s ≡ st
           → r ≡ record (bare Fine) { asks = record { request = None; reply = reply_to base asked } ∷ [] } → IsStep st (Arp port bytes) r (state_of Running base size capacity ms qs rs' anns ns)
-      answered_at ready asked is_asked set there own mine rs' more st r is reply =
-          let parts = cond_some asks (record { mac = asker_mac bytes; ip = asker_ip bytes; target = asked_ip bytes }) asked is_asked in
-          let answer : Reply = record (bare Fine) { asks = record { request = None; reply = reply_to base asked } ∷ [] } in
-          let mac : same_octets (asker_mac bytes).0 q.mac.0 ≡ own = ap (λ (x : ArpRequest). same_octets x.mac.0 q.mac.0) parts.1 ∙ mine in
-          let target : asked_ip bytes ≡ asked.target = ap (λ (x : ArpRequest). x.target) parts.1 in
-          step_to kept (Arp port bytes) answer r rs' st (as_long own rs' more) (not_refused ready)
-          (sym (after_arp answer refl refl refl
+      answered_at ready asked is_asked set there rs' more st r is reply =
+          let whole : ArpRequest = record { mac = asker_mac bytes; ip = asker_ip bytes; target = asked_ip bytes } in
+          let parts = cond_some asks whole asked is_asked in
+          let answer : ArpRequest → Reply = λ x. record (bare Fine) { asks = record { request = None; reply = reply_to base x } ∷ [] } in
+          step_to kept (Arp port bytes) (answer asked) r rs' st (ap length more ∙ length-set rs place (learned set q.mac asked)) (not_refused ready)
+          (sym (after_arp (answer asked) refl refl refl
           ∙ ap (λ b. let x : State = cond (b && same_octets (asker_mac bytes).0 q.mac.0) (with_resolved s q.number (asked_ip bytes ∷ [])) s in record (running x) { table = s.table }) parts.0
-          ∙ ap (λ b. let x : State = cond b (with_resolved s q.number (asked_ip bytes ∷ [])) s in record (running x) { table = s.table }) mac
-          ∙ by_mac own ∙ ap (λ ip. state_of Running base size capacity ms qs (cond own (slice_set rs place (ordered ip_cmp (set ++ ip ∷ []))) rs) anns ns) target
+          ∙ by_mac set there (same_octets (asker_mac bytes).0 q.mac.0)
+          ∙ ap (λ x. state_of Running base size capacity ms qs (slice_set rs place (learned set q.mac x)) anns ns) parts.1
           ∙ ap (λ xs. state_of Running base size capacity ms qs xs anns ns) (sym more)))
-          (ap (λ x. record (bare Fine) { asks = record { request = None; reply = reply_to base x } ∷ [] }) (sym parts.1)
-          ∙ sym (ap (λ b. cond b (record (bare Fine) { asks = record { request = None; reply = reply_to base (record { mac = asker_mac bytes; ip = asker_ip bytes; target = asked_ip bytes }) } ∷ [] }) (bare Silent)) parts.0))
+          (ap answer (sym parts.1) ∙ sym (ap (λ b. cond b (answer whole) (bare Silent)) parts.0))
           is reply
         where
-          as_long : (own : Bool) (rs' : List (List Ip)) → rs' ≡ cond own (slice_set rs place (ordered ip_cmp (set ++ asked.target ∷ []))) rs → length rs' ≡ length rs
-          as_long true rs' e = ap length e ∙ length-set rs place (ordered ip_cmp (set ++ asked.target ∷ []))
-          as_long false rs' e = ap length e
-
-          by_mac : (own : Bool) → (let x : State = cond own (with_resolved s q.number (asked_ip bytes ∷ [])) s in record (running x) { table = s.table }) ≡ state_of Running base size capacity ms qs (cond own (slice_set rs place (ordered ip_cmp (set ++ asked_ip bytes ∷ []))) rs) anns ns
-          by_mac true = ap (λ x. record (running x) { table = s.table }) (with_resolved_is kept q.number place own_place set there (asked_ip bytes ∷ []))
-          by_mac false = refl
+          by_mac : (set : List Ip) → slice_get rs place ≡ Some set → (own : Bool) → (let x : State = cond own (with_resolved s q.number (asked_ip bytes ∷ [])) s in record (running x) { table = s.table }) ≡ state_of Running base size capacity ms qs (slice_set rs place (cond own (ordered ip_cmp (set ++ asked_ip bytes ∷ [])) set)) anns ns
+          by_mac set there true = ap (λ x. record (running x) { table = s.table }) (with_resolved_is kept q.number place own_place set there (asked_ip bytes ∷ []))
+          by_mac set there false = ap (λ xs. state_of Running base size capacity ms qs xs anns ns) (sym (set_same rs place set there))
 
     -- ---- the next hops that are missing
 
@@ -242,7 +239,7 @@ module _ {phase : Phase} {size capacity : ℕ} {ms : List Participant} {qs : Lis
               ∙ ap (option_map (λ t. let y : Given = record { prefix = a.prefix; tag = t; port = a.port } in y)) parts.1 in
           let stands_there : Member (address_of base g.tag) (hops base m.asn front) =
               Member-map (λ (y : Given). address_of base y.tag) (all_given m.asn front) g (Member-filter_map (given_to m.asn) front a g (announced_Member front v.key a stands) given) in
-          subst (λ y. Member y (hops base m.asn front)) (λ j. record { 0 = same (~j) }) stands_there)
+          subst (λ y. Member y (hops base m.asn front)) (sym (λ j. record { 0 = same j })) stands_there)
 
       -- those that are unresolved
       pub unresolved_are : unresolved s q ≡ missing_hops base m.asn set front
@@ -264,3 +261,26 @@ module _ {phase : Phase} {size capacity : ℕ} {ms : List Participant} {qs : Lis
           ∙ ap (λ xs. state_of Running base size capacity ms qs xs anns ns) (sym more)))
           (subst (λ o. MatchOption o ⊥ (λ x. answer ≡ record (bare Fine) { asks = map (asks_for s x) (unresolved s x) })) (sym found) (ap (λ ips. record (bare Fine) { asks = map (exchange_for base q) ips }) (sym unresolved_are)))
           is reply
+
+-- ---- tags and addresses in their ranges
+
+tag_case_small : (o : Option Tag) (most : ℕ) → ((t : Tag) → o ≡ Some t → t.0 ≤ most) → most ≤ 65536 → IfSome o (λ t. t.0 ≤ 65536)
+tag_case_small None most all le = tt
+tag_case_small (Some t) most all le = let low : t.0 ≤ most = all t refl in omega arith
+
+-- the tags of a front of the announcements are those of the pool
+pub tags_small : (ms : List Participant) (size n : ℕ) (anns : List Announcement) → AreTagged ms 0 anns → tag_count anns ≤ size → size ≤ 65536 → All (λ (a : Announcement). IfSome a.tag (λ t. t.0 ≤ 65536)) (take n anns)
+tags_small ms size n anns tagged pool small k d less =
+    let a : Announcement = slice_index_or (take n anns) k d in
+    tag_case_small a.tag size (λ t e. let below : t.0 ≤ 0 + tag_count anns = tag_below ms 0 anns a t tagged (Member-take n anns a (Member-at (take n anns) k d a less refl)) e in omega arith) small
+
+-- so are the addresses that a router asks for
+pub hops_within : (ms : List Participant) (size n asn : ℕ) (base : Ip) (anns : List Announcement) (known ips : List Ip) → AreTagged ms 0 anns → tag_count anns ≤ size → size ≤ 65536 → ips ≡ missing_hops base asn known (take n anns) → All (λ (ip : Ip). (base.0 ≤ ip.0) × (ip.0 ≤ base.0 + 65536)) ips
+hops_within ms size n asn base anns known ips tagged pool small are k d less =
+    let x : Ip = slice_index_or ips k d in
+    let test : Ip → Bool = λ ip. not (list_any (same_ip ip) known) in
+    let stands : Member x (filter test (hops base asn (take n anns))) = subst (Member x) (are ∙ missing_are base asn known (take n anns)) (Member-at ips k d x less refl) in
+    let image = map-Member (λ (g : Given). address_of base g.tag) (all_given asn (take n anns)) x (filter-Member test (hops base asn (take n anns)) x stands).stands in
+    let below : image.of.tag.0 ≤ size = given_tag ms size anns (take n anns) asn image.of tagged pool (Member-take n anns) image.stands in
+    let same : x.0 ≡ base.0 + image.of.tag.0 = ap (λ (y : Ip). y.0) image.is in
+    (omega arith, omega arith)

@@ -23,7 +23,7 @@ use Rattle.net_types.specs.declared.address.Ip.{Ip}
 use Rattle.net_types.specs.declared.address.PortNo.{PortNo}
 use Rattle.net_types.specs.declared.route.Participant.{Participant}
 use Rattle.net_types.specs.declared.route.PortInfo.{PortInfo}
-use Rattle.net_types.proofs.FindLemmas.{find-IsFound}
+use Rattle.net_types.proofs.FindLemmas.{find-IsFound, slice_get-Member}
 use Rattle.net_types.specs.Sets.{Member}
 use Rattle.net_types.specs.declared.address.Tag.{Tag}
 use Rattle.sdx_core.specs.Given.{all_given}
@@ -83,6 +83,14 @@ same_number qs port q found = λ i. record { 0 = eqb-true q.number.0 port.0 (fin
 -- the owner of a declared port is declared
 pub owner_below : (ms : List Participant) (qs : List PortInfo) (port : PortNo) (q : PortInfo) → ForEach (HasOwner ms) qs → find (numbered port) qs ≡ Some q → q.owner.0 < length ms
 owner_below ms qs port q owners found = at_member (HasOwner ms) qs q owners (find-IsFound (numbered port) qs q found).stands
+
+-- the port that stands for a place where there is none
+abbrev pub no_port : PortInfo
+no_port = record { owner = record { 0 = 0 }; number = record { 0 = 0 }; ip = record { 0 = 0 }; mac = record { 0 = [] } }
+
+-- the owner of the port at a place is declared
+pub owner_at : (ms : List Participant) (qs : List PortInfo) (place : ℕ) (q : PortInfo) → ForEach (HasOwner ms) qs → slice_get qs place ≡ Some q → q.owner.0 < length ms
+owner_at ms qs place q owners here = at_member (HasOwner ms) qs q owners (slice_get-Member qs place q here)
 
 -- ---- lines in place
 

@@ -1,5 +1,5 @@
 -- Which addresses a router has resolved, which it has still to resolve, and what the responder answers (RFC 826).
-use Rattle.std.specs.Prelude.{ℕ, ◌+◌, ◌-◌, Bool, ◌&&◌, nat_le, nat_lt, List, map, Option, Some, None, if◌then◌else◌}
+use Rattle.std.specs.Prelude.{ℕ, ◌+◌, ◌-◌, Bool, ◌&&◌, nat_le, nat_lt, List, [], ◌∷◌, ◌++◌, map, Option, Some, None, if◌then◌else◌}
 use Rattle.std.specs.List.{filter_map, list_any}
 use Rattle.std.specs.Option.{option_and_then}
 use Rattle.std.specs.Ordering.{is_lt}
@@ -9,6 +9,8 @@ use Rattle.net_types.specs.Arp.{arp_reply, arp_request, asked_ip, asker_ip, aske
 use Rattle.net_types.specs.Attributes.{same_ip}
 use Rattle.net_types.specs.Frames.{tag_mac}
 use Rattle.net_types.specs.Keys.{ip_cmp}
+use Rattle.net_types.specs.Maps.{ordered}
+use Rattle.net_types.specs.Octets.{same_octets}
 use Rattle.net_types.specs.declared.address.Ip.{Ip}
 use Rattle.net_types.specs.declared.address.Mac.{Mac}
 use Rattle.net_types.specs.declared.address.Tag.{Tag}
@@ -59,3 +61,7 @@ missing_hop base asn known a = option_and_then (λ (g : Given). if_missing known
 -- the next hops that aren't among those, in the order of the announcements
 abbrev pub missing_hops : Ip → ℕ → List Ip → List Announcement → List Ip
 missing_hops base asn known anns = filter_map (missing_hop base asn known) anns
+
+-- what a router has resolved after a request: the address asked for too, where it asked with its own MAC
+abbrev pub learned : List Ip → Mac → ArpRequest → List Ip
+learned known router r = if same_octets r.mac.0 router.0 then ordered ip_cmp (known ++ r.target ∷ []) else known

@@ -1,8 +1,9 @@
 //! The ARP responder, which tells the MACs of the tags' addresses, and the routers that ask it (RFC 826).
 
-ghost use Rattle.std.specs.Prelude.{◌≡◌, ◌≤◌, ◌+◌, ◌-◌, IfOk, All, map};
-ghost use Rattle.sdx_core.specs.Resolved.{exchange_for, mac_at, pool_request, reply_to};
+ghost use Rattle.std.specs.Prelude.{◌≡◌, ◌≤◌, ◌+◌, ◌-◌, IfOk, OnOk, All, map};
+ghost use Rattle.sdx_core.specs.Resolved.{exchange_for, learned, mac_at, pool_request, reply_to};
 
+use crate::address_set::AddressSet;
 use crate::border_router::tag_mac;
 use crate::registry::is_in_pool;
 use arp_frame::{ArpRequest, read_request, reply, request};
@@ -29,6 +30,16 @@ pub fn answer(alloc: Global, base: Ip, asked: &ArpRequest) -> Result<Bytes, Memo
     ensures { IfOk result (λ octets. octets ≡ reply_to base asked.now) }
 {
     octets(alloc, reply(asked, mac_at(base, asked.target)))
+}
+
+/// A router that asked with its own MAC has resolved the address that it asked for.
+pub fn learn(resolved: &mut AddressSet, router: Mac, asked: &ArpRequest) -> Result<(), Memory>
+    ensures { OnOk result (resolved.new ≡ learned resolved.old router asked.now) }
+{
+    if asked.mac == router {
+        resolved.insert(asked.target)?;
+    }
+    Ok(())
 }
 
 /// The router at a port asks for each of the addresses, and the responder replies.

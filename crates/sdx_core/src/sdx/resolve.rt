@@ -5,7 +5,7 @@ ghost use Rattle.events.specs.Fits.{IsStep};
 ghost use Rattle.events.specs.declared.Event.TheVariants as lines;
 
 use super::Sdx;
-use crate::arp_responder::{answer, exchanges, pool_request};
+use crate::arp_responder::{answer, exchanges, learn, pool_request};
 use crate::line_order::is_declared;
 use crate::next_hops::missing_hops;
 use crate::ports::find_place;
@@ -33,9 +33,8 @@ impl Sdx {
             request: None,
             reply: answer(self.alloc, self.base, &asked)?,
         })?;
-        if asked.mac == self.ports.items()[place].mac {
-            self.resolved[place].insert(asked.target)?;
-        }
+        let router = self.ports.items()[place].mac;
+        learn(&mut self.resolved[place], router, &asked)?;
         self.phase = Phase::Running;
         Ok(reply)
     }
