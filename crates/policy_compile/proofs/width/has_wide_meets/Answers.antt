@@ -1,4 +1,4 @@
-use Rattle.std.proofs.Common.{◌≡◌, ◌<◌, refl, ap, ◌∙◌, length, subst, arith}
+use Rattle.std.proofs.Common.{◌≡◌, refl, ap, length, subst, arith}
 use Rattle.net_types.specs.Meets.{meets}
 use Rattle.net_types.specs.Policies.{atoms}
 use Rattle.policy_syntax.specs.Views.{policy_of}
