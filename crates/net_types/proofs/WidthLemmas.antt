@@ -1,14 +1,14 @@
 -- Laws of counting: lists without repeats, and the meets of lists, each once.
-use Rattle.std.proofs.Common.{◌≡◌, ◌≤◌, ◌<◌, ◌⊎◌, ℕ, suc, arith, length, cond, Bool, true, false, ◌&&◌, ◌||◌, Option, Some, None, List, [], ◌∷◌, ◌++◌, refl, inl, inr, sym, ap, ◌∙◌, subst}
+use Rattle.std.proofs.Common.{◌≡◌, ◌≤◌, ◌⊎◌, ℕ, suc, arith, length, cond, Bool, true, false, ◌&&◌, ◌||◌, Option, Some, None, List, [], ◌∷◌, ◌++◌, refl, inl, inr, sym, ap, ◌∙◌, subst}
 use Rattle.std.proofs.lemmas.Bool.{and_from, cases_Bool, false≢true}
 use Rattle.net_types.specs.declared.cube.Cube.{Cube}
-use Rattle.net_types.specs.Cubes.{everything, meet_cubes, lies_within_cube}
+use Rattle.net_types.specs.Cubes.{meet_cubes, lies_within_cube}
 use Rattle.net_types.specs.Sets.{Member}
-use Rattle.net_types.specs.Meets.{IsMeet, has_cube, add_found, add_meets, meets}
+use Rattle.net_types.specs.Meets.{has_cube, add_found, add_meets, meets}
 use Rattle.net_types.specs.Widths.{Differ, HasMoreThan}
 use Rattle.net_types.proofs.SetLemmas
 use Rattle.net_types.proofs.CubeLemmas.{within_refl}
-use Rattle.net_types.proofs.MeetLemmas.{has_cube-Member, meets-IsMeet, IsMeet-meets, IsMeet-meet, IsMeet-member, IsMeet-wider}
+use Rattle.net_types.proofs.MeetLemmas.{meets-IsMeet, IsMeet-meets, IsMeet-meet, IsMeet-member, IsMeet-wider}
 
 -- ---- lists without repeats
 

@@ -1,11 +1,11 @@
 -- The atoms of policies as sets, and cubes behind the paths of policies.
-use Rattle.std.proofs.Common.{◌≡◌, ◌≤◌, ◌<◌, ◌⊎◌, ℕ, arith, length, Bool, true, false, Option, Some, None, MatchOption, IsTrue, List, [], ◌∷◌, ◌++◌, map, append_assoc, refl, inl, inr, sym, ap, ◌∙◌, subst}
+use Rattle.std.proofs.Common.{◌≡◌, ◌≤◌, ◌<◌, arith, length, Option, Some, None, List, [], ◌∷◌, ◌++◌, map, append_assoc, refl, inl, inr, sym, ap, ◌∙◌, subst}
 use Rattle.std.specs.HashSet.{HashSet}
 use Rattle.std.specs.Option.{option_to_list}
 use Rattle.net_types.specs.declared.cube.Cube.{Cube}
 use Rattle.net_types.specs.declared.headers.Headers.{Headers}
 use Rattle.net_types.specs.declared.headers.Assign.{Assign}
-use Rattle.net_types.specs.Headers.{apply, followed_by, no_change}
+use Rattle.net_types.specs.Headers.{apply, followed_by}
 use Rattle.net_types.specs.Cubes.{has, pull_cube}
 use Rattle.net_types.specs.Sets.{Member, SameMembers, union_over}
 use Rattle.net_types.specs.Meets.{behind, behind_one, meets}
@@ -19,7 +19,7 @@ use Rattle.net_types.proofs.WidthLemmas.{meets-fewer}
 use Rattle.classifier.specs.Seen.{cube_eq}
 use Rattle.classifier.proofs.ResultLemmas.{apply-followed_by}
 use Rattle.policy_compile.specs.Sets.{adds}
-use Rattle.policy_compile.specs.Narrow.{DecidesMeets, HasWideMeets, IsNarrow, IsWhole, IsChain, IsApart}
+use Rattle.policy_compile.specs.Narrow.{DecidesMeets, HasWideMeets, IsNarrow, IsWhole, IsChain}
 use Rattle.policy_compile.proofs.SetsLemmas.{cubes-same}
 
 -- ---- cubes behind the paths of a policy

@@ -1,5 +1,5 @@
 -- The assignments of a policy's parts, counted.
-use Rattle.std.proofs.Common.{◌≡◌, ◌≤◌, ◌<◌, ◌⊎◌, ◌↔◌, Bool, true, false, not, is_some, ℕ, arith, length, Option, Some, None, MatchOption, List, [], ◌∷◌, ◌++◌, map, refl, inl, inr, sym, ap, ◌∙◌, subst}
+use Rattle.std.proofs.Common.{◌≡◌, ◌≤◌, ◌<◌, ◌↔◌, Bool, true, false, not, is_some, arith, length, Option, Some, None, MatchOption, List, [], ◌∷◌, ◌++◌, map, refl, inl, inr, sym, ap, ◌∙◌, subst}
 use Rattle.std.proofs.lemmas.Bool.{false≢true}
 use Rattle.std.proofs.lemmas.List.{length-map}
 use Rattle.std.specs.List.{IsDistinct}
@@ -13,7 +13,7 @@ use Rattle.net_types.proofs.SetLemmas
 use Rattle.net_types.proofs.WidthLemmas.{more_wider, not_more}
 use Rattle.policy_compile.specs.declared.fields.Fields.{Fields}
 use Rattle.policy_compile.specs.Sets.{same_fields, assign_of, assigns_of, after, followed}
-use Rattle.policy_compile.specs.Narrow.{HasFewMods, HasWideMods, IsFew, IsFewOf, IsModsOf}
+use Rattle.policy_compile.specs.Narrow.{HasFewMods, HasWideMods, IsFewOf, IsModsOf}
 use Rattle.policy_compile.proofs.SetsLemmas.{distinct-assigns}
 
 -- ---- sets of fields

@@ -1,5 +1,5 @@
 -- Values put last, each once, as sets.
-use Rattle.std.proofs.Common.{◌≡◌, ◌≤◌, ◌<◌, ◌⊎◌, ℕ, arith, length, cond, Bool, true, false, eqb, ◌&&◌, ◌||◌, Option, Some, None, List, [], ◌∷◌, ◌++◌, ◌+◌, map, drop, get_or, append_assoc, refl, inl, inr, sym, ap, ◌∙◌, subst}
+use Rattle.std.proofs.Common.{◌≡◌, ◌<◌, ℕ, length, cond, Bool, true, false, eqb, ◌&&◌, ◌||◌, Option, Some, None, List, [], ◌∷◌, ◌++◌, ◌+◌, drop, get_or, append_assoc, refl, inl, inr, sym, ap, ◌∙◌, subst}
 use Rattle.std.specs.Option.{option_eq}
 use Rattle.std.specs.List.{list_any, list_all, IsDistinct, AllByRecursion}
 use Rattle.std.specs.HashSet.{HashSet, contains}
@@ -8,9 +8,8 @@ use Rattle.std.proofs.lemmas.Bool.{eqb-true, eq-eqb, and_parts, and_from, or_cas
 use Rattle.indexmap.specs.IndexSet.{insert_key}
 use Rattle.net_types.specs.declared.address.Ip.{Ip}
 use Rattle.net_types.specs.declared.cube.Cube.{Cube}
-use Rattle.net_types.specs.declared.headers.Assign.{Assign}
 use Rattle.net_types.specs.Cubes.{lies_within_cube}
-use Rattle.net_types.specs.Sets.{Member, SameMembers, union_over}
+use Rattle.net_types.specs.Sets.{Member, SameMembers}
 use Rattle.net_types.specs.Meets.{has_cube, add_found}
 use Rattle.net_types.specs.Widths.{Differ}
 use Rattle.net_types.proofs.SetLemmas
@@ -18,7 +17,7 @@ use Rattle.classifier.specs.Seen.{cube_eq}
 use Rattle.classifier.proofs.ItemLemmas.{option_eq_exact, option_eq_refl}
 use Rattle.classifier.proofs.SeenLemmas.{cube_eq_exact, cube_eq_refl, cube_eq_is}
 use Rattle.policy_compile.specs.declared.fields.Fields.{Fields}
-use Rattle.policy_compile.specs.Sets.{adds, same_ip, same_fields, assign_of, assigns_of, fields_of, after, followed}
+use Rattle.policy_compile.specs.Sets.{adds, same_ip, same_fields, assign_of, assigns_of, fields_of}
 
 or_true : (b : Bool) → (b || true) ≡ true
 or_true true = refl

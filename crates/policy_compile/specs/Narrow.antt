@@ -1,5 +1,5 @@
 -- What is known of a policy's parts once its assignments and atoms were gone through.
-use Rattle.std.specs.Prelude.{◌≡◌, ◌<◌, ◌++◌, Bool, IsTrue, Option, MatchOption, List, length}
+use Rattle.std.specs.Prelude.{◌<◌, ◌++◌, Bool, IsTrue, Option, MatchOption, List, length}
 use Rattle.std.specs.HashSet.{HashSet}
 use Rattle.net_types.specs.Meets.{meets, behind}
 use Rattle.net_types.specs.declared.cube.Cube.{Cube}

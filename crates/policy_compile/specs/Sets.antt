@@ -1,5 +1,5 @@
 -- The lists that the loops over sets make: values put last, each once.
-use Rattle.std.specs.Prelude.{◌≡◌, ℕ, suc, ◌<◌, ◌≤◌, ◌==◌, nat_eq, Bool, ◌&&◌, List, [], ◌∷◌, length, map}
+use Rattle.std.specs.Prelude.{◌≡◌, ℕ, ◌<◌, ◌≤◌, ◌==◌, nat_eq, Bool, ◌&&◌, List, [], ◌∷◌, length, map}
 use Rattle.std.specs.Option.{option_eq}
 use Rattle.indexmap.specs.IndexSet.{insert_key}
 use Rattle.net_types.specs.declared.address.Ip.{Ip}

@@ -11,6 +11,8 @@ mod sets;
 #[cfg(test)]
 mod tests;
 mod width;
+#[cfg(test)]
+mod widths;
 
 pub use policies::compile;
 pub use width::{count_meets, too_wide};

@@ -25,11 +25,7 @@ pub fn push_all<T: Copy + Eq + Hash + Drop>(
 }
 
 /// Puts each cube behind an assignment last, where it has headers and isn't there.
-pub fn push_behind(
-    cubes: &mut IndexSet<Cube>,
-    set: &Assign,
-    others: &[Cube],
-) -> Result<(), Memory>
+pub fn push_behind(cubes: &mut IndexSet<Cube>, set: &Assign, others: &[Cube]) -> Result<(), Memory>
     ensures { OnOk result (cubes.new.keys ≡ adds cube_eq cubes.old.keys (behind_one set.now others.now)) }
 {
     for other in others {

@@ -28,7 +28,11 @@ fn has_many(alloc: Global, cubes: &[Cube]) -> Result<bool, Memory>
 }
 
 /// Whether the second part of a chain has too many meets by itself. Those of cubes that are all in the whole are counted there.
-fn is_wide_apart(alloc: Global, whole: &IndexSet<Cube>, part: &IndexSet<Cube>) -> Result<bool, Memory>
+fn is_wide_apart(
+    alloc: Global,
+    whole: &IndexSet<Cube>,
+    part: &IndexSet<Cube>,
+) -> Result<bool, Memory>
     ensures { IfOk result (λ wide. IsApart wide whole.now.keys part.now.keys) }
 {
     if has_all(whole, part.as_slice()) {
@@ -63,7 +67,11 @@ fn chain(
     ensures { IfOk result (λ found. IsChain (policy_of tree.now) first.keys second.now.keys found) }
 {
     let whole = chain_of(alloc, tree, first, second)?;
-    if is_wide_apart(alloc, &whole, second)? { Ok(None) } else { Ok(Some(whole)) }
+    if is_wide_apart(alloc, &whole, second)? {
+        Ok(None)
+    } else {
+        Ok(Some(whole))
+    }
 }
 
 /// The same, where no second part of a chain was too wide.
@@ -108,7 +116,12 @@ fn narrow(alloc: Global, tree: &Tree<'_>) -> Result<Option<IndexSet<Cube>>, Memo
         Node::Set(_, _) => only(alloc, tree),
         Node::Test(_) => only(alloc, tree),
         Node::Both(first, second) => either(narrow(alloc, first)?, narrow(alloc, second)?),
-        Node::Then(first, second) => behind(alloc, first, narrow(alloc, first)?, narrow(alloc, second)?),
+        Node::Then(first, second) => behind(
+            alloc,
+            first,
+            narrow(alloc, first)?,
+            narrow(alloc, second)?,
+        ),
     }
 }
 

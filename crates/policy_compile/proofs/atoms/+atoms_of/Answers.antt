@@ -1,5 +1,5 @@
 use Rattle.std.proofs.Common.{ap, ◌∙◌, subst, []}
-use Rattle.net_types.specs.Policies.{mods, atoms, pred_atoms}
+use Rattle.net_types.specs.Policies.{atoms, pred_atoms}
 use Rattle.net_types.specs.Sets.{SameMembers}
 use Rattle.net_types.proofs.SetLemmas
 use Rattle.policy_syntax.specs.Views.{policy_of, pred_of}

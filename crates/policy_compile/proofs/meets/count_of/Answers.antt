@@ -1,7 +1,7 @@
-use Rattle.std.proofs.Common.{length, arith, subst, ap, sym}
+use Rattle.std.proofs.Common.{length, arith, subst, sym}
 use Rattle.net_types.specs.Meets.{meets}
-use Rattle.policy_compile.specs.Sets.{IsCount, IsUpTo}
-use Rattle.policy_compile.proofs.CountLemmas.{counted_all, counted_part}
+use Rattle.policy_compile.specs.Sets.{IsCount}
+use Rattle.policy_compile.proofs.CountLemmas.{counted_part}
 use Rattle.policy_compile.proofs.meets.count_of.Goals as goal
 
 pub returns-then-len-limit : goal.returns-then-len-limit

@@ -14,9 +14,9 @@ returns-then-len-gt-MOST c =
     let rest = followed (drop (c.loop-first.first-index + 1) firsts) nexts in
     let keys = c.push_followed.new.sets.keys in
     let whole : adds same_fields keys rest ≡ adds same_fields [] (followed firsts nexts) =
-        ap (λ kept. adds same_fields kept rest) c.in_ok-push_followed.ensures
-        ∙ sym (adds_more same_fields (λ xs. followed xs nexts) (λ x. map (after x) nexts) (λ _ _. refl) c.loop-first.sets.keys firsts c.loop-first.first-index blank c.loop-first-test.true)
-        ∙ c.loop-first.invariant in
+    ap (λ kept. adds same_fields kept rest) c.in_ok-push_followed.ensures
+    ∙ sym (adds_more same_fields (λ xs. followed xs nexts) (λ x. map (after x) nexts) (λ _ _. refl) c.loop-first.sets.keys firsts c.loop-first.first-index blank c.loop-first-test.true)
+    ∙ c.loop-first.invariant in
     wide-keys keys (followed firsts nexts) c.len.ensures.unique
     (λ f k. (fields-same [] (followed firsts nexts)).onto f (subst (Member f) whole ((fields-same keys rest).back f (SetLemmas.Member-append_left keys rest f k))))
     (omega (arith, c.if-len-gt-MOST.true, c.len.ensures.len))

@@ -11,6 +11,10 @@ returns-then-has_all c =
     let whole = c.args.whole.now.keys in
     record {
       many = λ t. absurd (false≢true t);
-      held = λ _ many. omega (arith, many, meets-fewer part whole (λ x k.
-          all-Member c.args.whole.now c.as_slice.result.now (sym c.has_all.ensures ∙ c.if-has_all.true) x (subst (Member x) (sym c.as_slice.ensures.keys) k)));
+      held = λ _ many. omega (
+        arith,
+        many,
+        meets-fewer part whole (λ x k.
+            all-Member c.args.whole.now c.as_slice.result.now (sym c.has_all.ensures ∙ c.if-has_all.true) x (subst (Member x) (sym c.as_slice.ensures.keys) k)),
+      );
     }
