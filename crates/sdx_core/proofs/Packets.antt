@@ -117,7 +117,7 @@ module _ {phase : Phase} {size capacity : ℕ} {ms : List Participant} {qs : Lis
             let f : List ℕ = tagged_frame q told.tag bytes in
             let here : frame ≡ f = ap (λ t. tagged_frame q t bytes) (sym same) in
             let result = routed s (kept_sound phase base size capacity ms qs rs anns ns rules kept) hops_own q at (owner_below ms qs port q kept.owners found) g.prefix told has tagged c.0 c.1 f k.0 k.1
-                (valid_headers q.number f k.0 (subst (λ (x : PortNo). x.0 < 2 ^ 16) (sym (same_number qs port q found)) low_port) (subst (λ x. (j : ℕ) → slice_index x j < 256) here frame_octets) k.1) (tag_at-framed told.tag q.mac bytes) in
+            (valid_headers q.number f k.0 (subst (λ (x : PortNo). x.0 < 2 ^ 16) (sym (same_number qs port q found)) low_port) (subst (λ x. (j : ℕ) → slice_index x j < 256) here frame_octets) k.1) (tag_at-framed told.tag q.mac bytes) in
             subst (λ frames. (ps : Policies) × ArePolicies s ps × MatchOption (headers_of q.number f) ⊥ (λ x. (frames ≡ out qs f (answer ps s.routing q.owner g.prefix x)) × ReachesExporters s q.owner g.prefix (answer ps s.routing q.owner g.prefix x))) (ap (by_table s q) (sym here)) result;
       }
 

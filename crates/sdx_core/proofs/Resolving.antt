@@ -235,10 +235,10 @@ module _ {phase : Phase} {size capacity : ℕ} {ms : List Participant} {qs : Lis
           let parts = entry_parts (receives ms a q.owner) a a.tag v.value is in
           let g : Given = record { prefix = a.prefix; tag = v.value.tag; port = a.port } in
           let given : given_to m.asn a ≡ Some g =
-              ap (λ b. cond b (option_map (λ t. let y : Given = record { prefix = a.prefix; tag = t; port = a.port } in y) a.tag) None) (sym (receives_at ms a q.owner m declared) ∙ parts.0)
-              ∙ ap (option_map (λ t. let y : Given = record { prefix = a.prefix; tag = t; port = a.port } in y)) parts.1 in
+          ap (λ b. cond b (option_map (λ t. let y : Given = record { prefix = a.prefix; tag = t; port = a.port } in y) a.tag) None) (sym (receives_at ms a q.owner m declared) ∙ parts.0)
+          ∙ ap (option_map (λ t. let y : Given = record { prefix = a.prefix; tag = t; port = a.port } in y)) parts.1 in
           let stands_there : Member (address_of base g.tag) (hops base m.asn front) =
-              Member-map (λ (y : Given). address_of base y.tag) (all_given m.asn front) g (Member-filter_map (given_to m.asn) front a g (announced_Member front v.key a stands) given) in
+          Member-map (λ (y : Given). address_of base y.tag) (all_given m.asn front) g (Member-filter_map (given_to m.asn) front a g (announced_Member front v.key a stands) given) in
           subst (λ y. Member y (hops base m.asn front)) (sym (λ j. record { 0 = same j })) stands_there)
 
       -- those that are unresolved

@@ -70,6 +70,6 @@ returns c =
     (rw (c.items-3.ensures, c.as_slice-3.ensures.value, c.as_slice-4.ensures.value) at c.longest_match.ensures.told)
     c.args.self.now c.match-longest_match.reply c.self.view_is
     (elim c.match-longest_match.branch [
-        | in-Some-longest_match+in_ok-reply-in-Some-longest_match w ↦ w.reply-is ∙ w.in_ok-reply-in-Some-longest_match.ensures ∙ ap (reply_from c.args.self.now source c.in_ok-frame.frame.items) (sym w.in-Some-longest_match.is)
-        | in-None w ↦ w.reply-is ∙ w.bare_reply-reply.ensures ∙ ap (reply_from c.args.self.now source c.in_ok-frame.frame.items) (sym w.in-None.is)
+      | in-Some-longest_match+in_ok-reply-in-Some-longest_match w ↦ w.reply-is ∙ w.in_ok-reply-in-Some-longest_match.ensures ∙ ap (reply_from c.args.self.now source c.in_ok-frame.frame.items) (sym w.in-Some-longest_match.is)
+      | in-None w ↦ w.reply-is ∙ w.bare_reply-reply.ensures ∙ ap (reply_from c.args.self.now source c.in_ok-frame.frame.items) (sym w.in-None.is)
     ])
