@@ -18,6 +18,7 @@ use Rattle.events.specs.declared.Phase.{Phase}
 use Rattle.events.specs.declared.Phase.TheVariants.{Running}
 use Rattle.events.specs.declared.Refusal.TheVariants.{BadPacket}
 use Rattle.events.specs.declared.Reply.{Reply}
+use Rattle.events.proofs.Exporters.{AreDeclared}
 use Rattle.events.proofs.Routed.{routed, valid_headers}
 use Rattle.net_types.specs.Answers.{Policies, answer}
 use Rattle.net_types.specs.Exports.{route}
@@ -78,6 +79,14 @@ module _ {phase : Phase} {size capacity : ℕ} {ms : List Participant} {qs : Lis
       ∙ own.owner
       ∙ (λ i. Some (record { 0 = eqb-true a.from.0 who.0 parts.0 i })))
 
+  -- and the participant is declared
+  pub routes_declared : AreDeclared s.routing
+  routes_declared who p attrs e =
+      option_and_then_some (route_from who) (announced_in anns p) attrs (sym (route_kept ms qs anns kept.apart who p) ∙ e) (λ a there is.
+      let same : a.from.0 ≡ who.0 = eqb-true a.from.0 who.0 (cond_some (nat_eq a.from.0 who.0) a.attrs attrs is).0 in
+      let low : a.from.0 < length ms = (is_own ms qs anns kept.own p a there).declared in
+      omega arith)
+
   -- a datagram that isn't one is refused
   pub no_packet_at : (port : PortNo) (q : PortInfo) (bytes : List ℕ) (to : Mac) (st : State) (r : Reply) → is_declared phase ≡ true → find (numbered port) qs ≡ Some q → length to.0 ≡ 6 → length q.mac.0 ≡ 6
       → headers_of port (framed to q.mac bytes) ≡ None → s ≡ st → r ≡ bare (Refused BadPacket) → IsStep st (Packet port bytes) r st
@@ -116,7 +125,7 @@ module _ {phase : Phase} {size capacity : ℕ} {ms : List Participant} {qs : Lis
             let k = tagged_headers q told.tag bytes six_from datagram in
             let f : List ℕ = tagged_frame q told.tag bytes in
             let here : frame ≡ f = ap (λ t. tagged_frame q t bytes) (sym same) in
-            let result = routed s (kept_sound phase base size capacity ms qs rs anns ns rules kept) hops_own q at (owner_below ms qs port q kept.owners found) g.prefix told has tagged c.0 c.1 f k.0 k.1
+            let result = routed s (kept_sound phase base size capacity ms qs rs anns ns rules kept) hops_own routes_declared q at (owner_below ms qs port q kept.owners found) g.prefix told has tagged c.0 c.1 f k.0 k.1
             (valid_headers q.number f k.0 (subst (λ (x : PortNo). x.0 < 2 ^ 16) (sym (same_number qs port q found)) low_port) (subst (λ x. (j : ℕ) → slice_index x j < 256) here frame_octets) k.1) (tag_at-framed told.tag q.mac bytes) in
             subst (λ frames. (ps : Policies) × ArePolicies s ps × MatchOption (headers_of q.number f) ⊥ (λ x. (frames ≡ out qs f (answer ps s.routing q.owner g.prefix x)) × ReachesExporters s q.owner g.prefix (answer ps s.routing q.owner g.prefix x))) (ap (by_table s q) (sym here)) result;
       }
