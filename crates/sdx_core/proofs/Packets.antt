@@ -1,8 +1,8 @@
 -- The line that sends a datagram is a step.
-use Rattle.std.proofs.Common.{◌≡◌, ℕ, ◌+◌, ◌<◌, ◌≤◌, ◌^◌, Bool, true, false, cond, not, nat_eq, List, [], ◌∷◌, ◌++◌, length, take, drop, ap, ◌∙◌, refl, sym, subst, arith}
-use Rattle.std.specs.Prelude.{Option, Some, None, IfSome, MatchOption, find, slice_get, slice_index, is_some}
+use Rattle.std.proofs.Common.{◌≡◌, ℕ, ◌<◌, ◌≤◌, ◌^◌, Bool, true, false, cond, not, nat_eq, List, ◌++◌, length, take, drop, ap, ◌∙◌, refl, sym, subst, arith}
+use Rattle.std.specs.Prelude.{Option, Some, None, IfSome, MatchOption, find, slice_get, slice_index}
 use Rattle.std.specs.FinMap.{FinMap, get, keys}
-use Rattle.std.specs.Option.{option_map, option_and_then}
+use Rattle.std.specs.Option.{option_map}
 use Rattle.std.proofs.lemmas.Bool.{eqb-true}
 use Rattle.std.proofs.lemmas.Option.{cond_some, option_and_then_some}
 use Rattle.events.specs.After.{next}
@@ -11,7 +11,6 @@ use Rattle.events.specs.Refusals.{if_known, is_datagram, refusal, unless}
 use Rattle.events.specs.Resolving.{is_resolved, tag_address}
 use Rattle.events.specs.State.{State, ArePolicies, Entry, port_of, told_to}
 use Rattle.events.specs.Table.{framed, out}
-use Rattle.events.specs.declared.Event.{Event}
 use Rattle.events.specs.declared.Event.TheVariants.{Packet}
 use Rattle.events.specs.declared.Head.TheVariants.{Fine, Refused, Unresolved, Unrouted}
 use Rattle.events.specs.declared.Phase.{Phase}
@@ -31,7 +30,6 @@ use Rattle.net_types.specs.declared.address.Ip.{Ip}
 use Rattle.net_types.specs.declared.address.Mac.{Mac}
 use Rattle.net_types.specs.declared.address.Pid.{Pid}
 use Rattle.net_types.specs.declared.address.PortNo.{PortNo}
-use Rattle.net_types.specs.declared.address.Tag.{Tag}
 use Rattle.net_types.specs.declared.headers.Headers.{Headers}
 use Rattle.net_types.specs.declared.prefix.Prefix.{Prefix}
 use Rattle.net_types.specs.declared.route.Attrs.{Attrs}
@@ -42,7 +40,7 @@ use Rattle.net_types.proofs.PassLemmas.{some_there}
 use Rattle.sdx_core.specs.Given.{all_given, given_prefix, given_prefixes}
 use Rattle.sdx_core.specs.Leaving.{sent_by}
 use Rattle.sdx_core.specs.Placed.{is_declared}
-use Rattle.sdx_core.specs.View.{AreTagged, ForEach, IsKept, IsOwn, announced_in, receives, state_of, tag_count}
+use Rattle.sdx_core.specs.View.{AreTagged, ForEach, IsKept, IsOwn, announced_in, state_of, tag_count}
 use Rattle.sdx_core.specs.declared.announcement.Announcement.{Announcement}
 use Rattle.sdx_core.specs.declared.given.Given.{Given}
 use Rattle.sdx_core.proofs.Framing.{destination_is, is_datagram-none, is_datagram-some, readdressed, tag_at-framed, tagged_headers, tagged_octets}
