@@ -1,25 +1,25 @@
 -- What the table of a sound state makes of a frame for a tag that a participant was told, where that tag is still the
 -- prefix's, is what the policies and the present routes give.
-use Rattle.std.proofs.Common.{◌≡◌, ℕ, zero, suc, ◌+◌, ◌*◌, ◌^◌, ◌<◌, Bool, true, false, cond, nat_eq, List, [], ◌∷◌, ◌++◌, length, map, filter, sym, ap, subst, ◌∙◌, refl, arith, inl, inr}
-use Rattle.std.specs.Prelude.{Option, Some, None, is_some, find, slice_get, unwrap_or, slice_index, IfSome, MatchOption}
+use Rattle.std.proofs.Common.{◌≡◌, ℕ, zero, suc, ◌+◌, ◌*◌, ◌^◌, ◌<◌, Bool, true, false, cond, nat_eq, List, [], ◌∷◌, ◌++◌, length, map, sym, ap, subst, ◌∙◌, refl, arith, inl, inr}
+use Rattle.std.specs.Prelude.{Option, Some, None, slice_get, unwrap_or, slice_index, IfSome, MatchOption}
 use Rattle.std.specs.Cmp.{IsTotalOrder, nat_cmp_total}
 use Rattle.std.specs.Cmp.Lexicographic.{nat_list_cmp_total, slice_cmp}
 use Rattle.std.specs.FinMap.{get, nat_cmp-IsAntisymmetric, slice_cmp-IsAntisymmetric}
 use Rattle.std.specs.List.{filter_map, cons_option}
 use Rattle.std.specs.Option.{option_map, option_map_or, option_and_then}
 use Rattle.std.specs.Ordering.{eq_by_cmp, is_eq, nat_cmp}
-use Rattle.std.proofs.lemmas.Bool.{and_parts, eq-eqb, eqb-true, ne_eqb, or_left}
+use Rattle.std.proofs.lemmas.Bool.{and_parts, eq-eqb, ne_eqb, or_left}
 use Rattle.std.proofs.lemmas.Cmp.{on_total, then_total}
-use Rattle.std.proofs.lemmas.Option.{option_and_then_some, cond_some}
-use Rattle.net_types.specs.Answers.{Policies, Leaving, answer, answer_for, answer_by, next_port, part_answer, offered_port, policy_of, sent, received, received_at, is_offered}
-use Rattle.net_types.specs.Exports.{Routing, exports, is_given, route}
+use Rattle.std.proofs.lemmas.Option.{cond_some}
+use Rattle.net_types.specs.Answers.{Policies, Leaving, answer, answer_for, answer_by, next_port, part_answer, offered_port, sent, received, received_at}
+use Rattle.net_types.specs.Exports.{Routing, exports, route}
 use Rattle.net_types.specs.Frames.{has_headers, has_ports, headers_of, ip_end}
 use Rattle.net_types.specs.Octets.{word_at}
 use Rattle.net_types.specs.Headers.{IsValid}
 use Rattle.net_types.specs.Keys.{prefix_cmp}
 use Rattle.net_types.specs.Policies.{Policy, Drop}
-use Rattle.net_types.specs.Routes.{Candidate, best, best_of, candidate, candidates, given, first_of_list, numbers, pids}
-use Rattle.net_types.specs.Sets.{Member, SameMembers, union_over}
+use Rattle.net_types.specs.Routes.{Candidate, best, candidates, numbers}
+use Rattle.net_types.specs.Sets.{SameMembers, union_over}
 use Rattle.net_types.specs.Signatures.{offer, part, port_with, signature}
 use Rattle.net_types.specs.declared.address.Pid.{Pid}
 use Rattle.net_types.specs.declared.address.PortNo.{PortNo}
@@ -27,24 +27,23 @@ use Rattle.net_types.specs.declared.address.Tag.{Tag}
 use Rattle.net_types.specs.declared.headers.Headers.{Headers}
 use Rattle.net_types.specs.declared.prefix.Prefix.{Prefix}
 use Rattle.net_types.specs.declared.route.Attrs.{Attrs}
-use Rattle.net_types.specs.declared.route.Offer.{Offer}
 use Rattle.net_types.specs.declared.route.Part.{Part}
 use Rattle.net_types.specs.declared.route.PortInfo.{PortInfo}
 use Rattle.net_types.specs.declared.rule.Pair.{Pair}
 use Rattle.net_types.specs.declared.rule.Rule.{Rule}
-use Rattle.net_types.proofs.FindLemmas.{find-IsFound, any_at}
 use Rattle.net_types.proofs.OrderLemmas.{prefixes_total}
-use Rattle.net_types.proofs.RisingLemmas.{filter-Member}
-use Rattle.net_types.proofs.SetLemmas.{Member-map, same_map, map-Member, same_eq, same_trans}
-use Rattle.net_types.proofs.PassLemmas.{is_some-any, some_there}
+use Rattle.net_types.proofs.SetLemmas.{same_map, same_eq, same_trans}
+use Rattle.net_types.proofs.PassLemmas.{some_there}
 use Rattle.net_types.proofs.TieLemmas.{then_ties, tie_Equal}
 use Rattle.net_types.proofs.ValueLemmas.{any_value}
 use Rattle.events.specs.Fits.{ReachesExporters}
-use Rattle.events.specs.Sound.{IsSound, IsRight, part_of, owners_part}
+use Rattle.events.specs.Sound.{IsSound, part_of, owners_part}
 use Rattle.events.specs.State.{State, Entry, AreRead, ArePolicies, told_to, present, port_of}
-use Rattle.events.specs.Table.{actions_on, done_by, first_match, first_rule, frame_cmp, frame_of, out, tag_at}
+use Rattle.events.specs.Table.{actions_on, done_by, first_match, frame_cmp, frame_of, out, tag_at}
 use Rattle.events.specs.Tags.{is_live_for, is_live_pair, same_tag, tells}
 use Rattle.events.specs.declared.Frame.{Frame}
+use Rattle.events.proofs.Candidates.{best_Member, candidate_exported}
+use Rattle.events.proofs.Exporters.{AreDeclared, offered_exports, offered_port_is, same_ports}
 use Rattle.events.proofs.OrderedLemmas.{ordered_alike}
 
 -- ---- frames in order
@@ -63,60 +62,6 @@ frames_tie f g e =
 -- what leaves depends on the set alone
 pub out_alike : (ports : List PortInfo) (frame : List ℕ) (xs ys : List Leaving) → SameMembers xs ys → out ports frame xs ≡ out ports frame ys
 out_alike ports frame xs ys same = ordered_alike frame_cmp frames_total frames_tie (map (frame_of ports frame) xs) (map (frame_of ports frame) ys) (same_map (frame_of ports frame) same)
-
--- ---- the candidates for a prefix
-
--- a member of what a function gives of some, with what it comes from
-record IsGivenBy {A B : Type 0} (f : A → Option B) (y : B) : Type 0 where
-  source : A
-  is : f source ≡ Some y
-
-given_case : {A B : Type 0} (f : A → Option B) (x : A) (ys : List B) (y : B) (o : Option B) → f x ≡ o → Member y (cons_option o ys) → (Member y ys → IsGivenBy f y) → IsGivenBy f y
-given_case f x ys y None e m later = later m
-given_case f x ys y (Some z) e (inl same) later = record { source = x; is = e ∙ ap Some (sym same) }
-given_case f x ys y (Some z) e (inr m) later = later m
-
-filter_map-Member : {A B : Type 0} (f : A → Option B) (xs : List A) (y : B) → Member y (filter_map f xs) → IsGivenBy f y
-filter_map-Member f [] y m = elim m [ ]
-filter_map-Member f (x ∷ xs) y m = given_case f x (filter_map f xs) y (f x) refl m (filter_map-Member f xs y)
-
--- a candidate is a route that is exported
-pub record IsExported (r : Routing) (to : Pid) (p : Prefix) (c : Candidate) : Type 0 where
-  pub routed : route r c.from p ≡ Some c.attrs
-  pub exported : exports r c.from to p ≡ true
-
-pub candidate_exported : (r : Routing) (to : Pid) (p : Prefix) (c : Candidate) → Member c (candidates r to p) → IsExported r to p c
-candidate_exported r to p c m =
-    let g = filter_map-Member (given r to p) (pids r) c m in
-    let from : Pid = g.source in
-    option_and_then_some (λ (attrs : Attrs). cond (is_given r from to p attrs) (Some (candidate r from attrs)) None) (route r from p) c g.is (λ attrs there is.
-    let parts = cond_some (is_given r from to p attrs) (candidate r from attrs) c is in
-    subst (IsExported r to p) parts.1 (record { routed = there; exported = ap (λ o. option_map_or (is_given r from to p) o false) there ∙ parts.0 }))
-
-first_Member : {A : Type 0} (xs : List A) (x : A) → first_of_list xs ≡ Some x → Member x xs
-first_Member [] x e = absurd (cc)
-first_Member (y ∷ xs) x e = inl (let same : y ≡ x = cc in sym same)
-
--- the best route is one of the candidates
-pub best_Member : (r : Routing) (to : Pid) (p : Prefix) (c : Candidate) → best r to p ≡ Some c → Member c (candidates r to p)
-best_Member r to p c e = back _ _ (back _ _ (back _ _ (back _ _ (back _ _ (first_Member _ c e)))))
-  where
-    back : (test : Candidate → Bool) (xs : List Candidate) → Member c (filter test xs) → Member c xs
-    back test xs m = (filter-Member test xs c m).stands
-
--- the port of an exporter's offer is that of its NEXT_HOP
-pub offered_hop : (r : Routing) (to : Pid) (p : Prefix) (c : Candidate) → Member c (candidates r to p) → offered_port (map (offer r) (candidates r to p)) c.from ≡ next_port r p c.from
-offered_hop r to p c m =
-    let offers : List Offer = map (offer r) (candidates r to p) in
-    let test : Offer → Bool = λ o. nat_eq o.exporter.0 c.from.0 in
-    let o = some_there (find test offers) (is_some-any test offers ∙ any_at test offers (offer r c) (Member-map (offer r) (candidates r to p) c m) (eq-eqb c.from.0 c.from.0 refl)) in
-    let found = find-IsFound test offers o.0 o.1 in
-    let image = map-Member (offer r) (candidates r to p) o.0 found.stands in
-    let d : Candidate = image.of in
-    let same : d.from.0 ≡ c.from.0 = ap (λ (x : Offer). x.exporter.0) (sym image.is) ∙ eqb-true o.0.exporter.0 c.from.0 found.passes in
-    ap (λ x. option_map_or (λ (y : Offer). y.port) x (record { 0 = 0 })) o.1
-    ∙ ap (λ (x : Offer). x.port) image.is
-    ∙ sym (ap (λ x. option_map_or (λ (attrs : Attrs). port_with r.ports attrs.next_hop) x (record { 0 = 0 })) (ap (λ n. route r (record { 0 = n }) p) (sym same) ∙ (candidate_exported r to p d image.stands).routed))
 
 -- ---- the part of a sender in the signature of a prefix
 
@@ -181,7 +126,7 @@ inport_of port frame h e = let parts = cond_some (has_headers frame) _ h e in ap
 some_same : {A : Type 0} (o : Option A) (x y : A) → o ≡ Some x → o ≡ Some y → x ≡ y
 some_same o x y e f = cc
 
-module _ (s : State) (sound : IsSound s) (hops : HopsAreOwn s) (q : PortInfo) (at : port_of s q.number ≡ Some q) (declared : q.owner.0 < length s.routing.participants)
+module _ (s : State) (sound : IsSound s) (hops : HopsAreOwn s) (all : AreDeclared s.routing) (q : PortInfo) (at : port_of s q.number ≡ Some q) (declared : q.owner.0 < length s.routing.participants)
     (p : Prefix) (told : Entry) (has : get (told_to s q.owner) p ≡ Some told) (tagged : get s.tag p ≡ Some told.tag) (c : Candidate) (chosen : best s.routing q.owner p ≡ Some c)
     (frame : List ℕ) (h : Headers) (read : headers_of q.number frame ≡ Some h) (valid : IsValid h) (sent_to : tag_at frame ≡ Some told.tag) where
   abbrev r : Routing
@@ -215,9 +160,9 @@ module _ (s : State) (sound : IsSound s) (hops : HopsAreOwn s) (q : PortInfo) (a
   by_part : part_answer ps (part_with r q.owner p c) h ≡ answer ps r q.owner p h
   by_part =
       let own : Part = part_with r q.owner p c in
-      dropped_answer s ps are q.owner (is_offered own.offers) c.from (offered_port own.offers) h
-      ∙ ap (λ n. let l : Leaving = record { headers = h; port = n } in l ∷ []) (offered_hop r q.owner p c (best_Member r q.owner p c chosen))
-      ∙ sym by_answer
+      ap (λ (e : Pid → Bool). answer_by ps q.owner e c.from (offered_port own.offers) h) (λ i who. offered_exports r q.owner p all who i)
+      ∙ same_ports ps q.owner (λ who. exports r who q.owner p) c.from (offered_port own.offers) (next_port r p) h (candidate_exported r q.owner p c (best_Member r q.owner p c chosen)).exported (λ who e. offered_port_is r q.owner p who all e)
+      ∙ sym (ap (answer_for ps r q.owner p h) chosen)
 
   -- the rules of the pair give what the kept part gives
   by_rules : (rules : List Rule) → get s.table pair ≡ Some rules → SameMembers (first_match s.table q.number frame) (answer ps r q.owner p h)

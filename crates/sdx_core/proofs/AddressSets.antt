@@ -1,5 +1,5 @@
 -- Rising lists of addresses: what a search in one finds, and one with more addresses.
-use Rattle.std.proofs.Common.{◌≡◌, ℕ, zero, suc, ◌+◌, ◌<◌, ◌≤◌, Bool, true, false, List, [], ◌∷◌, ◌++◌, length, take, drop, Result, Ok, Err, sym, ap, subst, ◌∙◌, refl, arith, inl, inr}
+use Rattle.std.proofs.Common.{◌≡◌, ℕ, zero, suc, ◌+◌, ◌<◌, ◌≤◌, true, false, List, [], ◌∷◌, ◌++◌, length, Result, Ok, Err, sym, ap, subst, ◌∙◌, refl, arith, inl, inr}
 use Rattle.std.specs.Prelude.{slice_index_or, is_ok, ◌||◌, ◌⊎◌}
 use Rattle.std.specs.Cmp.{IsTotalOrder, nat_cmp_total}
 use Rattle.std.specs.List.{list_any, insert}
@@ -8,7 +8,7 @@ use Rattle.std.specs.FinMap.{nat_cmp-IsAntisymmetric}
 use Rattle.std.specs.Ordering.{eq_by_cmp, is_eq, is_lt, nat_cmp, ordering_reverse}
 use Rattle.std.specs.declared.cmp.Ordering.{Ordering}
 use Rattle.std.specs.declared.cmp.Ordering.TheVariants.{Less, Equal, Greater}
-use Rattle.std.proofs.lemmas.Bool.{cases_lt, eq-eqb, eqb-true, false≢true, false_from_ne_true, or_left, or_right}
+use Rattle.std.proofs.lemmas.Bool.{cases_lt, eq-eqb, eqb-true, false≢true, false_from_ne_true}
 use Rattle.std.proofs.lemmas.Cmp.{on_total, tied_itself}
 use Rattle.std.proofs.lemmas.List.{append_assoc}
 use Rattle.std.proofs.lemmas.List.Sorted.{IsPermutation-insert, IsPermutation-sym, IsPermutation-to_front, IsPermutation-trans, searchable_from_sorted}
@@ -21,7 +21,7 @@ use Rattle.net_types.specs.declared.address.Ip.{Ip}
 use Rattle.net_types.proofs.FindLemmas.{any_at}
 use Rattle.net_types.proofs.MemberLemmas.{Contains-Member, Member-at, Member-permutation}
 use Rattle.net_types.proofs.RisingLemmas.{before_trans}
-use Rattle.net_types.proofs.SetLemmas.{Member-append_cases, Member-append_left, Member-append_right, same_append, same_refl, same_sym, same_trans, same_eq}
+use Rattle.net_types.proofs.SetLemmas.{Member-append_cases, Member-append_left, same_append, same_refl, same_trans, same_eq}
 use Rattle.net_types.proofs.TieLemmas.{tie_Equal}
 use Rattle.sdx_core.specs.Resolved.{is_before}
 

@@ -7,7 +7,7 @@ use Rattle.events.specs.Fits.{bare, by_table, IsStep}
 use Rattle.events.specs.Refusals.{if_known}
 use Rattle.events.specs.Resolving.{is_resolved, tag_address}
 use Rattle.events.specs.State.{State, port_of}
-use Rattle.events.specs.Table.{actions_on, done_by, first_match, frame_cmp, frame_of, out, tag_at}
+use Rattle.events.specs.Table.{actions_on, done_by, frame_cmp, frame_of, out, tag_at}
 use Rattle.events.specs.declared.Event.TheVariants.{Frame as Line}
 use Rattle.events.specs.declared.Frame.{Frame}
 use Rattle.events.specs.declared.Head.TheVariants.{Fine, Unresolved}

@@ -1,15 +1,13 @@
 -- A datagram in a frame: whether it has headers and which destination doesn't depend on the MACs, and a tag can be read from
 -- the frame to its MAC.
 use Rattle.std.proofs.Common.{◌≡◌, ℕ, zero, suc, ◌+◌, ◌*◌, ◌/◌, ◌%◌, ◌<◌, ◌≤◌, Bool, true, false, cond, List, [], ◌∷◌, ◌++◌, length, drop, ap, subst, ◌∙◌, refl, sym, arith}
-use Rattle.std.specs.Prelude.{Option, Some, None, slice_index}
-use Rattle.std.proofs.lemmas.List.{append_assoc}
+use Rattle.std.specs.Prelude.{Some, None, slice_index}
 use Rattle.std.proofs.lemmas.Option.{cond_some}
 use Rattle.events.specs.Fits.{destination, tagged_frame}
 use Rattle.events.specs.Refusals.{is_datagram}
 use Rattle.events.specs.Table.{framed, tag_at}
 use Rattle.net_types.specs.Frames.{has_headers, headers_of, tag_mac}
 use Rattle.net_types.specs.Octets.{address_at}
-use Rattle.net_types.specs.declared.address.Ip.{Ip}
 use Rattle.net_types.specs.declared.address.Mac.{Mac}
 use Rattle.net_types.specs.declared.address.PortNo.{PortNo}
 use Rattle.net_types.specs.declared.address.Tag.{Tag}

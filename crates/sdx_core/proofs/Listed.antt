@@ -1,7 +1,7 @@
 -- The line that shows the table is a step: the rules of the announcements, by port and tag, are those of the table.
 use Rattle.std.proofs.Common.{◌≡◌, ℕ, ◌+◌, ◌≤◌, Bool, true, false, cond, ◌&&◌, nat_eq, List, [], ◌∷◌, ◌++◌, map, sum_by, sym, ap, subst, ◌∙◌, refl, arith, inl, inr, T}
-use Rattle.std.specs.Prelude.{Option, Some, None, find, flat_map}
-use Rattle.std.specs.FinMap.{FinMap, entries, entries_sorted, from_entries, get-entries, get-from_entries, is_sorted, find as find_key}
+use Rattle.std.specs.Prelude.{Option, Some, None, find}
+use Rattle.std.specs.FinMap.{entries, entries_sorted, get-entries, get-from_entries, is_sorted, find as find_key}
 use Rattle.std.specs.FinMap.Entries.{below_all, same_entries}
 use Rattle.std.specs.List.{filter_map, cons_option}
 use Rattle.std.specs.List.Sorted.{IsPermutation, IsSortedBy}

@@ -1,8 +1,8 @@
 -- The line that sends a datagram is a step.
-use Rattle.std.proofs.Common.{◌≡◌, ℕ, ◌+◌, ◌<◌, ◌≤◌, ◌^◌, Bool, true, false, cond, not, nat_eq, List, [], ◌∷◌, ◌++◌, length, take, drop, ap, ◌∙◌, refl, sym, subst, arith}
-use Rattle.std.specs.Prelude.{Option, Some, None, IfSome, MatchOption, find, slice_get, slice_index, is_some}
+use Rattle.std.proofs.Common.{◌≡◌, ℕ, ◌<◌, ◌≤◌, ◌^◌, Bool, true, false, cond, not, nat_eq, List, ◌++◌, length, take, drop, ap, ◌∙◌, refl, sym, subst, arith}
+use Rattle.std.specs.Prelude.{Option, Some, None, IfSome, MatchOption, find, slice_get, slice_index}
 use Rattle.std.specs.FinMap.{FinMap, get, keys}
-use Rattle.std.specs.Option.{option_map, option_and_then}
+use Rattle.std.specs.Option.{option_map}
 use Rattle.std.proofs.lemmas.Bool.{eqb-true}
 use Rattle.std.proofs.lemmas.Option.{cond_some, option_and_then_some}
 use Rattle.events.specs.After.{next}
@@ -11,13 +11,13 @@ use Rattle.events.specs.Refusals.{if_known, is_datagram, refusal, unless}
 use Rattle.events.specs.Resolving.{is_resolved, tag_address}
 use Rattle.events.specs.State.{State, ArePolicies, Entry, port_of, told_to}
 use Rattle.events.specs.Table.{framed, out}
-use Rattle.events.specs.declared.Event.{Event}
 use Rattle.events.specs.declared.Event.TheVariants.{Packet}
 use Rattle.events.specs.declared.Head.TheVariants.{Fine, Refused, Unresolved, Unrouted}
 use Rattle.events.specs.declared.Phase.{Phase}
 use Rattle.events.specs.declared.Phase.TheVariants.{Running}
 use Rattle.events.specs.declared.Refusal.TheVariants.{BadPacket}
 use Rattle.events.specs.declared.Reply.{Reply}
+use Rattle.events.proofs.Exporters.{AreDeclared}
 use Rattle.events.proofs.Routed.{routed, valid_headers}
 use Rattle.net_types.specs.Answers.{Policies, answer}
 use Rattle.net_types.specs.Exports.{route}
@@ -30,7 +30,6 @@ use Rattle.net_types.specs.declared.address.Ip.{Ip}
 use Rattle.net_types.specs.declared.address.Mac.{Mac}
 use Rattle.net_types.specs.declared.address.Pid.{Pid}
 use Rattle.net_types.specs.declared.address.PortNo.{PortNo}
-use Rattle.net_types.specs.declared.address.Tag.{Tag}
 use Rattle.net_types.specs.declared.headers.Headers.{Headers}
 use Rattle.net_types.specs.declared.prefix.Prefix.{Prefix}
 use Rattle.net_types.specs.declared.route.Attrs.{Attrs}
@@ -41,7 +40,7 @@ use Rattle.net_types.proofs.PassLemmas.{some_there}
 use Rattle.sdx_core.specs.Given.{all_given, given_prefix, given_prefixes}
 use Rattle.sdx_core.specs.Leaving.{sent_by}
 use Rattle.sdx_core.specs.Placed.{is_declared}
-use Rattle.sdx_core.specs.View.{AreTagged, ForEach, IsKept, IsOwn, announced_in, receives, state_of, tag_count}
+use Rattle.sdx_core.specs.View.{AreTagged, ForEach, IsKept, IsOwn, announced_in, state_of, tag_count}
 use Rattle.sdx_core.specs.declared.announcement.Announcement.{Announcement}
 use Rattle.sdx_core.specs.declared.given.Given.{Given}
 use Rattle.sdx_core.proofs.Framing.{destination_is, is_datagram-none, is_datagram-some, readdressed, tag_at-framed, tagged_headers, tagged_octets}
@@ -77,6 +76,14 @@ module _ {phase : Phase} {size capacity : ℕ} {ms : List Participant} {qs : Lis
       ∙ ap (λ n. option_map (λ (y : PortInfo). y.owner) (find (numbered n) qs)) own.port
       ∙ own.owner
       ∙ (λ i. Some (record { 0 = eqb-true a.from.0 who.0 parts.0 i })))
+
+  -- and the participant is declared
+  pub routes_declared : AreDeclared s.routing
+  routes_declared who p attrs e =
+      option_and_then_some (route_from who) (announced_in anns p) attrs (sym (route_kept ms qs anns kept.apart who p) ∙ e) (λ a there is.
+      let same : a.from.0 ≡ who.0 = eqb-true a.from.0 who.0 (cond_some (nat_eq a.from.0 who.0) a.attrs attrs is).0 in
+      let low : a.from.0 < length ms = (is_own ms qs anns kept.own p a there).declared in
+      omega arith)
 
   -- a datagram that isn't one is refused
   pub no_packet_at : (port : PortNo) (q : PortInfo) (bytes : List ℕ) (to : Mac) (st : State) (r : Reply) → is_declared phase ≡ true → find (numbered port) qs ≡ Some q → length to.0 ≡ 6 → length q.mac.0 ≡ 6
@@ -116,8 +123,8 @@ module _ {phase : Phase} {size capacity : ℕ} {ms : List Participant} {qs : Lis
             let k = tagged_headers q told.tag bytes six_from datagram in
             let f : List ℕ = tagged_frame q told.tag bytes in
             let here : frame ≡ f = ap (λ t. tagged_frame q t bytes) (sym same) in
-            let result = routed s (kept_sound phase base size capacity ms qs rs anns ns rules kept) hops_own q at (owner_below ms qs port q kept.owners found) g.prefix told has tagged c.0 c.1 f k.0 k.1
-                (valid_headers q.number f k.0 (subst (λ (x : PortNo). x.0 < 2 ^ 16) (sym (same_number qs port q found)) low_port) (subst (λ x. (j : ℕ) → slice_index x j < 256) here frame_octets) k.1) (tag_at-framed told.tag q.mac bytes) in
+            let result = routed s (kept_sound phase base size capacity ms qs rs anns ns rules kept) hops_own routes_declared q at (owner_below ms qs port q kept.owners found) g.prefix told has tagged c.0 c.1 f k.0 k.1
+            (valid_headers q.number f k.0 (subst (λ (x : PortNo). x.0 < 2 ^ 16) (sym (same_number qs port q found)) low_port) (subst (λ x. (j : ℕ) → slice_index x j < 256) here frame_octets) k.1) (tag_at-framed told.tag q.mac bytes) in
             subst (λ frames. (ps : Policies) × ArePolicies s ps × MatchOption (headers_of q.number f) ⊥ (λ x. (frames ≡ out qs f (answer ps s.routing q.owner g.prefix x)) × ReachesExporters s q.owner g.prefix (answer ps s.routing q.owner g.prefix x))) (ap (by_table s q) (sym here)) result;
       }
 

@@ -1,24 +1,22 @@
 -- The lines by which routers resolve next hops are steps.
-use Rattle.std.proofs.Common.{◌≡◌, ℕ, zero, suc, ◌+◌, ◌<◌, ◌≤◌, Bool, true, false, cond, ◌&&◌, not, nat_eq, List, [], ◌∷◌, ◌++◌, length, map, take, filter, ap, ◌∙◌, refl, sym, subst, arith, inl, inr}
+use Rattle.std.proofs.Common.{◌≡◌, ℕ, zero, suc, ◌+◌, ◌<◌, ◌≤◌, Bool, true, false, cond, ◌&&◌, not, List, [], ◌∷◌, ◌++◌, length, map, take, filter, ap, ◌∙◌, refl, sym, subst, arith, inl, inr}
 use Rattle.std.specs.Prelude.{Option, Some, None, All, IfSome, MatchOption, find, slice_get, slice_set, slice_index_or}
-use Rattle.std.specs.FinMap.{FinMap, get, values}
-use Rattle.std.specs.List.{cons_option, filter_map, list_any, position_from}
+use Rattle.std.specs.FinMap.{FinMap, values}
+use Rattle.std.specs.List.{cons_option, list_any, position_from}
 use Rattle.std.specs.Option.{option_map, option_map_or, option_and_then}
 use Rattle.std.specs.Cmp.{nat_cmp_is}
 use Rattle.std.specs.Ordering.{is_lt}
 use Rattle.std.specs.declared.cmp.Ordering.TheVariants.{Less}
-use Rattle.std.proofs.lemmas.Bool.{and_parts, eq-eqb, eqb-true, leb-true}
-use Rattle.std.proofs.lemmas.Bool.Decides.{nat_tests}
+use Rattle.std.proofs.lemmas.Bool.{eq-eqb, eqb-true}
 use Rattle.std.proofs.lemmas.List.{length-set}
 use Rattle.std.proofs.lemmas.Option.{cond_some, option_and_then_some}
 use Rattle.arp_frame.specs.declared.read.ArpRequest.{ArpRequest}
 use Rattle.events.specs.After.{accepted, next, next_by, put_flows, running, with_known, without_pairs}
-use Rattle.events.specs.Fits.{bare, asks_for, IsStep, responder_reply}
+use Rattle.events.specs.Fits.{bare, asks_for, IsStep}
 use Rattle.events.specs.Refusals.{if_known, refusal}
-use Rattle.events.specs.Resolving.{is_answered, is_resolved, port_place, resolved_at, tag_address, unresolved, with_answer, with_resolved}
+use Rattle.events.specs.Resolving.{port_place, tag_address, unresolved, with_answer, with_resolved}
 use Rattle.events.specs.State.{State, Entry, port_of, told_to}
 use Rattle.events.specs.declared.Event.TheVariants.{Arp, Resolve}
-use Rattle.events.specs.declared.Exchange.{Exchange}
 use Rattle.events.specs.declared.Head.TheVariants.{Fine, Refused, Silent}
 use Rattle.events.specs.declared.Phase.{Phase}
 use Rattle.events.specs.declared.Phase.TheVariants.{Running}
@@ -31,13 +29,13 @@ use Rattle.net_types.specs.Exports.{is_in_path}
 use Rattle.net_types.specs.Keys.{ip_cmp, prefix_cmp}
 use Rattle.net_types.specs.Maps.{ordered}
 use Rattle.net_types.specs.Octets.{same_octets}
-use Rattle.net_types.specs.Sets.{IsRising, Member, SameMembers}
+use Rattle.net_types.specs.Sets.{IsRising, Member}
 use Rattle.net_types.specs.declared.address.Ip.{Ip}
 use Rattle.net_types.specs.declared.address.PortNo.{PortNo}
 use Rattle.net_types.specs.declared.address.Tag.{Tag}
 use Rattle.net_types.specs.declared.route.Participant.{Participant}
 use Rattle.net_types.specs.declared.route.PortInfo.{PortInfo}
-use Rattle.net_types.proofs.FindLemmas.{Member-take, slice_get_some}
+use Rattle.net_types.proofs.FindLemmas.{Member-take}
 use Rattle.net_types.proofs.MemberLemmas.{Member-at, Member-filter_map}
 use Rattle.net_types.proofs.OrderLemmas.{prefixes_total}
 use Rattle.net_types.proofs.PassLemmas.{any_map}
@@ -46,7 +44,7 @@ use Rattle.net_types.proofs.SetLemmas.{Member-map, map-Member}
 use Rattle.net_types.proofs.ValueLemmas.{any_value, value_at}
 use Rattle.sdx_core.specs.Given.{all_given, given_to}
 use Rattle.sdx_core.specs.Placed.{is_declared}
-use Rattle.sdx_core.specs.Resolved.{address_of, exchange_for, if_missing, is_before, learned, lies_in, missing_hop, missing_hops, pool_request, reply_to}
+use Rattle.sdx_core.specs.Resolved.{address_of, exchange_for, if_missing, is_before, learned, lies_in, missing_hops, pool_request, reply_to}
 use Rattle.sdx_core.specs.View.{AreTagged, IsKept, announced_in, is_given_on, receives, state_of, tag_at_place, tag_count}
 use Rattle.sdx_core.specs.declared.announcement.Announcement.{Announcement}
 use Rattle.sdx_core.specs.declared.given.Given.{Given}
@@ -54,7 +52,7 @@ use Rattle.sdx_core.proofs.AddressSets.{among_member, ips_tie, ips_total, member
 use Rattle.sdx_core.proofs.GivenLemmas.{given_tag, is_from, tag_below}
 use Rattle.sdx_core.proofs.Kept.{announced_Member, receives_at}
 use Rattle.sdx_core.proofs.KeptLive.{entry_parts, take-AreTagged}
-use Rattle.sdx_core.proofs.KeptMaps.{entry_of, take-AreApart, told_kept}
+use Rattle.sdx_core.proofs.KeptMaps.{entry_of, told_kept}
 use Rattle.sdx_core.proofs.Running.{found_at, found_nowhere, in_place, numbered, placed, refused_at, resolved_is, same_number, step_to, told_given, with_resolved_is}
 use Rattle.sdx_core.proofs.KeptTable.{count_up}
 
@@ -235,10 +233,10 @@ module _ {phase : Phase} {size capacity : ℕ} {ms : List Participant} {qs : Lis
           let parts = entry_parts (receives ms a q.owner) a a.tag v.value is in
           let g : Given = record { prefix = a.prefix; tag = v.value.tag; port = a.port } in
           let given : given_to m.asn a ≡ Some g =
-              ap (λ b. cond b (option_map (λ t. let y : Given = record { prefix = a.prefix; tag = t; port = a.port } in y) a.tag) None) (sym (receives_at ms a q.owner m declared) ∙ parts.0)
-              ∙ ap (option_map (λ t. let y : Given = record { prefix = a.prefix; tag = t; port = a.port } in y)) parts.1 in
+          ap (λ b. cond b (option_map (λ t. let y : Given = record { prefix = a.prefix; tag = t; port = a.port } in y) a.tag) None) (sym (receives_at ms a q.owner m declared) ∙ parts.0)
+          ∙ ap (option_map (λ t. let y : Given = record { prefix = a.prefix; tag = t; port = a.port } in y)) parts.1 in
           let stands_there : Member (address_of base g.tag) (hops base m.asn front) =
-              Member-map (λ (y : Given). address_of base y.tag) (all_given m.asn front) g (Member-filter_map (given_to m.asn) front a g (announced_Member front v.key a stands) given) in
+          Member-map (λ (y : Given). address_of base y.tag) (all_given m.asn front) g (Member-filter_map (given_to m.asn) front a g (announced_Member front v.key a stands) given) in
           subst (λ y. Member y (hops base m.asn front)) (sym (λ j. record { 0 = same j })) stands_there)
 
       -- those that are unresolved

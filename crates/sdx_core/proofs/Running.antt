@@ -1,6 +1,6 @@
 -- The lines that change neither declarations nor routes: when they are in place, and the lists after them.
 use Rattle.std.proofs.Common.{◌≡◌, ℕ, zero, suc, ◌+◌, ◌≤◌, ◌<◌, Bool, true, false, cond, nat_eq, List, [], ◌∷◌, ◌++◌, length, take, sym, ap, subst, ◌∙◌, refl, arith}
-use Rattle.std.specs.Prelude.{Option, Some, None, find, slice_get, slice_set, unwrap_or}
+use Rattle.std.specs.Prelude.{Some, None, find, slice_get, slice_set, unwrap_or}
 use Rattle.std.specs.List.{position_from}
 use Rattle.std.specs.FinMap.{get}
 use Rattle.std.specs.Option.{option_map, option_map_or, option_and_then}
@@ -8,7 +8,7 @@ use Rattle.std.proofs.lemmas.Bool.{eqb-true}
 use Rattle.events.specs.After.{next}
 use Rattle.events.specs.Fits.{IsStep, IsAnswer, bare}
 use Rattle.events.specs.Refusals.{is_placed, refusal, refusal_in_place}
-use Rattle.events.specs.Resolving.{is_resolved, port_place, resolved_at, with_resolved}
+use Rattle.events.specs.Resolving.{port_place, resolved_at, with_resolved}
 use Rattle.events.specs.State.{State, Entry, port_of, told_to}
 use Rattle.events.specs.declared.Event.{Event}
 use Rattle.events.specs.declared.Head.TheVariants.{Refused}
@@ -25,7 +25,6 @@ use Rattle.net_types.specs.declared.route.Participant.{Participant}
 use Rattle.net_types.specs.declared.route.PortInfo.{PortInfo}
 use Rattle.net_types.proofs.FindLemmas.{find-IsFound, slice_get-Member}
 use Rattle.net_types.specs.Sets.{Member}
-use Rattle.net_types.specs.declared.address.Tag.{Tag}
 use Rattle.sdx_core.specs.Given.{all_given}
 use Rattle.sdx_core.specs.Placed.{is_declared}
 use Rattle.sdx_core.specs.View.{HasOwner, IsKept, ForEach, announced_in, receives, state_of}

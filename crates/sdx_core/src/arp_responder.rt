@@ -43,12 +43,7 @@ pub fn learn(resolved: &mut AddressSet, router: Mac, asked: &ArpRequest) -> Resu
 }
 
 /// The router at a port asks for each of the addresses, and the responder replies.
-pub fn exchanges(
-    alloc: Global,
-    base: Ip,
-    port: &PortInfo,
-    ips: &[Ip],
-) -> Result<Exchanges, Memory>
+pub fn exchanges(alloc: Global, base: Ip, port: &PortInfo, ips: &[Ip]) -> Result<Exchanges, Memory>
     requires { All (λ ip. (base.0 ≤ ip.0) × (ip.0 ≤ base.0 + 65536)) ips.now }
     ensures { IfOk result (λ exchanges. exchanges ≡ map (exchange_for base port.now) ips.now) }
 {

@@ -31,12 +31,7 @@ pub fn missing_hops(
     Ok(ips)
 }
 
-fn missing_hop(
-    base: Ip,
-    asn: u32,
-    resolved: &AddressSet,
-    announcement: &Announcement,
-) -> Option<Ip>
+fn missing_hop(base: Ip, asn: u32, resolved: &AddressSet, announcement: &Announcement) -> Option<Ip>
     requires low { base.0 ≤ 3758096383 }
     requires small { IfSome announcement.now.tag (λ t. t.0 ≤ 65536) }
     ensures { result ≡ missing_hop base asn resolved.now announcement.now }

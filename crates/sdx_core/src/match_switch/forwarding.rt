@@ -32,11 +32,8 @@ pub fn leave(
 {
     let mut frames = Items::new(alloc);
     if let Some(exit) = exit {
-        rewrite(
-            frame.as_mut_slice(),
-            &exit.headers,
-            mac_of(ports, exit.port),
-        );
+        let to = mac_of(ports, exit.port);
+        rewrite(frame.as_mut_slice(), &exit.headers, to);
         frames.push(Frame {
             port: exit.port,
             bytes: Items::from_vec(frame),
@@ -80,11 +77,7 @@ fn port_by_tag(
 }
 
 /// The port of an announcement, where the participant is given it.
-fn port_for(
-    participants: &[Participant],
-    announcement: &Announcement,
-    to: Pid,
-) -> Option<PortNo>
+fn port_for(participants: &[Participant], announcement: &Announcement, to: Pid) -> Option<PortNo>
     ensures { result ≡ port_for participants.now to announcement.now }
 {
     if receives(participants, announcement, to) {
@@ -102,7 +95,5 @@ fn tag_at(frame: &[u8]) -> Option<Tag>
     if &frame[..3] != [2u8, 83, 68].as_slice() {
         return None;
     }
-    Some(Tag(
-        65536 * u32::from(frame[3]) + 256 * u32::from(frame[4]) + u32::from(frame[5])
-    ))
+    Some(Tag(65536 * u32::from(frame[3]) + 256 * u32::from(frame[4]) + u32::from(frame[5])))
 }

@@ -1,11 +1,9 @@
-use Rattle.std.proofs.Common.{◌≡◌, ◌<◌, length, nat_eq, List, [], ◌∷◌, ◌++◌, true, false, sym, ap, ◌∙◌, refl, arith, get_or}
-use Rattle.std.specs.Prelude.{Some, None, slice_get, slice_set}
-use Rattle.std.specs.List.{position_from}
+use Rattle.std.proofs.Common.{◌≡◌, ◌<◌, length, List, [], ◌∷◌, ◌++◌, sym, ap, ◌∙◌, arith, get_or}
+use Rattle.std.specs.Prelude.{None, slice_set}
 use Rattle.std.proofs.lemmas.List.{get_or_read}
 use Rattle.std.proofs.lemmas.Option.{slice_get-get_or}
 use Rattle.events.specs.declared.Exchange.{Exchange}
 use Rattle.net_types.specs.declared.address.Ip.{Ip}
-use Rattle.net_types.specs.declared.route.PortInfo.{PortInfo}
 use Rattle.sdx_core.specs.Resolved.{learned}
 use Rattle.sdx_core.proofs.Resolving.{unknown_arp_at, silent_at, answered_at}
 use Rattle.sdx_core.proofs.Running.{no_port}

@@ -1,7 +1,7 @@
 use Rattle.std.proofs.Common.{◌≡◌, ap, subst, sym, ◌∙◌, IfOk}
 use Rattle.std.specs.Prelude.{IfSome}
 use Rattle.ip_frame.specs.Rewriting.{CanTake}
-use Rattle.sdx_core.specs.Leaving.{exit_of, frames_by}
+use Rattle.sdx_core.specs.Leaving.{frames_by}
 use Rattle.sdx_core.specs.declared.match_switch.forwarding.Exit.{Exit}
 use Rattle.sdx_core.proofs.Forwarded.{can_take, forwarded_at}
 use Rattle.sdx_core.proofs.sdx.Sdx.forwarded.Goals as goal

@@ -1,8 +1,4 @@
-use Rattle.std.proofs.Common.{◌≡◌, nat_eq, sym, ap, ◌∙◌}
-use Rattle.std.specs.Prelude.{Some, find}
-use Rattle.events.specs.State.{port_of}
-use Rattle.events.specs.declared.Reply.{Reply}
-use Rattle.net_types.specs.declared.route.PortInfo.{PortInfo}
+use Rattle.std.proofs.Common.{sym, ◌∙◌}
 use Rattle.sdx_core.proofs.Forwarded.{frame_at}
 use Rattle.sdx_core.proofs.Running.{found_again}
 use Rattle.sdx_core.proofs.sdx.Sdx.frame.Goals as goal

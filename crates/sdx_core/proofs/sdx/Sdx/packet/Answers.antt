@@ -1,11 +1,10 @@
-use Rattle.std.proofs.Common.{◌≡◌, ◌<◌, ◌≤◌, ℕ, length, nat_eq, sym, ap, ◌∙◌, refl, arith, get_or, rules, subst}
-use Rattle.std.specs.Prelude.{IfSome, Some, None, find}
+use Rattle.std.proofs.Common.{◌≡◌, ◌<◌, length, nat_eq, sym, ap, ◌∙◌, refl, arith, get_or, rules}
+use Rattle.std.specs.Prelude.{Some, find}
 use Rattle.std.proofs.lemmas.List.{length-take-le}
 use Rattle.std.proofs.lemmas.Option.{slice_get-get_or}
 use Rattle.events.specs.Table.{framed}
 use Rattle.net_types.specs.Arp.{no_mac}
 use Rattle.net_types.specs.declared.route.PortInfo.{PortInfo}
-use Rattle.sdx_core.specs.declared.given.Given.{Given}
 use Rattle.sdx_core.proofs.Packets.{front_below, no_packet_at, packet_found, reply_from, small_tag}
 use Rattle.sdx_core.proofs.Running.{found_again, owner_below}
 use Rattle.sdx_core.proofs.sdx.Sdx.packet.Goals as goal
@@ -70,6 +69,6 @@ returns c =
     (rw (c.items-3.ensures, c.as_slice-3.ensures.value, c.as_slice-4.ensures.value) at c.longest_match.ensures.told)
     c.args.self.now c.match-longest_match.reply c.self.view_is
     (elim c.match-longest_match.branch [
-        | in-Some-longest_match+in_ok-reply-in-Some-longest_match w ↦ w.reply-is ∙ w.in_ok-reply-in-Some-longest_match.ensures ∙ ap (reply_from c.args.self.now source c.in_ok-frame.frame.items) (sym w.in-Some-longest_match.is)
-        | in-None w ↦ w.reply-is ∙ w.bare_reply-reply.ensures ∙ ap (reply_from c.args.self.now source c.in_ok-frame.frame.items) (sym w.in-None.is)
+      | in-Some-longest_match+in_ok-reply-in-Some-longest_match w ↦ w.reply-is ∙ w.in_ok-reply-in-Some-longest_match.ensures ∙ ap (reply_from c.args.self.now source c.in_ok-frame.frame.items) (sym w.in-Some-longest_match.is)
+      | in-None w ↦ w.reply-is ∙ w.bare_reply-reply.ensures ∙ ap (reply_from c.args.self.now source c.in_ok-frame.frame.items) (sym w.in-None.is)
     ])

@@ -1,12 +1,11 @@
-use Rattle.std.proofs.Common.{◌≡◌, ◌<◌, ◌≤◌, length, List, [], ◌∷◌, ◌++◌, map, sym, ap, ◌∙◌, arith, get_or}
+use Rattle.std.proofs.Common.{◌≡◌, ◌<◌, length, ◌++◌, map, sym, ap, ◌∙◌, arith, get_or}
 use Rattle.std.specs.Prelude.{Some, slice_set}
 use Rattle.std.proofs.lemmas.List.{get_or_read}
 use Rattle.std.proofs.lemmas.Option.{slice_get-get_or}
 use Rattle.net_types.specs.Keys.{ip_cmp}
 use Rattle.net_types.specs.Maps.{ordered}
-use Rattle.net_types.specs.declared.address.Ip.{Ip}
 use Rattle.net_types.specs.declared.route.PortInfo.{PortInfo}
-use Rattle.sdx_core.specs.Resolved.{missing_hops, exchange_for}
+use Rattle.sdx_core.specs.Resolved.{exchange_for}
 use Rattle.sdx_core.proofs.Resolving.{unknown_resolve_at, resolve_at, tags_small, hops_within}
 use Rattle.sdx_core.proofs.Running.{no_port, owner_at}
 use Rattle.sdx_core.proofs.sdx.Sdx.resolve.Goals as goal

@@ -1,0 +1,72 @@
+-- The candidates of a participant for a prefix, and their offers.
+use Rattle.std.proofs.Common.{◌≡◌, Bool, true, false, cond, nat_eq, List, [], ◌∷◌, map, filter, sym, ap, subst, ◌∙◌, refl, inl, inr}
+use Rattle.std.specs.Prelude.{Option, Some, None, find}
+use Rattle.std.specs.List.{filter_map, cons_option}
+use Rattle.std.specs.Option.{option_map_or}
+use Rattle.std.proofs.lemmas.Bool.{eq-eqb, eqb-true}
+use Rattle.std.proofs.lemmas.Option.{option_and_then_some, cond_some}
+use Rattle.net_types.specs.Answers.{next_port, offered_port}
+use Rattle.net_types.specs.Exports.{Routing, exports, is_given, route}
+use Rattle.net_types.specs.Routes.{Candidate, best, candidate, candidates, given, first_of_list, pids}
+use Rattle.net_types.specs.Sets.{Member}
+use Rattle.net_types.specs.Signatures.{offer, port_with}
+use Rattle.net_types.specs.declared.address.Pid.{Pid}
+use Rattle.net_types.specs.declared.prefix.Prefix.{Prefix}
+use Rattle.net_types.specs.declared.route.Attrs.{Attrs}
+use Rattle.net_types.specs.declared.route.Offer.{Offer}
+use Rattle.net_types.proofs.FindLemmas.{find-IsFound, any_at}
+use Rattle.net_types.proofs.PassLemmas.{is_some-any, some_there}
+use Rattle.net_types.proofs.RisingLemmas.{filter-Member}
+use Rattle.net_types.proofs.SetLemmas.{Member-map, map-Member}
+
+-- a member of what a function gives of some, with what it comes from
+record IsGivenBy {A B : Type 0} (f : A → Option B) (y : B) : Type 0 where
+  source : A
+  is : f source ≡ Some y
+
+given_case : {A B : Type 0} (f : A → Option B) (x : A) (ys : List B) (y : B) (o : Option B) → f x ≡ o → Member y (cons_option o ys) → (Member y ys → IsGivenBy f y) → IsGivenBy f y
+given_case f x ys y None e m later = later m
+given_case f x ys y (Some z) e (inl same) later = record { source = x; is = e ∙ ap Some (sym same) }
+given_case f x ys y (Some z) e (inr m) later = later m
+
+filter_map-Member : {A B : Type 0} (f : A → Option B) (xs : List A) (y : B) → Member y (filter_map f xs) → IsGivenBy f y
+filter_map-Member f [] y m = elim m [ ]
+filter_map-Member f (x ∷ xs) y m = given_case f x (filter_map f xs) y (f x) refl m (filter_map-Member f xs y)
+
+-- a candidate is a route that is exported
+pub record IsExported (r : Routing) (to : Pid) (p : Prefix) (c : Candidate) : Type 0 where
+  pub routed : route r c.from p ≡ Some c.attrs
+  pub exported : exports r c.from to p ≡ true
+
+pub candidate_exported : (r : Routing) (to : Pid) (p : Prefix) (c : Candidate) → Member c (candidates r to p) → IsExported r to p c
+candidate_exported r to p c m =
+    let g = filter_map-Member (given r to p) (pids r) c m in
+    let from : Pid = g.source in
+    option_and_then_some (λ (attrs : Attrs). cond (is_given r from to p attrs) (Some (candidate r from attrs)) None) (route r from p) c g.is (λ attrs there is.
+    let parts = cond_some (is_given r from to p attrs) (candidate r from attrs) c is in
+    subst (IsExported r to p) parts.1 (record { routed = there; exported = ap (λ o. option_map_or (is_given r from to p) o false) there ∙ parts.0 }))
+
+first_Member : {A : Type 0} (xs : List A) (x : A) → first_of_list xs ≡ Some x → Member x xs
+first_Member [] x e = absurd (cc)
+first_Member (y ∷ xs) x e = inl (let same : y ≡ x = cc in sym same)
+
+-- the best route is one of the candidates
+pub best_Member : (r : Routing) (to : Pid) (p : Prefix) (c : Candidate) → best r to p ≡ Some c → Member c (candidates r to p)
+best_Member r to p c e = back _ _ (back _ _ (back _ _ (back _ _ (back _ _ (first_Member _ c e)))))
+  where
+    back : (test : Candidate → Bool) (xs : List Candidate) → Member c (filter test xs) → Member c xs
+    back test xs m = (filter-Member test xs c m).stands
+
+-- the port of an exporter's offer is that of its NEXT_HOP
+pub offered_hop : (r : Routing) (to : Pid) (p : Prefix) (c : Candidate) → Member c (candidates r to p) → offered_port (map (offer r) (candidates r to p)) c.from ≡ next_port r p c.from
+offered_hop r to p c m =
+    let offers : List Offer = map (offer r) (candidates r to p) in
+    let test : Offer → Bool = λ o. nat_eq o.exporter.0 c.from.0 in
+    let o = some_there (find test offers) (is_some-any test offers ∙ any_at test offers (offer r c) (Member-map (offer r) (candidates r to p) c m) (eq-eqb c.from.0 c.from.0 refl)) in
+    let found = find-IsFound test offers o.0 o.1 in
+    let image = map-Member (offer r) (candidates r to p) o.0 found.stands in
+    let d : Candidate = image.of in
+    let same : d.from.0 ≡ c.from.0 = ap (λ (x : Offer). x.exporter.0) (sym image.is) ∙ eqb-true o.0.exporter.0 c.from.0 found.passes in
+    ap (λ x. option_map_or (λ (y : Offer). y.port) x (record { 0 = 0 })) o.1
+    ∙ ap (λ (x : Offer). x.port) image.is
+    ∙ sym (ap (λ x. option_map_or (λ (attrs : Attrs). port_with r.ports attrs.next_hop) x (record { 0 = 0 })) (ap (λ n. route r (record { 0 = n }) p) (sym same) ∙ (candidate_exported r to p d image.stands).routed))
