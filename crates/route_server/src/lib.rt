@@ -1,15 +1,18 @@
 //! Routes, export rules, and what follows from them: each participant's best route, and the signature of a prefix.
 #![tactic(auto)]
 
+mod admission;
 mod change;
 mod edits;
 mod effect;
 mod effects;
+mod fault;
 mod held;
 mod rows;
 mod rules;
 mod same;
 mod server;
 mod signature;
+mod update;
 
 pub use server::RouteServer;
