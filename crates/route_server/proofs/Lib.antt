@@ -5,3 +5,5 @@ mod Parts
 mod EditLaws
 mod SameLaws
 mod EffectLaws
+mod UpdateLaws
+mod ProposalLaws

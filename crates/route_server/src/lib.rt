@@ -8,6 +8,8 @@ mod effect;
 mod effects;
 mod fault;
 mod held;
+mod proposal;
+mod propose;
 mod rows;
 mod rules;
 mod same;
@@ -15,4 +17,6 @@ mod server;
 mod signature;
 mod update;
 
+pub use fault::RouteFault;
+pub use proposal::Proposal;
 pub use server::RouteServer;

@@ -105,7 +105,10 @@ fn edits(server: &RouteServer, from: Pid, update: &Update) -> Result<Vec<Change>
 {
     let gone = withdrawals(server, from, update.withdrawn.items())?;
     match &update.attrs {
-        Some(attrs) => announcements(server, from, attrs, update.announced.items(), gone),
+        Some(attrs) => {
+            let all = announcements(server, from, attrs, update.announced.items(), gone)?;
+            Ok(all)
+        }
         None => Ok(gone),
     }
 }
