@@ -7,3 +7,5 @@ mod SameLaws
 mod EffectLaws
 mod UpdateLaws
 mod ProposalLaws
+mod DownLaws
+mod ExportLaws

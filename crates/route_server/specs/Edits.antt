@@ -15,3 +15,7 @@ prefixes_of cs = map (λ (c : Change). c.prefix) cs
 -- a change has the routes for its prefix, but for one participant's, which is another or none
 pub record IsEdit (m : FinMap route_cmp Attrs) (from : Pid) (o : Option Attrs) (c : Change) : Type 0 where
   pub looks : (f : Pid) → look c.row f.0 ≡ (if nat_eq from.0 f.0 then o else get m (record { from = f; prefix = c.prefix }))
+
+-- a change has the routes for its prefix
+pub record IsKept (m : FinMap route_cmp Attrs) (c : Change) : Type 0 where
+  pub looks : (f : Pid) → get m (record { from = f; prefix = c.prefix }) ≡ look c.row f.0

@@ -3,9 +3,11 @@
 
 mod admission;
 mod change;
+mod down;
 mod edits;
 mod effect;
 mod effects;
+mod export;
 mod fault;
 mod held;
 mod proposal;

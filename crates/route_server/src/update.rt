@@ -52,7 +52,7 @@ fn announcement(
 }
 
 /// A change for each withdrawn prefix.
-fn withdrawals(server: &RouteServer, from: Pid, gone: &[Prefix]) -> Result<Vec<Change>, Memory>
+pub fn withdrawals(server: &RouteServer, from: Pid, gone: &[Prefix]) -> Result<Vec<Change>, Memory>
     ensures prefixes { IfOk result (λ changes. prefixes_of changes.items ≡ gone.now) }
     ensures edits { IfOk result (λ changes. (c : Change) → Member c changes.items → IsEdit server.now.routes from None c) }
 {
