@@ -28,6 +28,7 @@ use Rattle.registry.specs.Registered.{Registered}
 use Rattle.route_server.specs.Rows.{ruled, offered, held_at, held_by, look, Rising, signature_of}
 use Rattle.route_server.specs.Served.{Served, routing, AreDeclared}
 use Rattle.route_server.specs.Effects.{place_attrs, row_at, effect_bests, best_by_row, same_by_rows, is_same, IsEffect, IsEffectOf, routing_after, AreRowsOf, AreEffects}
+use Rattle.route_server.specs.Proposed.{IsProposal}
 use Rattle.route_server.specs.declared.change.Change.{Change}
 use Rattle.route_server.specs.declared.effect.Effect.{Effect}
 use Rattle.route_server.specs.declared.held.Held.{Held}
@@ -236,3 +237,18 @@ touched_are r s cs es f rising elsewhere = subst (AreTouched r s) (sym now) (rec
     kept : (p : Prefix) → Differs r s p → (b : Bool) → is_same r s p ≡ b → Member p (filter t own)
     kept p d true e = absurd (no_difference r s p e d)
     kept p d false e = among p d (member_or t own p (ap not e))
+
+-- the effects of all changes make a proposal
+pub proposal_is : (names : Registered) (v : Served) (rules held : List (List ExportRule)) (m : FinMap route_cmp Attrs) (o : Option (List (List ExportRule))) (cs ds : List Change) (es fs : List Effect) (ps : List Prefix) → held ≡ rules → ds ≡ cs → fs ≡ es → ps ≡ map (λ (e : Effect). e.prefix) fs
+    → AreEffects (routing names v) (routing_after names held m) ds (length ds) es → IsRising is_before (map (λ (c : Change). c.prefix) cs) → ((p : Prefix) → (Member p (map (λ (c : Change). c.prefix) cs) → ⊥) → Differs (routing names v) (routing_after names rules m) p → ⊥)
+    → IsProposal (routing names v) (routing_after names rules m) (record { changes = cs; rules = o; touched = ps; sigs = map (λ (e : Effect). e.sig) es; bests = map (effect_bests cs) es })
+proposal_is names v rules held m o cs ds es fs ps same_rules same_changes same_effects at f rising elsewhere =
+    let r = routing names v in
+    let s = routing_after names rules m in
+    let k : AreEffects r s cs (length cs) es = subst (λ xs. AreEffects r s xs (length xs) es) same_changes (subst (λ rs. AreEffects r (routing_after names rs m) ds (length ds) es) same_rules f) in
+    let is : ps ≡ map (λ (e : Effect). e.prefix) es = at ∙ ap (map (λ (e : Effect). e.prefix)) same_effects in
+    record {
+      touched = subst (AreTouched r s) (sym is) (touched_are r s cs es k rising elsewhere);
+      sigs = k.sigs ∙ ap (map (signature s)) (sym is);
+      bests = k.bests ∙ ap (map (λ q. map (λ to. best_attrs s to q) (pids s))) (sym is);
+    }

@@ -5,3 +5,7 @@ mod Parts
 mod EditLaws
 mod SameLaws
 mod EffectLaws
+mod UpdateLaws
+mod ProposalLaws
+mod DownLaws
+mod ExportLaws

@@ -1,10 +1,13 @@
 -- What a route server holds.
-use Rattle.std.specs.Prelude.{◌≡◌, ◌<◌, length, ℕ, List, [], ◌∷◌, map, flat_map, Option, IfSome, if◌then◌else◌}
+use Rattle.std.specs.Prelude.{◌≡◌, ◌<◌, length, ℕ, true, is_some, List, [], ◌∷◌, map, flat_map, Option, IfSome, if◌then◌else◌}
 use Rattle.std.specs.Option.{option_and_then}
 use Rattle.std.specs.FinMap.{FinMap, get, entries}
 use Rattle.net_types.specs.Keys.{RouteKey, prefix_cmp, route_cmp}
 use Rattle.net_types.specs.Maps.{tabulate}
 use Rattle.net_types.specs.Exports.{Routing, same_prefix}
+use Rattle.net_types.specs.Sets.{IsRising, Member}
+use Rattle.net_types.specs.UpdateSpelling.{is_before}
+use Rattle.net_types.specs.declared.address.Pid.{Pid}
 use Rattle.net_types.specs.declared.prefix.Prefix.{Prefix}
 use Rattle.net_types.specs.declared.route.Attrs.{Attrs}
 use Rattle.net_types.specs.declared.export.ExportRule.{ExportRule}
@@ -55,3 +58,14 @@ pub record Reaches (cs : List Change) (before after : FinMap route_cmp Attrs) : 
 -- each route is that of a declared participant
 pub record AreDeclared (names : Registered) (routes : FinMap route_cmp Attrs) : Type 0 where
   pub declared : (k : RouteKey) → IfSome (get routes k) (λ _. k.from.0 < length names.participants)
+
+-- the prefixes of all routes, ascending
+pub record AreAll (routes : FinMap route_cmp Attrs) (ps : List Prefix) : Type 0 where
+  pub rising : IsRising is_before ps
+  pub all : (k : RouteKey) → is_some (get routes k) ≡ true → Member k.prefix ps
+
+-- the prefixes of a participant's routes, ascending
+pub record Carries (routes : FinMap route_cmp Attrs) (from : Pid) (ps : List Prefix) : Type 0 where
+  pub rising : IsRising is_before ps
+  pub some : (p : Prefix) → Member p ps → is_some (get routes (record { from = from; prefix = p })) ≡ true
+  pub all : (p : Prefix) → is_some (get routes (record { from = from; prefix = p })) ≡ true → Member p ps

@@ -1,15 +1,24 @@
 //! Routes, export rules, and what follows from them: each participant's best route, and the signature of a prefix.
 #![tactic(auto)]
 
+mod admission;
 mod change;
+mod down;
 mod edits;
 mod effect;
 mod effects;
+mod export;
+mod fault;
 mod held;
+mod proposal;
+mod propose;
 mod rows;
 mod rules;
 mod same;
 mod server;
 mod signature;
+mod update;
 
+pub use fault::RouteFault;
+pub use proposal::Proposal;
 pub use server::RouteServer;

@@ -1,14 +1,14 @@
 //! What a route server holds.
 
 ghost use Rattle.std.specs.Prelude.{◌≡◌, ℕ, ◌<◌, ◌≤◌, ◌+◌, [], length, Option, IfOk, OnOk};
-ghost use Rattle.std.specs.FinMap.{FinMap, empty, get};
+ghost use Rattle.std.specs.FinMap.{FinMap, empty, get, keys};
 ghost use Rattle.std.specs.Option.{option_copied, option_map_or};
 ghost use Rattle.net_types.specs.Changes.{best_attrs};
 ghost use Rattle.net_types.specs.Keys.{RouteKey, route_cmp};
 ghost use Rattle.net_types.specs.Signatures.{signature};
 ghost use Rattle.net_types.specs.declared.route.Attrs.{Attrs};
 ghost use Rattle.route_server.specs.Rows.{look, Rising};
-ghost use Rattle.route_server.specs.Served.{Served, routing, AreRows, AreDeclared, route_in, one_after, route_after, Reaches};
+ghost use Rattle.route_server.specs.Served.{Served, routing, AreRows, AreDeclared, route_in, one_after, route_after, Reaches, AreAll};
 
 use crate::change::Change;
 use crate::held::Held;
@@ -68,6 +68,18 @@ fn put_rows(rows: &mut PrefixMap<Items<Held>>, changes: Vec<Change>)
     }
 }
 
+/// The prefixes of a map.
+fn keys_of(alloc: Global, rows: &PrefixMap<Items<Held>>) -> Result<Vec<Prefix>, Memory>
+    ensures { IfOk result (λ prefixes. prefixes.items ≡ keys rows.now.map) }
+{
+    let mut prefixes = Vec::new(alloc);
+    let mut left = rows.iter();
+    while let Some((prefix, _)) = left.next() {
+        prefixes.push(prefix)?;
+    }
+    Ok(prefixes)
+}
+
 impl RouteServer {
     /// No routes, and no rules.
     pub fn new(alloc: Global) -> RouteServer
@@ -111,6 +123,14 @@ impl RouteServer {
             Some(row) => row.items(),
             None => &[],
         }
+    }
+
+    /// All prefixes for which there is a route, in ascending order.
+    pub(crate) fn prefixes(&self) -> Result<Vec<Prefix>, Memory>
+        ensures { IfOk result (λ prefixes. AreAll self.now.routes prefixes.items) }
+    {
+        let prefixes = keys_of(self.allocator(), &self.rows)?;
+        Ok(prefixes)
     }
 
     /// The participants' export rules, in order of declaration.

@@ -1,0 +1,32 @@
+-- Which updates are taken (this exchange's own rule).
+use Rattle.std.specs.Prelude.{ℕ, Bool, not, nat_eq, List, [], ◌∷◌, Option, Some, None, slice_get, if◌then◌else◌}
+use Rattle.std.specs.Option.{option_and_then}
+use Rattle.net_types.specs.Attributes.{same_option}
+use Rattle.net_types.specs.Exports.{asn_of}
+use Rattle.net_types.specs.Updates.{first_as}
+use Rattle.net_types.specs.declared.address.Pid.{Pid}
+use Rattle.net_types.specs.declared.route.Attrs.{Attrs}
+use Rattle.net_types.specs.declared.route.Segment.{Segment}
+use Rattle.net_types.specs.declared.route.Segment.TheVariants.{Set, Sequence}
+use Rattle.net_types.specs.declared.update.Update.{Update}
+use Rattle.registry.specs.Registered.{Registered, has_address}
+use Rattle.route_server.specs.Rows.{ruled}
+use Rattle.route_server.specs.declared.fault.RouteFault.{RouteFault}
+use Rattle.route_server.specs.declared.fault.RouteFault.TheVariants.{FirstAs, NextHop}
+
+-- the first AS of a sequence
+abbrev pub first_in : Segment → Option ℕ
+first_in (Set ns) = None
+first_in (Sequence ns) = slice_get ns 0
+
+-- the path begins with the participant's AS
+abbrev pub begins_with_own : Registered → Pid → Attrs → Bool
+begins_with_own names from a = same_option nat_eq (first_as a.path) (Some (asn_of (ruled names []) from))
+
+-- why attributes are refused: the first AS is looked at before the next hop
+abbrev pub attrs_refusal : Registered → Pid → Attrs → Option RouteFault
+attrs_refusal names from a = if begins_with_own names from a then (if has_address names from a.next_hop then None else Some NextHop) else Some FirstAs
+
+-- why an update is refused: one that announces nothing is not
+abbrev pub refusal : Registered → Pid → Update → Option RouteFault
+refusal names from u = option_and_then (attrs_refusal names from) u.attrs

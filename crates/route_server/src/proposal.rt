@@ -1,0 +1,162 @@
+//! What a line does to the routes and rules, before it is done.
+
+ghost use Rattle.std.specs.Prelude.{◌≡◌, ◌<◌, [], length, map, None, Some, slice_get, unwrap_or, IfOk};
+ghost use Rattle.std.specs.FinMap.{FinMap};
+ghost use Rattle.std.specs.Option.{option_copied, option_and_then, option_map, option_map_or};
+ghost use Rattle.net_types.specs.Changes.{Differs};
+ghost use Rattle.net_types.specs.Keys.{route_cmp};
+ghost use Rattle.net_types.specs.Sets.{Member, IsRising};
+ghost use Rattle.net_types.specs.UpdateSpelling.{is_before};
+ghost use Rattle.net_types.specs.declared.prefix.Prefix.{Prefix};
+ghost use Rattle.net_types.specs.declared.route.Attrs.{Attrs};
+ghost use Rattle.route_server.specs.Edits.{prefixes_of};
+ghost use Rattle.route_server.specs.Effects.{AreRowsOf, routing_after};
+ghost use Rattle.route_server.specs.Proposed.{Proposed, IsProposal};
+ghost use Rattle.route_server.specs.Served.{routing, AreDeclared};
+ghost use Rattle.route_server.specs.declared.effect.Effect.{Effect};
+
+use crate::change::Change;
+use crate::effect::Effect;
+use crate::effects::effects_of;
+use crate::server::RouteServer;
+use net_types::{Attrs, ExportRules, Memory, Pid, Prefix, Sig};
+use registry::Registry;
+use std::alloc::{AllocError, Global};
+use std::marker::Model;
+
+/// The rows and rules afterwards, and what is another then. It changes nothing until it is committed.
+#[derive(Drop)]
+pub struct Proposal {
+    changes: Vec<Change>,
+    rules: Option<Vec<ExportRules>>,
+    touched: Vec<Prefix>,
+    effects: Vec<Effect>,
+}
+
+impl Model for Proposal {
+    ghost use Rattle.std.specs.Prelude.{◌≡◌, map};
+    ghost use Rattle.std.specs.Coded.{codes};
+    ghost use Rattle.std.specs.Option.{option_map};
+    ghost use Rattle.route_server.specs.contracts.change.Change as change;
+    ghost use Rattle.route_server.specs.Effects.{effect_bests};
+    ghost use Rattle.route_server.specs.Proposed.{Proposed};
+    ghost use Rattle.route_server.specs.declared.effect.Effect.{Effect};
+
+    ghost Value = { Proposed };
+
+    ghost coded = { Prim.hlevel (codes, change.the_row.coded) };
+
+    ghost view = { λ a. record { changes = a.changes.items; rules = option_map (λ r. r.items) a.rules; touched = a.touched.items; sigs = map (λ (e : Effect). e.sig) a.effects.items; bests = map (effect_bests a.changes.items) a.effects.items } };
+
+    ghost invariant = { λ a. a.touched.items ≡ map (λ (e : Effect). e.prefix) a.effects.items };
+}
+
+/// The prefixes of effects.
+fn touched_by(alloc: Global, effects: &[Effect]) -> Result<Vec<Prefix>, AllocError>
+    ensures { IfOk result (λ touched. touched.items ≡ map (λ (e : Effect). e.prefix) effects.now) }
+{
+    effects.iter().map(|effect| effect.prefix).collect(alloc)
+}
+
+/// The rules afterwards.
+fn rules_after<'a>(
+    server: &'a RouteServer,
+    rules: &'a Option<Vec<ExportRules>>,
+) -> &'a [ExportRules]
+    ensures { result.now ≡ option_map_or (λ r. r.items) rules.now server.now.rules }
+{
+    match rules {
+        Some(rules) => rules.as_slice(),
+        None => server.rules(),
+    }
+}
+
+impl Proposal {
+    /// Touches nothing.
+    pub fn empty(alloc: Global) -> Proposal
+        ensures { result ≡ record { changes = []; rules = None; touched = []; sigs = []; bests = [] } }
+    {
+        Proposal {
+            changes: Vec::new(alloc),
+            rules: None,
+            touched: Vec::new(alloc),
+            effects: Vec::new(alloc),
+        }
+    }
+
+    /// What these changes do, where the rules become others or stay.
+    pub(crate) fn of(
+        server: &RouteServer,
+        names: &Registry,
+        changes: Vec<Change>,
+        rules: Option<Vec<ExportRules>>,
+    ) -> Result<Proposal, Memory>
+        requires declared { AreDeclared names.now server.now.routes }
+        ensures changes { IfOk result (λ p. p.changes ≡ changes.items) }
+        ensures rules { IfOk result (λ p. p.rules ≡ option_map (λ r. r.items) rules) }
+        ensures effects { IfOk result (λ p. (m : FinMap route_cmp Attrs) → let after = routing_after names.now (option_map_or (λ r. r.items) rules server.now.rules) m in AreDeclared names.now m → AreRowsOf changes.items m → IsRising is_before (prefixes_of changes.items)
+            → ((q : Prefix) → (Member q (prefixes_of changes.items) → ⊥) → Differs (routing names.now server.now) after q → ⊥) → IsProposal (routing names.now server.now) after p) }
+    {
+        let after = rules_after(server, &rules);
+        let effects = effects_of(server, names, after, changes.as_slice())?;
+        let touched = touched_by(server.allocator(), effects.as_slice())?;
+        Ok(Proposal {
+            changes,
+            rules,
+            touched,
+            effects,
+        })
+    }
+
+    /// The prefixes whose signature, or some participant's best attributes, are others afterwards, in ascending order.
+    pub fn touched(&self) -> &[Prefix]
+        ensures { result.now ≡ self.now.touched }
+    {
+        self.touched.as_slice()
+    }
+
+    /// The signature of a touched prefix afterwards.
+    pub fn sig(&self, at: usize) -> &Sig
+        requires { at < length self.now.touched }
+        ensures { slice_get self.now.sigs at ≡ Some result.now }
+    {
+        &self.effects[at].sig
+    }
+
+    /// A participant's best attributes for a touched prefix afterwards; none where it has no best route for it.
+    pub fn best(&self, at: usize, who: Pid) -> Option<&Attrs>
+        requires { at < length self.now.touched }
+        ensures { option_copied result ≡ option_and_then (λ o. o) (slice_get (unwrap_or (slice_get self.now.bests at) []) who.0) }
+    {
+        let effect = &self.effects[at];
+        let place = place_of(effect.bests.as_slice(), who)?;
+        let change = self.changes.get(effect.at)?;
+        let held = change.row.items().get(place)?;
+        Some(&held.attrs)
+    }
+
+    /// The changes and the rules.
+    pub(crate) fn open(self) -> (Vec<Change>, Option<Vec<ExportRules>>)
+        ensures changes { result.0.items ≡ self.changes }
+        ensures rules { option_map (λ r. r.items) result.1 ≡ self.rules }
+    {
+        (self.changes, self.rules)
+    }
+
+    /// How many rows it changes.
+    pub(crate) fn rows(&self) -> usize
+        ensures { result ≡ length self.now.changes }
+    {
+        self.changes.len()
+    }
+}
+
+/// A participant's place, where there is one.
+fn place_of(places: &[Option<usize>], who: Pid) -> Option<usize>
+    ensures { result ≡ option_and_then (λ o. o) (slice_get places.now who.0) }
+{
+    match places.get(who.0 as usize) {
+        Some(place) => *place,
+        None => None,
+    }
+}

@@ -1,0 +1,91 @@
+//! What lines do to the routes: proposals, and their commit.
+
+ghost use Rattle.std.specs.Prelude.{◌≡◌, ◌<◌, ◌≤◌, ◌^◌, ◌↔◌, length, sum_by, None, Some, IfOk, IfSome, OnOk, unwrap_or};
+ghost use Rattle.std.specs.FinMap.{FinMap};
+ghost use Rattle.net_types.specs.Changes.{updated};
+ghost use Rattle.net_types.specs.Keys.{route_cmp};
+ghost use Rattle.net_types.specs.Routes.{hops_of};
+ghost use Rattle.net_types.specs.SoundUpdates.{IsSoundUpdate};
+ghost use Rattle.net_types.specs.declared.route.Attrs.{Attrs};
+ghost use Rattle.route_server.specs.Admission.{refusal};
+ghost use Rattle.route_server.specs.Effects.{routing_after};
+ghost use Rattle.route_server.specs.Proposed.{IsProposal};
+ghost use Rattle.route_server.specs.Served.{routing, AreDeclared, Reaches};
+
+use crate::admission::refusal;
+use crate::fault::RouteFault;
+use crate::proposal::Proposal;
+use crate::server::RouteServer;
+use crate::update::update_changes;
+use net_types::{Memory, Pid, Update};
+use registry::Registry;
+
+/// What an update does that is taken.
+fn proposed_update(
+    server: &RouteServer,
+    names: &Registry,
+    from: Pid,
+    update: &Update,
+) -> Result<Proposal, Memory>
+    requires known { from.0 < length names.now.participants }
+    requires sound { IsSoundUpdate update.now }
+    requires short { IfSome update.now.attrs (λ a. sum_by hops_of a.path < 2 ^ 32) }
+    requires declared { AreDeclared names.now server.now.routes }
+    ensures reaches { IfOk result (λ p. Reaches p.changes server.now.routes (updated from update.now server.now.routes)) }
+    ensures rules { IfOk result (λ p. p.rules ≡ None) }
+    ensures proposal { IfOk result (λ p. IsProposal (routing names.now server.now) (routing_after names.now server.now.rules (updated from update.now server.now.routes)) p) }
+{
+    // At most 256 are declared.
+    let _declared = names.participants();
+    let changes = update_changes(server, from, update)?;
+    let proposal = Proposal::of(server, names, changes, None)?;
+    Ok(proposal)
+}
+
+impl RouteServer {
+    /// What an update of a participant does. Refused is one that announces where its path doesn't begin with the
+    /// participant's AS, and else where its NEXT_HOP is the address of none of the participant's ports.
+    pub fn propose_update(
+        &self,
+        names: &Registry,
+        from: Pid,
+        update: &Update,
+    ) -> Result<Proposal, RouteFault>
+        requires known { from.0 < length names.now.participants }
+        requires sound { IsSoundUpdate update.now }
+        requires short { IfSome update.now.attrs (λ a. sum_by hops_of a.path < 2 ^ 32) }
+        requires declared { AreDeclared names.now self.now.routes }
+        ensures first_as { (result ≡ Err RouteFault.FirstAs) ↔ (refusal names.now from update.now ≡ Some RouteFault.FirstAs) }
+        ensures next_hop { (result ≡ Err RouteFault.NextHop) ↔ (refusal names.now from update.now ≡ Some RouteFault.NextHop) }
+        ensures reaches { IfOk result (λ p. Reaches p.changes self.now.routes (updated from update.now self.now.routes)) }
+        ensures rules { IfOk result (λ p. p.rules ≡ None) }
+        ensures proposal { IfOk result (λ p. IsProposal (routing names.now self.now) (routing_after names.now self.now.rules (updated from update.now self.now.routes)) p) }
+    {
+        match refusal(names, from, update) {
+            Some(fault) => Err(fault),
+            None => match proposed_update(self, names, from, update) {
+                Ok(proposal) => Ok(proposal),
+                Err(_) => Err(RouteFault::Memory),
+            },
+        }
+    }
+
+    /// Makes room for the commit of a proposal. It changes nothing else.
+    pub fn reserve(&mut self, proposal: &Proposal) -> Result<(), Memory>
+        ensures room { OnOk result (length proposal.now.changes ≤ self.new.room) }
+        ensures routes { self.new.routes ≡ self.old.routes }
+        ensures rules { self.new.rules ≡ self.old.rules }
+    {
+        self.reserve_rows(proposal.rows())
+    }
+
+    /// Changes the routes and rules as proposed, where nothing was committed since. It takes no memory.
+    pub fn commit(&mut self, proposal: Proposal)
+        requires room { length proposal.changes ≤ self.old.room }
+        ensures routes { (m : FinMap route_cmp Attrs) → Reaches proposal.changes self.old.routes m → self.new.routes ≡ m }
+        ensures rules { self.new.rules ≡ unwrap_or proposal.rules self.old.rules }
+    {
+        let (changes, rules) = proposal.open();
+        self.set(changes, rules);
+    }
+}
