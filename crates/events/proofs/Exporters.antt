@@ -41,7 +41,7 @@ exporter_case r to p who all None has e = absurd (cc)
 exporter_case r to p who all (Some attrs) has e =
     let c : Candidate = candidate r who attrs in
     let gives : given r to p who ≡ Some c =
-        ap (option_and_then (λ (x : Attrs). cond (is_given r who to p x) (Some (candidate r who x)) None)) has ∙ ap (λ b. cond b (Some c) None) e in
+    ap (option_and_then (λ (x : Attrs). cond (is_given r who to p x) (Some (candidate r who x)) None)) has ∙ ap (λ b. cond b (Some c) None) e in
     let low : who.0 < length r.participants = all who p attrs has in
     record { of = c; stands = Member-filter_map (given r to p) (pids r) who c (place_member (λ n. let x : Pid = record { 0 = n } in x) 0 (length r.participants) who.0 (omega arith) (omega arith)) gives; from = refl }
 
@@ -55,14 +55,14 @@ offered_exports r to p all who =
     let test : Offer → Bool = λ o. nat_eq o.exporter.0 who.0 in
     both_ways (is_offered offers who) (exports r who to p)
     (λ e.
-        let o = some_there (find test offers) (is_some-any test offers ∙ e) in
-        let found = find-IsFound test offers o.0 o.1 in
-        let image = map-Member (offer r) (candidates r to p) o.0 found.stands in
-        let same : image.of.from ≡ who = (λ i. record { 0 = (ap (λ (x : Offer). x.exporter.0) (sym image.is) ∙ eqb-true o.0.exporter.0 who.0 found.passes) i }) in
-        ap (λ x. exports r x to p) (sym same) ∙ (candidate_exported r to p image.of image.stands).exported)
+    let o = some_there (find test offers) (is_some-any test offers ∙ e) in
+    let found = find-IsFound test offers o.0 o.1 in
+    let image = map-Member (offer r) (candidates r to p) o.0 found.stands in
+    let same : image.of.from ≡ who = (λ i. record { 0 = (ap (λ (x : Offer). x.exporter.0) (sym image.is) ∙ eqb-true o.0.exporter.0 who.0 found.passes) i }) in
+    ap (λ x. exports r x to p) (sym same) ∙ (candidate_exported r to p image.of image.stands).exported)
     (λ e.
-        let c = exporter_candidate r to p who all e in
-        any_at test offers (offer r c.of) (Member-map (offer r) (candidates r to p) c.of c.stands) (eq-eqb c.of.from.0 who.0 (ap (λ (x : Pid). x.0) c.from)))
+    let c = exporter_candidate r to p who all e in
+    any_at test offers (offer r c.of) (Member-map (offer r) (candidates r to p) c.of c.stands) (eq-eqb c.of.from.0 who.0 (ap (λ (x : Pid). x.0) c.from)))
 
 -- an exporter's offer has the port of its NEXT_HOP
 pub offered_port_is : (r : Routing) (to : Pid) (p : Prefix) (who : Pid) → AreDeclared r → exports r who to p ≡ true → offered_port (map (offer r) (candidates r to p)) who ≡ next_port r p who

@@ -172,10 +172,10 @@ module _ (s : State) (sound : IsSound s) (hops : HopsAreOwn s) (all : AreDeclare
       let same : right.0 ≡ part_with r q.owner p c = some_same (owners_part s pair) right.0 (part_with r q.owner p c) right.1 kept_part in
       let act : Headers → Tag → List Leaving = λ k u. actions_on (unwrap_or (get s.table (record { port = q.number; tag = u })) []) k in
       let match : first_match s.table q.number frame ≡ map (done_by h) gives.0.actions =
-          ap (λ o. option_map_or (λ (k : Headers). option_map_or (act k) (tag_at frame) []) o []) read
-          ∙ ap (λ o. option_map_or (act h) o []) sent_to
-          ∙ ap (λ o. actions_on (unwrap_or o []) h) there
-          ∙ ap (λ o. option_map_or (λ (x : Rule). map (done_by h) x.actions) o []) gives.1 in
+      ap (λ o. option_map_or (λ (k : Headers). option_map_or (act k) (tag_at frame) []) o []) read
+      ∙ ap (λ o. option_map_or (act h) o []) sent_to
+      ∙ ap (λ o. actions_on (unwrap_or o []) h) there
+      ∙ ap (λ o. option_map_or (λ (x : Rule). map (done_by h) x.actions) o []) gives.1 in
       same_trans (same_eq match) (same_trans gives.2 (same_eq (ap (λ x. part_answer ps x h) same ∙ by_part)))
 
   reaches : ReachesExporters s q.owner p (answer ps r q.owner p h)
@@ -183,7 +183,7 @@ module _ (s : State) (sound : IsSound s) (hops : HopsAreOwn s) (all : AreDeclare
       let from = candidate_exported r q.owner p c (best_Member r q.owner p c chosen) in
       let hop : next_port r p c.from ≡ port_with r.ports c.attrs.next_hop = ap (λ o. option_map_or (λ (attrs : Attrs). port_with r.ports attrs.next_hop) o (record { 0 = 0 })) from.routed in
       let here : MatchOption (port_of s (next_port r p c.from)) ⊥ (λ x. exports r x.owner q.owner p ≡ true) =
-          owned (port_of s (next_port r p c.from)) c.from (λ who. exports r who q.owner p) (ap (λ n. option_map (λ (x : PortInfo). x.owner) (port_of s n)) hop ∙ hops c.from p c.attrs from.routed) from.exported in
+      owned (port_of s (next_port r p c.from)) c.from (λ who. exports r who q.owner p) (ap (λ n. option_map (λ (x : PortInfo). x.owner) (port_of s n)) hop ∙ hops c.from p c.attrs from.routed) from.exported in
       subst (ReachesExporters s q.owner p) (sym by_answer) (λ l m. elim m [
         | inl same ↦ subst (λ (x : Leaving). MatchOption (port_of s x.port) ⊥ (λ y. exports r y.owner q.owner p ≡ true)) (sym same) here
         | inr none ↦ absurd none
@@ -193,9 +193,12 @@ module _ (s : State) (sound : IsSound s) (hops : HopsAreOwn s) (all : AreDeclare
   pub routed : (ps : Policies) × ArePolicies s ps × MatchOption (headers_of q.number frame) ⊥ (λ k.
       (out r.ports frame (first_match s.table q.number frame) ≡ out r.ports frame (answer ps r q.owner p k)) × ReachesExporters s q.owner p (answer ps r q.owner p k))
   routed =
-      let there = some_there (get s.table pair) (sound.pairs pair ∙ live) in
-      (ps, are, subst (λ o. MatchOption o ⊥ (λ k. (out r.ports frame (first_match s.table q.number frame) ≡ out r.ports frame (answer ps r q.owner p k)) × ReachesExporters s q.owner p (answer ps r q.owner p k))) (sym read)
-      (out_alike r.ports frame (first_match s.table q.number frame) (answer ps r q.owner p h) (by_rules there.0 there.1), reaches))
+      let there = some_there (get s.table pair) (sound.pairs pair ∙ live) in (
+        ps,
+        are,
+        subst (λ o. MatchOption o ⊥ (λ k. (out r.ports frame (first_match s.table q.number frame) ≡ out r.ports frame (answer ps r q.owner p k)) × ReachesExporters s q.owner p (answer ps r q.owner p k))) (sym read)
+            (out_alike r.ports frame (first_match s.table q.number frame) (answer ps r q.owner p h) (by_rules there.0 there.1), reaches),
+      )
 
 -- ---- headers of octets
 

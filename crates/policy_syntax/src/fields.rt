@@ -11,7 +11,9 @@ ghost use Rattle.policy_syntax.specs.Views.{target_of, test_of, field_of};
 
 use crate::tree::{Field, Target, Test};
 use net_types::{Assign, Ip, PortNo};
-use text_fields::{WrongOctet, address, is_letter, name, next_is, number, prefix, sign, spaces, word};
+use text_fields::{
+    WrongOctet, address, is_letter, name, next_is, number, prefix, sign, spaces, word,
+};
 
 pub fn port(size: usize, low: u32, high: u32, rest: &[u8]) -> Result<(u16, &[u8]), WrongOctet>
     requires size { size < 2 ^ 32 }
