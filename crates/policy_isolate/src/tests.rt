@@ -1,28 +1,55 @@
 //! Policies of a small exchange that keep or break isolation.
 
-use crate::{IsolateFault, Kind, check_in, check_out};
+ghost use Rattle.policy_isolate.specs.SmallExchange.{letter_pid, declared_pid, declared_owner};
+ghost use Rattle.std.specs.Prelude.{◌≡◌};
+
+use crate::{IsolateFault, Kind, Names, check_in, check_out};
 use bumpalo::Bump;
-use net_types::{Ip, Mac, Pid, PortNo, Span};
+use net_types::{Pid, PortNo, Span};
 use policy_syntax::parse;
-use registry::{RegFault, Registry};
 use std::alloc::Global;
 use std::test::Fail;
 
-fn mac(last: u8) -> Mac {
-    Mac([2, 0, 0, 0, 0, last])
+// A with port 1, B with ports 2 and 3, C with port 4.
+struct Declared;
+
+fn letter_pid(letter: u8) -> Option<Pid>
+    ensures { result ≡ letter_pid letter }
+{
+    if letter == b'A' {
+        Some(Pid(0))
+    } else if letter == b'B' {
+        Some(Pid(1))
+    } else if letter == b'C' {
+        Some(Pid(2))
+    } else {
+        None
+    }
 }
 
-// A with port 1, B with ports 2 and 3, C with port 4.
-fn declared(alloc: Global) -> Result<Registry, RegFault> {
-    let mut names = Registry::new(alloc);
-    names.add_participant("A", 65001, Ip(0x01000001))?;
-    names.add_participant("B", 65002, Ip(0x01000002))?;
-    names.add_participant("C", 65003, Ip(0x01000003))?;
-    names.add_port(Pid(0), PortNo(1), Ip(0xAC100101), mac(1))?;
-    names.add_port(Pid(1), PortNo(2), Ip(0xAC100102), mac(2))?;
-    names.add_port(Pid(1), PortNo(3), Ip(0xAC100103), mac(3))?;
-    names.add_port(Pid(2), PortNo(4), Ip(0xAC100104), mac(4))?;
-    Ok(names)
+impl Names for Declared {
+    ghost pid_of = { λ _ name. declared_pid name };
+
+    ghost owner_of = { λ _ port. declared_owner port.0 };
+
+    fn find(&self, name: &str) -> Option<Pid> {
+        match name.as_bytes() {
+            [letter] => letter_pid(*letter),
+            _ => None,
+        }
+    }
+
+    fn owner(&self, port: PortNo) -> Option<Pid> {
+        if port.0 == 1 {
+            Some(Pid(0))
+        } else if port.0 == 2 || port.0 == 3 {
+            Some(Pid(1))
+        } else if port.0 == 4 {
+            Some(Pid(2))
+        } else {
+            None
+        }
+    }
 }
 
 fn broken(kind: Kind, start: u32, end: u32) -> Result<(), IsolateFault> {
@@ -34,7 +61,6 @@ fn broken(kind: Kind, start: u32, end: u32) -> Result<(), IsolateFault> {
 
 #[test]
 fn outbound_policies_of_a(rt: HostRuntime) -> Result<(), Fail> {
-    let names = declared(rt.alloc())?;
     let texts = [
         ("fwd(B)", Ok(())),
         ("match(inport=1) >> fwd(C)", Ok(())),
@@ -55,14 +81,13 @@ fn outbound_policies_of_a(rt: HostRuntime) -> Result<(), Fail> {
         let Ok(tree) = parse(rt.alloc(), &arena, text) else {
             panic!(rt; "{text}");
         };
-        assert_eq!(rt; check_out(&tree, &names, Pid(0)), answer, "{text}");
+        assert_eq!(rt; check_out(&tree, &Declared, Pid(0)), answer, "{text}");
     }
     Ok(())
 }
 
 #[test]
 fn inbound_policies_of_b(rt: HostRuntime) -> Result<(), Fail> {
-    let names = declared(rt.alloc())?;
     let texts = [
         ("fwd(2) + fwd(3)", Ok(())),
         ("modify(dstport=80) >> fwd(3)", Ok(())),
@@ -82,7 +107,7 @@ fn inbound_policies_of_b(rt: HostRuntime) -> Result<(), Fail> {
         let Ok(tree) = parse(rt.alloc(), &arena, text) else {
             panic!(rt; "{text}");
         };
-        assert_eq!(rt; check_in(&tree, &names, Pid(1)), answer, "{text}");
+        assert_eq!(rt; check_in(&tree, &Declared, Pid(1)), answer, "{text}");
     }
     Ok(())
 }
