@@ -2,3 +2,4 @@ pub mod Compiled
 pub mod Sets
 pub mod Narrow
 pub mod Measures
+pub mod SmallExchange

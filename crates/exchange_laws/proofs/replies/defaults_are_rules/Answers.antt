@@ -1,0 +1,5 @@
+use Rattle.exchange_laws.proofs.Updates.{defaults_are_rules}
+use Rattle.exchange_laws.proofs.replies.defaults_are_rules.Goals as goal
+
+pub returns : goal.returns
+returns c = defaults_are_rules

@@ -1,0 +1,10 @@
+pub mod Fresh
+pub mod Retagging
+pub mod Rules
+pub mod Replies
+pub mod Telling
+pub mod Unchanged
+pub mod Touched
+pub mod Counts
+pub mod Steady
+pub mod Listed

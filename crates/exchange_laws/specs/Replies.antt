@@ -1,0 +1,52 @@
+-- What the reply to a line that builds rules puts into the table (this exchange's own rule).
+use Rattle.std.specs.Prelude.{◌≡◌, ℕ, ◌≤◌, Bool, true, false, ◌||◌, List, [], Ok, Some, is_none}
+use Rattle.std.specs.FinMap.{FinMap, get}
+use Rattle.events.specs.After.{next, put_flows, with_update, without_pairs}
+use Rattle.events.specs.Fits.{IsAccepted, IsBuilt, added, dropped, none_rebuilt}
+use Rattle.events.specs.Sound.{IsSound, rule_count}
+use Rattle.events.specs.State.{State}
+use Rattle.events.specs.Tags.{is_live_pair, retagged}
+use Rattle.events.specs.declared.Event.TheVariants.{Update}
+use Rattle.events.specs.declared.Reply.{Reply}
+use Rattle.exchange_laws.specs.Retagging.{TagsArePooled}
+use Rattle.exchange_laws.specs.Rules.{IsChange, IsTableAfter, table_after}
+use Rattle.net_types.specs.Keys.{pair_cmp}
+use Rattle.net_types.specs.Exports.{Routing, pid_of}
+use Rattle.net_types.specs.UpdateReading.{decoded}
+use Rattle.net_types.specs.declared.address.Pid.{Pid}
+use Rattle.net_types.specs.declared.rule.Pair.{Pair}
+use Rattle.net_types.specs.declared.rule.Rule.{Rule}
+use Rattle.net_types.specs.declared.update.Update.{Update as Message}
+
+-- A pair that stays and isn't built anew keeps its rules, and one that is new or built anew has some.
+pub record IsBuiltOn (s s1 : State) (is_rebuilt : Pair → Bool) : Type 0 where
+  pub stays : (pair : Pair) (old new : List Rule) → is_rebuilt pair ≡ false → get s.table pair ≡ Some old → get s1.table pair ≡ Some new → old ≡ new
+  pub some : (pair : Pair) → (is_none (get s.table pair) || is_rebuilt pair) ≡ true → get s1.table pair ≡ Some [] → ⊥
+
+-- the pairs dropped are taken out, the rules added are put in, and the table is the new one
+abbrev pub RepliesBuildTables : Type 0
+RepliesBuildTables =
+    (s s1 : State) (is_rebuilt : Pair → Bool) → IsBuiltOn s s1 is_rebuilt
+    → put_flows (without_pairs s.table (dropped s s1 is_rebuilt)) (added s s1 is_rebuilt) ≡ s1.table
+
+-- a pair that becomes live has rules
+abbrev pub HasNewRules : State → FinMap pair_cmp (List Rule) → Type 0
+HasNewRules s table = (pair : Pair) → is_live_pair s pair ≡ false → get table pair ≡ Some [] → ⊥
+
+-- a change of routes builds no pair anew
+abbrev pub ChangesAreBuilt : Type 0
+ChangesAreBuilt =
+    (s : State) (r : Routing) (table : FinMap pair_cmp (List Rule)) → IsSound s → IsTableAfter s (retagged s r) table → HasNewRules s table
+    → IsBuiltOn s (record (retagged s r) { table = table }) none_rebuilt
+
+-- an UPDATE is accepted with the reply that says what is dropped and added, and the state is the one with the new routes and rules
+abbrev pub UpdatesAreAccepted : Type 0
+UpdatesAreAccepted =
+    (s : State) (name bytes : List ℕ) (who : Pid) (u : Message) (table : FinMap pair_cmp (List Rule)) (reply : Reply) → pid_of s.routing name ≡ Some who → decoded bytes ≡ Ok u
+    → let r = with_update s.routing who u in IsChange s r → IsTableAfter s (retagged s r) table → HasNewRules s table
+    → let s1 = record (retagged s r) { table = table } in rule_count s1 ≤ s.capacity → IsBuilt s s1 none_rebuilt reply
+    → (next s (Update name bytes) reply ≡ s1) × IsAccepted s (Update name bytes) reply
+
+-- the default rules are rules
+abbrev pub DefaultsAreRules : Type 0
+DefaultsAreRules = (s : State) (r : Routing) → TagsArePooled s → HasNewRules s (table_after s (retagged s r))

@@ -1,0 +1,33 @@
+//! How many tags are free, and how many rules the table has.
+
+ghost use Rattle.exchange_laws.specs.Counts.{ChangesAddOneEach, LivePairsAreCounted, PairsAreLive, RulesAreCounted, TagsAreCounted, TellingLeavesOneEach};
+
+/// The free tags and the live ones are all of the pool.
+pub fn tags_are_counted()
+    ensures { TagsAreCounted }
+{}
+
+/// The rules are those that were there, less those dropped, and those added.
+pub fn rules_are_counted()
+    ensures { RulesAreCounted }
+{}
+
+/// The pairs of the table are the live ones, in order.
+pub fn pairs_are_live()
+    ensures { PairsAreLive }
+{}
+
+/// Where each pair has one rule there are as many rules as live pairs.
+pub fn live_pairs_are_counted()
+    ensures { LivePairsAreCounted }
+{}
+
+/// After a change of routes each pair has still one rule.
+pub fn changes_add_one_each()
+    ensures { ChangesAddOneEach }
+{}
+
+/// And so it is where a participant is told anew.
+pub fn telling_leaves_one_each()
+    ensures { TellingLeavesOneEach }
+{}
