@@ -2,4 +2,3 @@ pub mod Compiled
 pub mod Sets
 pub mod Narrow
 pub mod Measures
-pub mod SmallExchange

@@ -1,6 +1,6 @@
 //! Rows of the three calls, and `compile` beside a plain program that follows the definition.
 
-ghost use Rattle.policy_compile.specs.SmallExchange.{letter_pid, declared_pid, declared_owner};
+ghost use Rattle.policy_isolate.specs.SmallExchange.{letter_pid, declared_pid, declared_owner};
 ghost use Rattle.std.specs.Prelude.{◌≡◌};
 
 use crate::{compile, count_meets, too_wide};
