@@ -28,7 +28,7 @@ use Rattle.exchange_laws.specs.Telling.{told_anew}
 use Rattle.net_types.proofs.OrderLemmas.{pairs_total}
 use Rattle.net_types.proofs.RisingLemmas.{Member-filter, filter-Member, keys-IsRising}
 use Rattle.net_types.proofs.TieLemmas.{pair_cmp-IsAntisymmetric, same_from_tie, ties_itself}
-use Rattle.exchange_laws.proofs.LaterKeys.{later_apart}
+use Rattle.net_types.proofs.ValueLemmas.{later_apart}
 use Rattle.net_types.specs.Keys.{pair_cmp}
 use Rattle.net_types.specs.Routes.{numbers}
 use Rattle.net_types.specs.Sets.{Member, union_over}

@@ -18,7 +18,7 @@ use Rattle.net_types.proofs.FindLemmas.{cond_same}
 use Rattle.net_types.proofs.OrderLemmas.{pairs_total}
 use Rattle.net_types.proofs.PassLemmas.{any_filter}
 use Rattle.net_types.proofs.TieLemmas.{pair_cmp-IsAntisymmetric, same_from_tie, ties_itself}
-use Rattle.exchange_laws.proofs.LaterKeys.{later_apart}
+use Rattle.net_types.proofs.ValueLemmas.{later_apart}
 use Rattle.net_types.specs.Keys.{pair_cmp}
 use Rattle.net_types.specs.Sets.{union_over}
 use Rattle.net_types.specs.declared.rule.Pair.{Pair}

@@ -1,5 +1,3 @@
-pub mod EqualLemmas
-pub mod LaterKeys
 pub mod Lists
 pub mod DeclaredSteps
 pub mod Sames

@@ -2,7 +2,7 @@
 use Rattle.std.proofs.Common.{◌≡◌, true, List, refl}
 use Rattle.std.proofs.lemmas.Bool.{and_from, and_parts, eqb-true}
 use Rattle.events.specs.Tags.{Group, same_group, same_tag}
-use Rattle.exchange_laws.proofs.EqualLemmas.{IsEqualityTest, from_itself, option_test, signature_test}
+use Rattle.net_types.proofs.EqualLemmas.{IsEqualityTest, from_itself, option_test, signature_test}
 use Rattle.net_types.proofs.SameLemmas.{nat_itself}
 use Rattle.net_types.specs.Attributes.{same_option, same_signature}
 use Rattle.net_types.specs.declared.address.Tag.{Tag}

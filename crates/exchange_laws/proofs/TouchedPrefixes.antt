@@ -17,7 +17,7 @@ use Rattle.exchange_laws.proofs.Sames.{signature_itself, tag_itself}
 use Rattle.exchange_laws.proofs.TagsAfter.{tags_are}
 use Rattle.exchange_laws.proofs.Untouched.{is_some-map, keeps_tag, unchanged}
 use Rattle.exchange_laws.specs.Touched.{GonePairsAreTouched, IsLiveBy, IsTouching, NewPairsAreTouched, OthersKeepTags, OthersStayPresent, TouchedHaveChanges, TouchedHaveGroups}
-use Rattle.exchange_laws.proofs.EqualLemmas.{optional_test, signature_test}
+use Rattle.net_types.proofs.EqualLemmas.{optional_test, signature_test}
 use Rattle.net_types.proofs.OrderLemmas.{prefix_tie, prefixes_total}
 use Rattle.net_types.proofs.PassLemmas.{place_member, some_there}
 use Rattle.net_types.proofs.RisingLemmas.{Member-filter, before, before_itself, before_trans, filter-IsRising, filter-Member}

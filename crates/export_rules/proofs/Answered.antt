@@ -8,7 +8,7 @@ use Rattle.net_types.specs.declared.named_rule.NamedRule.{NamedRule}
 use Rattle.net_types.specs.ExportTexts.{rules}
 use Rattle.export_rules.specs.declared.fault.RulesFault.{RulesFault}
 use Rattle.export_rules.specs.declared.fault.RulesFault.TheVariants.{TextLong, Syntax, Memory}
-use Rattle.export_rules.specs.RulesReading.{read_rules}
+use Rattle.net_types.specs.ExportReading.{read_rules}
 use Rattle.export_rules.specs.Answers.{cause_of, Gives, IsCause}
 use Rattle.export_rules.proofs.RulesExact.{after_rules, rules_exact}
 

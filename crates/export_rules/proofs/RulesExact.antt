@@ -26,9 +26,9 @@ use Rattle.net_types.specs.declared.export.Which.TheVariants as whiches
 use Rattle.net_types.specs.PolicyGrammar.{prefix}
 use Rattle.net_types.specs.ExportTexts.{verdict, receiver, reach, about, named, rule, more_rule, put_last}
 use Rattle.net_types.specs.ExportTexts as texts
-use Rattle.text_fields.specs.PrefixReading.{read_prefix}
+use Rattle.net_types.specs.PrefixReading.{read_prefix}
 use Rattle.text_fields.proofs.PrefixExact.{prefix_exact, prefix_heads}
-use Rattle.export_rules.specs.RulesReading.{read_verdict, read_receiver, read_reach, read_about, read_rule, read_more_rule, read_more_rules, read_rules}
+use Rattle.net_types.specs.ExportReading.{read_verdict, read_receiver, read_reach, read_about, read_rule, read_more_rule, read_more_rules, read_rules}
 
 -- ---- what may stand behind each part
 

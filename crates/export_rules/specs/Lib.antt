@@ -1,3 +1,2 @@
-pub mod RulesReading
 pub mod Views
 pub mod Answers

@@ -3,7 +3,7 @@
 ghost use Rattle.std.specs.Prelude.{◌≡◌, ◌≤◌, length, IfOk, IfErr, Some, None};
 ghost use Rattle.grammar.specs.Texts.{read_whole};
 ghost use Rattle.net_types.specs.ExportTexts.{RulesText};
-ghost use Rattle.export_rules.specs.RulesReading.{read_rules};
+ghost use Rattle.net_types.specs.ExportReading.{read_rules};
 ghost use Rattle.export_rules.specs.Answers.{Gives, IsCause, FindsRules};
 
 use crate::fault::RulesFault;

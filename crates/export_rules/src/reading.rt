@@ -1,7 +1,7 @@
 //! Reading rules from a text. Each function is given the length of the whole text and what is left of it.
 
 ghost use Rattle.std.specs.Prelude.{◌≡◌, ◌<◌, ◌≤◌, ◌^◌, ◌∷◌, [], length, IfOk, OnOk};
-ghost use Rattle.export_rules.specs.RulesReading.{read_verdict, read_receiver, read_reach, read_about, read_rule, read_more_rule, read_more_rules, read_rules};
+ghost use Rattle.net_types.specs.ExportReading.{read_verdict, read_receiver, read_reach, read_about, read_rule, read_more_rule, read_more_rules, read_rules};
 ghost use Rattle.export_rules.specs.Answers.{Gives};
 ghost use Rattle.export_rules.specs.Views.{receiver_of, rule_of};
 ghost use Rattle.net_types.specs.ExportTexts.{put_last};
@@ -20,7 +20,7 @@ pub struct Written<'a> {
     which: Which,
 }
 
-#[tactic(auto, unfolding(crate::specs::RulesReading::read_verdict))]
+#[tactic(auto, unfolding(net_types::specs::ExportReading::read_verdict))]
 fn verdict(size: usize, rest: &[u8]) -> Result<(bool, &[u8]), WrongOctet>
     requires { size < 2 ^ 32 }
     ensures reads { TokenGives (λ x. (x.0, x.1.now)) result (read_verdict size rest.now) }
@@ -32,7 +32,7 @@ fn verdict(size: usize, rest: &[u8]) -> Result<(bool, &[u8]), WrongOctet>
     }
 }
 
-#[tactic(auto, unfolding(crate::specs::RulesReading::read_receiver))]
+#[tactic(auto, unfolding(net_types::specs::ExportReading::read_receiver))]
 fn receiver(size: usize, rest: &[u8]) -> Result<(Option<&str>, &[u8]), WrongOctet>
     requires { size < 2 ^ 32 }
     ensures reads { TokenGives (λ x. (receiver_of x.0, x.1.now)) result (read_receiver size rest.now) }
@@ -47,7 +47,7 @@ fn receiver(size: usize, rest: &[u8]) -> Result<(Option<&str>, &[u8]), WrongOcte
     }
 }
 
-#[tactic(auto, unfolding(crate::specs::RulesReading::read_reach))]
+#[tactic(auto, unfolding(net_types::specs::ExportReading::read_reach))]
 fn reach(size: usize, prefix: Prefix, rest: &[u8]) -> Result<(Which, &[u8]), WrongOctet>
     requires { size < 2 ^ 32 }
     ensures reads { TokenGives (λ x. (x.0, x.1.now)) result (read_reach prefix size rest.now) }
@@ -59,7 +59,7 @@ fn reach(size: usize, prefix: Prefix, rest: &[u8]) -> Result<(Which, &[u8]), Wro
     }
 }
 
-#[tactic(auto, unfolding(crate::specs::RulesReading::read_about))]
+#[tactic(auto, unfolding(net_types::specs::ExportReading::read_about))]
 fn about(size: usize, rest: &[u8]) -> Result<(Which, &[u8]), WrongOctet>
     requires { size < 2 ^ 32 }
     ensures reads { TokenGives (λ x. (x.0, x.1.now)) result (read_about size rest.now) }
@@ -75,7 +75,7 @@ fn about(size: usize, rest: &[u8]) -> Result<(Which, &[u8]), WrongOctet>
 }
 
 // A rule and the spaces behind it.
-#[tactic(auto, unfolding(crate::specs::RulesReading::read_rule))]
+#[tactic(auto, unfolding(net_types::specs::ExportReading::read_rule))]
 fn rule(size: usize, rest: &[u8]) -> Result<(Written<'_>, &[u8]), WrongOctet>
     requires { size < 2 ^ 32 }
     ensures reads { TokenGives (λ x. (rule_of x.0, x.1.now)) result (read_rule size rest.now) }
@@ -87,7 +87,7 @@ fn rule(size: usize, rest: &[u8]) -> Result<(Written<'_>, &[u8]), WrongOctet>
     Ok((Written { allow, who, which }, spaces(rest)))
 }
 
-#[tactic(auto, unfolding(crate::specs::RulesReading::read_more_rule))]
+#[tactic(auto, unfolding(net_types::specs::ExportReading::read_more_rule))]
 fn more_rule(size: usize, rest: &[u8]) -> Result<(Written<'_>, &[u8]), WrongOctet>
     requires { size < 2 ^ 32 }
     ensures reads { TokenGives (λ x. (rule_of x.0, x.1.now)) result (read_more_rule size rest.now) }
@@ -133,7 +133,7 @@ fn more_rules(
 }
 
 /// The rules of a text, and what is left behind them.
-#[tactic(auto, unfolding(crate::specs::RulesReading::read_rules))]
+#[tactic(auto, unfolding(net_types::specs::ExportReading::read_rules))]
 pub fn rules(alloc: Global, size: usize, rest: &[u8]) -> Result<(Vec<NamedRule>, &[u8]), RulesFault>
     requires { size < 2 ^ 32 }
     ensures { Gives (λ x. (x.0.items, x.1.now)) result (read_rules size rest.now) }

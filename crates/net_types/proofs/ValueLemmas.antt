@@ -41,7 +41,7 @@ pub record HasValue {K X : Type 0} (at : K → Option X) (test : X → Bool) : T
 
 module _ {K X : Type 0} (R : K → K → Ordering) (o : IsTotalOrder R) where
   -- a key that is found among entries of greater keys doesn't tie with a lesser one
-  later_apart : (x q : K) (v : X) (es : List (K × X)) → T (below_all R x es) → find R q es ≡ Some v → eq_by_cmp R q x ≡ false
+  pub later_apart : (x q : K) (v : X) (es : List (K × X)) → T (below_all R x es) → find R q es ≡ Some v → eq_by_cmp R q x ≡ false
   later_apart x q v [] below e = absurd (cc)
   later_apart x q v (f ∷ es) below e =
       elim (eq_by_cmp R q f.0) as (λ b. eq_by_cmp R q f.0 ≡ b → cond b (Some f.1) (find R q es) ≡ Some v → eq_by_cmp R q x ≡ false) [

@@ -2,7 +2,7 @@
 use Rattle.grammar.proofs.DottedAddresses as dotted
 use Rattle.text_fields.proofs.PrefixExact as prefixes
 use Rattle.text_fields.proofs.PrefixExact.{prefix_heads}
-use Rattle.text_fields.specs.PrefixReading.{read_prefix}
+use Rattle.net_types.specs.PrefixReading.{read_prefix}
 use Rattle.std.proofs.Common.{◌≡◌, ℕ, ◌≤◌, Bool, true, false, List, [], ◌∷◌, ◌++◌, refl, arith, inl, inr, leb, eqb}
 use Rattle.std.specs.Prelude.{◌⊎◌, ◌&&◌, not, codes}
 use Rattle.std.proofs.lemmas.Bool.{or_left, eq-eqb, both_ways, or_cases, and_parts, leb-true, not_from_false, not-true, false_from_ne_true}

@@ -5,7 +5,7 @@ use Rattle.grammar.specs.TextReading.{Reader, ◌>>=◌, ◌>>◌, pure, place, 
 use Rattle.grammar.specs.Octets.{among}
 use Rattle.grammar.specs.TokenReading.{read_parens, read_too_deep, read_address, read_sign, read_spaces, read_name, read_number}
 use Rattle.net_types.specs.Policies.{Target, Name, Test, Src, Dst, Proto, Sport, Dport, Pred, Yes, Is, Not, And, Or, Policy, Drop, Pass, Block, Fwd, Match, Set, Both, Then}
-use Rattle.text_fields.specs.PrefixReading.{read_prefix}
+use Rattle.net_types.specs.PrefixReading.{read_prefix}
 use Rattle.net_types.specs.declared.headers.Assign.{Assign}
 use Rattle.net_types.specs.Headers.{no_change}
 use Rattle.net_types.specs.PolicyGrammar.{inport_is, number_is, Field, SrcIs, DstIs, SportIs, DportIs, span, with_field}

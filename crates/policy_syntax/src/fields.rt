@@ -5,7 +5,7 @@ ghost use Rattle.grammar.specs.TokenReading.{read_number, read_address};
 ghost use Rattle.net_types.specs.PolicyGrammar.{inport_is, SrcIs, DstIs, SportIs, DportIs};
 ghost use Rattle.policy_syntax.specs.PolicyReading.{read_target, read_lead, read_field, read_end, read_test, read_assign, read_assign_spaces, read_set, read_sets};
 ghost use Rattle.net_types.specs.Policies.{Proto, Src, Sport, Dst, Dport};
-ghost use Rattle.text_fields.specs.PrefixReading.{read_prefix};
+ghost use Rattle.net_types.specs.PrefixReading.{read_prefix};
 ghost use Rattle.text_fields.specs.Answers.{Gives};
 ghost use Rattle.policy_syntax.specs.Views.{target_of, test_of, field_of};
 

@@ -32,7 +32,7 @@ use Rattle.route_server.specs.Proposed.{IsProposal}
 use Rattle.route_server.specs.declared.change.Change.{Change}
 use Rattle.route_server.specs.declared.effect.Effect.{Effect}
 use Rattle.route_server.specs.declared.held.Held.{Held}
-use Rattle.route_server.proofs.SameLaws.{signature_test, optional_test}
+use Rattle.net_types.proofs.EqualLemmas.{signature_test, optional_test}
 use Rattle.route_server.proofs.ServedLaws.{best_of_row, signature_of_row}
 
 -- ---- participants one after another

@@ -3,7 +3,6 @@ mod RowLaws
 mod ServedLaws
 mod Parts
 mod EditLaws
-mod SameLaws
 mod EffectLaws
 mod UpdateLaws
 mod ProposalLaws

@@ -15,10 +15,9 @@ use crate::change::Change;
 use crate::effect::Effect;
 use crate::held::Held;
 use crate::rows::{best_attrs_in, best_in};
-use crate::same::{same_items, same_optional};
 use crate::server::RouteServer;
 use crate::signature::signature_in;
-use net_types::{ExportRules, Memory, Pid, Prefix};
+use net_types::{ExportRules, Memory, Pid, Prefix, same_items, same_optional};
 use registry::Registry;
 use std::alloc::Global;
 

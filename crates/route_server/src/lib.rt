@@ -14,7 +14,6 @@ mod proposal;
 mod propose;
 mod rows;
 mod rules;
-mod same;
 mod server;
 mod signature;
 mod update;

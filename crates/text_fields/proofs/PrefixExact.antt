@@ -19,7 +19,7 @@ use Rattle.grammar.proofs.OctetKinds.{Apart, Within, all_pass, among_within, amo
 use Rattle.grammar.proofs.Optional.{maybe_exact, maybe_leads}
 use Rattle.grammar.proofs.Words.{word_then}
 use Rattle.net_types.specs.PolicyGrammar.{prefix, prefix_of}
-use Rattle.text_fields.specs.PrefixReading.{read_prefix, read_prefix_len}
+use Rattle.net_types.specs.PrefixReading.{read_prefix, read_prefix_len}
 
 abbrev pub is_slash : ℕ → Bool
 is_slash = among (codes "/")

@@ -3,7 +3,7 @@
 ghost use Rattle.std.specs.Prelude.{◌≡◌, ◌<◌, ◌≤◌, ◌^◌, length, IfOk};
 ghost use Rattle.grammar.specs.TokenReading.{read_address};
 ghost use Rattle.net_types.specs.PolicyGrammar.{prefix_of};
-ghost use Rattle.text_fields.specs.PrefixReading.{read_prefix_len, read_prefix};
+ghost use Rattle.net_types.specs.PrefixReading.{read_prefix_len, read_prefix};
 ghost use Rattle.text_fields.specs.Answers.{Gives};
 
 use crate::fault::WrongOctet;
@@ -38,7 +38,7 @@ fn first_bits(ip: u32, len: u8) -> Prefix
     }
 }
 
-#[tactic(auto, unfolding(crate::specs::PrefixReading::read_prefix_len))]
+#[tactic(auto, unfolding(net_types::specs::PrefixReading::read_prefix_len))]
 fn prefix_len(size: usize, rest: &[u8]) -> Result<(u32, &[u8]), WrongOctet>
     requires { size < 2 ^ 32 }
     ensures reads { Gives (λ x. (x.0, x.1.now)) result (read_prefix_len size rest.now) }
@@ -52,7 +52,7 @@ fn prefix_len(size: usize, rest: &[u8]) -> Result<(u32, &[u8]), WrongOctet>
 }
 
 /// A prefix, of 32 bits where no length is written, and what is left.
-#[tactic(auto, unfolding(crate::specs::PrefixReading::read_prefix))]
+#[tactic(auto, unfolding(net_types::specs::PrefixReading::read_prefix))]
 pub fn prefix(size: usize, rest: &[u8]) -> Result<(Prefix, &[u8]), WrongOctet>
     requires { size < 2 ^ 32 }
     ensures reads { Gives (λ x. (x.0, x.1.now)) result (read_prefix size rest.now) }

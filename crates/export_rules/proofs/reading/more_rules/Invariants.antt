@@ -3,7 +3,7 @@ use Rattle.std.specs.Prelude.{codes}
 use Rattle.grammar.specs.Octets.{among}
 use Rattle.grammar.proofs.RepeatLoops.{StillReads}
 use Rattle.net_types.specs.ExportTexts.{put_last}
-use Rattle.export_rules.specs.RulesReading.{read_more_rule, read_more_rules}
+use Rattle.net_types.specs.ExportReading.{read_more_rule, read_more_rules}
 use Rattle.export_rules.proofs.reading.more_rules.Given as goal
 
 abbrev pub invariant-loop-left : goal.invariant-loop-left

@@ -5,7 +5,7 @@ ghost use Rattle.std.specs.Cmp.Lexicographic.{pointwise};
 ghost use Rattle.std.specs.Option.{option_copied};
 ghost use Rattle.net_types.specs.Attributes.{same_option, same_bool, same_ip, same_segment, same_aggregator, same_unknown, same_attrs, same_offer, same_part, same_signature};
 
-use net_types::{Aggregator, Attrs, Offer, Part, Segment, Unknown};
+use crate::route::{Aggregator, Attrs, Offer, Part, Segment, Unknown};
 
 /// Values that can be told apart.
 pub trait Same {

@@ -1,6 +1,7 @@
 -- Reading the text of export rules, as the grammar spells it.
-use Rattle.std.specs.Prelude.{ℕ, Bool, true, false, Option, Some, None, List, [], ◌∷◌, length, codes}
-use Rattle.grammar.specs.TextReading.{Reader, ◌>>=◌, ◌>>◌, pure, read_word, read_either, read_maybe, read_many}
+use Rattle.std.specs.Prelude.{ℕ, Bool, true, false, Option, Some, None, List, [], ◌∷◌, length, codes, Result}
+use Rattle.grammar.specs.TextReading.{Fault, Reader, ◌>>=◌, ◌>>◌, pure, read_word, read_either, read_maybe, read_many}
+use Rattle.grammar.specs.Texts.{read_whole}
 use Rattle.grammar.specs.Octets.{among}
 use Rattle.grammar.specs.TokenReading.{read_sign, read_spaces, read_gap, read_name}
 use Rattle.net_types.specs.declared.prefix.Prefix.{Prefix}
@@ -8,7 +9,7 @@ use Rattle.net_types.specs.declared.export.Which.{Which}
 use Rattle.net_types.specs.declared.export.Which.TheVariants.{Every, Exactly, Within}
 use Rattle.net_types.specs.declared.named_rule.NamedRule.{NamedRule}
 use Rattle.net_types.specs.ExportTexts.{named, put_last}
-use Rattle.text_fields.specs.PrefixReading.{read_prefix}
+use Rattle.net_types.specs.PrefixReading.{read_prefix}
 
 -- allow or deny
 unfoldable pub read_verdict : Reader Bool
@@ -53,3 +54,7 @@ read_rules = do
   read_spaces
   first ← read_rule
   read_more_rules (first ∷ [])
+
+-- what the text of export rules says, or the place at which it is wrong
+abbrev pub rules_of_text : List ℕ → Result (List NamedRule) Fault
+rules_of_text text = read_whole read_rules text

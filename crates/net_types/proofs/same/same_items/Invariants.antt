@@ -1,6 +1,6 @@
 use Rattle.std.proofs.Common.{◌≡◌, drop, length}
 use Rattle.std.specs.Cmp.Lexicographic.{pointwise}
-use Rattle.route_server.proofs.same.same_items.Given as goal
+use Rattle.net_types.proofs.same.same_items.Given as goal
 
 abbrev pub invariant-loop-i : goal.invariant-loop-i
 invariant-loop-i g l = record {
