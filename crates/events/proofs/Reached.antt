@@ -49,7 +49,7 @@ no_entries K X R = no_items (entries (empty {K = K} {X = X} {R = R})) (sym (len-
 not_there : {A : Type 0} (o : Option A) (x : A) → o ≡ None → o ≡ Some x → ⊥
 not_there o x none some = cc
 
-first_sound : IsSound first
+pub first_sound : IsSound first
 first_sound = record {
   pairs = λ pair. ap is_some (get-empty {X = List Rule} pair_cmp pair);
   right = (record { named = pid_of first.routing; outbound = []; inbound = [] }, record { names = refl; outbound = tt; inbound = tt }, λ pair rules e. absurd (not_there _ rules (get-empty pair_cmp pair) e));
@@ -61,9 +61,16 @@ first_sound = record {
 -- ---- one line
 
 -- a reply that fits is a refusal, which changes nothing, or accepts the line
-step_sound : (s : State) (e : Event) (r : Reply) (o : Option Refusal) → IsSound s → FitsBy o s e r → IsSound (next s e r)
+passed_sound : (s : State) (e : Event) (r : Reply) (b : Bool) → IsSound s → Passes b s e r → IsSound (next s e r)
+passed_sound s e r false sound is = is.sound
+passed_sound s e r true sound is = elim is [
+  | inl accepted ↦ accepted.sound
+  | inr full ↦ subst (λ x. IsSound (next s e x)) (sym full.head) sound
+]
+
+pub step_sound : (s : State) (e : Event) (r : Reply) (o : Option Refusal) → IsSound s → FitsBy o s e r → IsSound (next s e r)
 step_sound s e r (Some why) sound is = subst (λ x. IsSound (next s e x)) (sym is) sound
-step_sound s e r None sound fits = fits.sound
+step_sound s e r None sound fits = passed_sound s e r (is_building e) sound fits
 
 from_sound : (s : State) (es : List Event) (rs : List Reply) → IsSound s → LegalFrom s es rs → IsSound (state_from s es rs)
 from_sound s [] rs sound legal = sound
@@ -124,6 +131,11 @@ updated_declared : (s : State) (who : Pid) (read : Result Message Fault) → IsD
 updated_declared s who (Ok u) is = record { owners = is.owners; told = is.told }
 updated_declared s who (Err fault) is = is
 
+-- and so do export rules
+ruled_declared : (s : State) (who : Pid) (rules : Option (List ExportRule)) → IsDeclared s → IsDeclared (ruled s who rules)
+ruled_declared s who (Some rules) is = record { owners = is.owners; told = is.told }
+ruled_declared s who None is = is
+
 -- what routers resolve declares nothing
 resolved_declared : (s : State) (n : PortNo) (ips : List Ip) → IsDeclared s → IsDeclared (with_resolved s n ips)
 resolved_declared s n ips is = at (port_place s n)
@@ -160,6 +172,10 @@ after_declared s (DeclaresPort name number ip mac) is =
     })
 after_declared s (Update name bytes) is =
     known_declared s (pid_of s.routing name) (λ who. updated s who (decoded bytes)) is (λ who e. updated_declared s who (decoded bytes) is)
+after_declared s (Down name) is =
+    known_declared s (pid_of s.routing name) (λ who. retagged s (without_from s.routing who)) is (λ who e. record { owners = is.owners; told = is.told })
+after_declared s (Export name text) is =
+    known_declared s (pid_of s.routing name) (λ who. ruled s who (bound_read s.routing (rules_of_text text))) is (λ who e. ruled_declared s who (bound_read s.routing (rules_of_text text)) is)
 after_declared s (Drain name) is =
     known_declared s (pid_of s.routing name) (λ who. settled (running (with_told s who (present s who)))) is (λ who e. record {
       owners = is.owners;
@@ -176,7 +192,7 @@ after_declared s Table is = record { owners = is.owners; told = is.told }
 accepted_declared : (s : State) (e : Event) (r : Reply) → IsDeclared s → IsDeclared (accepted s e r)
 accepted_declared s e r is = let later : IsDeclared (after s e) = after_declared s e is in record { owners = later.owners; told = later.told }
 
-next_declared : (s : State) (e : Event) (r : Reply) (h : Head) → IsDeclared s → IsDeclared (next_by h s e r)
+pub next_declared : (s : State) (e : Event) (r : Reply) (h : Head) → IsDeclared s → IsDeclared (next_by h s e r)
 next_declared s e r (Refused why) is = is
 next_declared s e r Fine is = accepted_declared s e r is
 next_declared s e r Unrouted is = accepted_declared s e r is

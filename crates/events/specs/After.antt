@@ -1,12 +1,15 @@
 -- The state after a line (this exchange's own rule).
 use Rattle.std.specs.Prelude.{List, [], ◌∷◌, ◌++◌, codes, slice_set, Option, Some, None, Result, Ok, Err, unwrap_or}
 use Rattle.std.specs.FinMap.{FinMap, empty, get, insert, remove, retain_keys}
+use Rattle.net_types.specs.Changes as changes
+use Rattle.net_types.specs.ExportReading.{rules_of_text}
+use Rattle.net_types.specs.ExportTexts.{bound}
 use Rattle.net_types.specs.Exports.{Routing, pid_of}
-use Rattle.net_types.specs.Keys.{RouteKey, prefix_cmp, pair_cmp, route_cmp}
+use Rattle.net_types.specs.Keys.{prefix_cmp, pair_cmp}
 use Rattle.net_types.specs.UpdateReading.{decoded}
 use Rattle.net_types.specs.declared.address.Pid.{Pid}
-use Rattle.net_types.specs.declared.prefix.Prefix.{Prefix}
-use Rattle.net_types.specs.declared.route.Attrs.{Attrs}
+use Rattle.net_types.specs.declared.export.ExportRule.{ExportRule}
+use Rattle.net_types.specs.declared.named_rule.NamedRule.{NamedRule}
 use Rattle.net_types.specs.declared.route.Participant.{Participant}
 use Rattle.net_types.specs.declared.route.PortInfo.{PortInfo}
 use Rattle.net_types.specs.declared.update.Fault.{Fault}
@@ -14,7 +17,7 @@ use Rattle.net_types.specs.declared.update.Update.{Update as Message}
 use Rattle.net_types.specs.declared.rule.Pair.{Pair}
 use Rattle.net_types.specs.declared.rule.Rule.{Rule}
 use Rattle.events.specs.declared.Event.{Event}
-use Rattle.events.specs.declared.Event.TheVariants.{Bad, Exchange, Participant as DeclaresParticipant, Port as DeclaresPort, Update, Drain, Arp, Resolve, Packet, Frame, Table}
+use Rattle.events.specs.declared.Event.TheVariants.{Bad, Exchange, Participant as DeclaresParticipant, Port as DeclaresPort, Update, Down, Export, Drain, Arp, Resolve, Packet, Frame, Table}
 use Rattle.events.specs.declared.Flow.{Flow}
 use Rattle.events.specs.declared.Head.{Head}
 use Rattle.events.specs.declared.Head.TheVariants.{Fine, Unrouted, Unresolved, Silent, Refused}
@@ -40,33 +43,32 @@ with_port s q = record s {
   resolved = s.resolved ++ [] ∷ [];
 }
 
--- the name of a participant's route for a prefix
-abbrev pub route_key : Pid → Prefix → RouteKey
-route_key from p = record { from = from; prefix = p }
-
--- the routes without those of a participant for these prefixes
-abbrev pub without_routes : FinMap route_cmp Attrs → Pid → List Prefix → FinMap route_cmp Attrs
-without_routes routes from [] = routes
-without_routes routes from (p ∷ ps) = without_routes (remove routes (route_key from p)) from ps
-
--- the routes with those of a participant for these prefixes, in place of earlier ones
-abbrev pub with_routes : FinMap route_cmp Attrs → Pid → Attrs → List Prefix → FinMap route_cmp Attrs
-with_routes routes from attrs [] = routes
-with_routes routes from attrs (p ∷ ps) = with_routes (insert routes (route_key from p) attrs) from attrs ps
-
--- nothing is announced where there are no attributes
-abbrev pub with_announced : FinMap route_cmp Attrs → Pid → Option Attrs → List Prefix → FinMap route_cmp Attrs
-with_announced routes from None ps = routes
-with_announced routes from (Some attrs) ps = with_routes routes from attrs ps
-
 -- an update withdraws, and then announces (RFC 4271 3.1, 9)
 abbrev pub with_update : Routing → Pid → Message → Routing
-with_update r from u = record r { routes = with_announced (without_routes r.routes from u.withdrawn) from u.attrs u.announced }
+with_update r from u = record r { routes = changes.updated from u r.routes }
+
+-- the routing without a participant's routes
+abbrev pub without_from : Routing → Pid → Routing
+without_from r from = record r { routes = changes.without_routes from r.routes }
+
+-- the routing with these export rules of a participant in place of its earlier ones
+abbrev pub with_rules : Routing → Pid → List ExportRule → Routing
+with_rules r from rules = record r { rules = slice_set r.rules from.0 rules }
+
+-- the rules that were read, with the participants that they name; none where the text is wrong or a name isn't declared
+abbrev pub bound_read : Routing → Result (List NamedRule) ℕ → Option (List ExportRule)
+bound_read r (Ok rules) = bound (pid_of r) rules
+bound_read r (Err at) = None
 
 -- the state after what was read of an UPDATE; octets that are none change nothing
 abbrev pub updated : State → Pid → Result Message Fault → State
 updated s who (Ok u) = retagged s (with_update s.routing who u)
 updated s who (Err fault) = s
+
+-- the state after these export rules; where there are none nothing changes
+abbrev pub ruled : State → Pid → Option (List ExportRule) → State
+ruled s who (Some rules) = retagged s (with_rules s.routing who rules)
+ruled s who None = s
 
 -- the state in which a participant was told just these
 abbrev pub with_told : State → Pid → FinMap prefix_cmp Entry → State
@@ -92,6 +94,8 @@ after s (Exchange base size capacity) = record s { phase = Declaring; base = bas
 after s (DeclaresParticipant name asn id) = with_participant s (record { name = name; asn = asn; id = id })
 after s (DeclaresPort name number ip mac) = with_known s (pid_of s.routing name) (λ who. with_port s (record { owner = who; number = number; ip = ip; mac = mac }))
 after s (Update name bytes) = with_known s (pid_of s.routing name) (λ who. updated s who (decoded bytes))
+after s (Down name) = with_known s (pid_of s.routing name) (λ who. retagged s (without_from s.routing who))
+after s (Export name text) = with_known s (pid_of s.routing name) (λ who. ruled s who (bound_read s.routing (rules_of_text text)))
 after s (Drain name) = with_known s (pid_of s.routing name) (λ who. settled (running (with_told s who (present s who))))
 after s (Arp port bytes) = with_known s (port_of s port) (λ q. running (with_answer s q bytes))
 after s (Resolve port) = with_known s (port_of s port) (λ q. running (with_resolved s port (unresolved s q)))

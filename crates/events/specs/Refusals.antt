@@ -1,10 +1,11 @@
 -- The refusals, in the order in which their conditions are looked at (this exchange's own rule).
 use Rattle.std.specs.Prelude.{ℕ, ◌+◌, Bool, true, false, ◌&&◌, ◌||◌, not, nat_eq, nat_le, nat_lt, List, [], ◌∷◌, length, map, filter, take, Option, Some, None, Result, Ok, Err, is_some, if◌then◌else◌}
-use Rattle.std.specs.FinMap.{get}
 use Rattle.std.specs.List.{list_any}
 use Rattle.net_types.specs.Arp.{no_mac}
 use Rattle.net_types.specs.Attributes.{same_option}
-use Rattle.net_types.specs.Exports.{asn_of, pid_of}
+use Rattle.net_types.specs.ExportReading.{rules_of_text}
+use Rattle.net_types.specs.ExportTexts.{bound}
+use Rattle.net_types.specs.Exports.{Routing, asn_of, pid_of}
 use Rattle.net_types.specs.Frames.{has_headers}
 use Rattle.net_types.specs.Keys.{pair_cmp}
 use Rattle.net_types.specs.Maps.{ordered}
@@ -14,25 +15,25 @@ use Rattle.net_types.specs.UpdateReading.{decoded}
 use Rattle.net_types.specs.declared.update.Fault.{Fault}
 use Rattle.net_types.specs.declared.update.Update.{Update as Message}
 use Rattle.net_types.specs.declared.rule.Pair.{Pair}
-use Rattle.net_types.specs.Routes.{pids}
 use Rattle.net_types.specs.declared.address.Ip.{Ip}
 use Rattle.net_types.specs.declared.address.Mac.{Mac}
 use Rattle.net_types.specs.declared.address.Pid.{Pid}
 use Rattle.net_types.specs.declared.address.PortNo.{PortNo}
-use Rattle.net_types.specs.declared.prefix.Prefix.{Prefix}
+use Rattle.net_types.specs.declared.export.ExportRule.{ExportRule}
+use Rattle.net_types.specs.declared.named_rule.NamedRule.{NamedRule}
 use Rattle.net_types.specs.declared.route.Attrs.{Attrs}
 use Rattle.net_types.specs.declared.route.PortInfo.{PortInfo}
 use Rattle.events.specs.declared.Event.{Event}
-use Rattle.events.specs.declared.Event.TheVariants.{Bad, Exchange, Participant as DeclaresParticipant, Port as DeclaresPort, Update, Drain, Arp, Resolve, Packet, Frame, Table}
+use Rattle.events.specs.declared.Event.TheVariants.{Bad, Exchange, Participant as DeclaresParticipant, Port as DeclaresPort, Update, Down, Export, Drain, Arp, Resolve, Packet, Frame, Table}
 use Rattle.events.specs.declared.Phase.{Phase}
 use Rattle.events.specs.declared.Phase.TheVariants.{Start, Declaring, Running}
 use Rattle.events.specs.declared.Refusal.{Refusal}
-use Rattle.events.specs.declared.Refusal.TheVariants.{BadLine, Misplaced, Unknown, BadUpdate, FirstAs, NextHop, BadPacket}
-use Rattle.events.specs.After.{with_update}
+use Rattle.events.specs.declared.Refusal.TheVariants.{BadLine, Misplaced, Unknown, Clash, Full, BadUpdate, FirstAs, NextHop, TextLong, Syntax, NoNextHop, BadPacket}
+use Rattle.events.specs.After.{with_update, with_rules, without_from}
 use Rattle.events.specs.Resolving.{is_in_pool}
 use Rattle.events.specs.Table.{framed}
 use Rattle.events.specs.State.{State, port_of}
-use Rattle.events.specs.Tags.{is_live_pair, free_tags, groups, retagged, tags}
+use Rattle.events.specs.Tags.{is_live_pair, free_tags, groups, tags}
 use Rattle.net_types.specs.Updates.{first_as}
 
 -- which lines are in place in a phase: only `exchange` at the start, then all but `exchange`, and after the declarations
@@ -51,6 +52,12 @@ is_placed Running (DeclaresPort name number ip mac) = false
 is_placed Start (Update name bytes) = false
 is_placed Declaring (Update name bytes) = true
 is_placed Running (Update name bytes) = true
+is_placed Start (Down name) = false
+is_placed Declaring (Down name) = true
+is_placed Running (Down name) = true
+is_placed Start (Export name text) = false
+is_placed Declaring (Export name text) = true
+is_placed Running (Export name text) = true
 is_placed Start (Drain name) = false
 is_placed Declaring (Drain name) = true
 is_placed Running (Drain name) = true
@@ -84,10 +91,6 @@ is_port_taken s number ip mac =
 abbrev pub has_next_hop : State → Pid → Ip → Bool
 has_next_hop s who ip = list_any (λ (q : PortInfo). nat_eq q.owner.0 who.0 && nat_eq q.ip.0 ip.0) s.routing.ports
 
--- somebody has a route for a prefix
-abbrev pub has_route : State → Prefix → Bool
-has_route s p = list_any (λ who. is_some (get s.routing.routes (record { from = who; prefix = p }))) (pids s.routing)
-
 -- each declared port with each tag of the pool
 abbrev pub pairs : State → List Pair
 pairs s = union_over (λ (q : PortInfo). map (λ t. record { port = q.number; tag = t }) (tags s)) s.routing.ports
@@ -101,16 +104,9 @@ abbrev pub unless : Bool → Refusal → Option Refusal
 unless true refusal = Some refusal
 unless false refusal = None
 
--- An update that is refused in this version without a name of its own: it withdraws a prefix, announces several or one that
--- has a route already, needs more tags than are free, or the pairs that would be live are more than the table's capacity.
-abbrev pub cannot_take : State → Pid → Message → Bool
-cannot_take s who u =
-    let r = with_update s.routing who u in
-    nat_lt 0 (length u.withdrawn)
-    || nat_lt 1 (length u.announced)
-    || list_any (has_route s) u.announced
-    || nat_lt (length (free_tags s)) (length (groups s r))
-    || nat_lt s.capacity (length (live_pairs (retagged s r)))
+-- with this routing more fresh tags are needed than are free
+abbrev pub tags_refusal : State → Routing → Option Refusal
+tags_refusal s r = unless (nat_lt (length (free_tags s)) (length (groups s r))) (NoNextHop (length (groups s r)) (length (free_tags s)))
 
 -- the first refusal of two
 abbrev pub or_else : Option Refusal → Option Refusal → Option Refusal
@@ -127,7 +123,21 @@ attrs_refusal s who (Some attrs) =
 -- the first refusal of what was read of an UPDATE
 abbrev pub update_refusal : State → Pid → Result Message Fault → Option Refusal
 update_refusal s who (Err fault) = Some (BadUpdate fault)
-update_refusal s who (Ok u) = or_else (attrs_refusal s who u.attrs) (unless (cannot_take s who u) BadLine)
+update_refusal s who (Ok u) = or_else (attrs_refusal s who u.attrs) (tags_refusal s (with_update s.routing who u))
+
+-- the first refusal of rules, where each name in them is declared
+abbrev pub bound_refusal : State → Pid → Option (List ExportRule) → Option Refusal
+bound_refusal s who None = Some Unknown
+bound_refusal s who (Some rules) = tags_refusal s (with_rules s.routing who rules)
+
+-- the first refusal of what was read of a text of rules
+abbrev pub rules_refusal : State → Pid → Result (List NamedRule) ℕ → Option Refusal
+rules_refusal s who (Err at) = Some (Syntax at)
+rules_refusal s who (Ok rules) = bound_refusal s who (bound (pid_of s.routing) rules)
+
+-- the first refusal of a text of rules
+abbrev pub text_refusal : State → Pid → List ℕ → Option Refusal
+text_refusal s who text = if nat_lt 8192 (length text) then Some TextLong else rules_refusal s who (rules_of_text text)
 
 -- a datagram has headers where it is put into a frame, whatever the MACs
 abbrev pub is_datagram : List ℕ → Bool
@@ -142,9 +152,11 @@ if_known (Some x) f = f x
 abbrev pub refusal_in_place : State → Event → Option Refusal
 refusal_in_place s Bad = Some BadLine
 refusal_in_place s (Exchange base size capacity) = None
-refusal_in_place s (DeclaresParticipant name asn id) = unless (is_name_taken s name || nat_le 256 (length s.routing.participants)) BadLine
-refusal_in_place s (DeclaresPort name number ip mac) = if_known (pid_of s.routing name) (λ who. unless (is_port_taken s number ip mac) BadLine)
+refusal_in_place s (DeclaresParticipant name asn id) = or_else (unless (is_name_taken s name) Clash) (unless (nat_le 256 (length s.routing.participants)) Full)
+refusal_in_place s (DeclaresPort name number ip mac) = if_known (pid_of s.routing name) (λ who. unless (is_port_taken s number ip mac) Clash)
 refusal_in_place s (Update name bytes) = if_known (pid_of s.routing name) (λ who. update_refusal s who (decoded bytes))
+refusal_in_place s (Down name) = if_known (pid_of s.routing name) (λ who. tags_refusal s (without_from s.routing who))
+refusal_in_place s (Export name text) = if_known (pid_of s.routing name) (λ who. text_refusal s who text)
 refusal_in_place s (Drain name) = if_known (pid_of s.routing name) (λ who. None)
 refusal_in_place s (Arp port bytes) = if_known (port_of s port) (λ q. None)
 refusal_in_place s (Resolve port) = if_known (port_of s port) (λ q. None)

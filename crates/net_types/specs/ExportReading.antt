@@ -1,6 +1,6 @@
 -- Reading the text of export rules, as the grammar spells it.
-use Rattle.std.specs.Prelude.{ℕ, Bool, true, false, Option, Some, None, List, [], ◌∷◌, length, codes, Result}
-use Rattle.grammar.specs.TextReading.{Fault, Reader, ◌>>=◌, ◌>>◌, pure, read_word, read_either, read_maybe, read_many}
+use Rattle.std.specs.Prelude.{ℕ, Bool, true, false, Option, Some, None, List, [], ◌∷◌, length, codes, Result, Ok, Err}
+use Rattle.grammar.specs.TextReading.{Fault, Wrong, Deep, Reader, ◌>>=◌, ◌>>◌, pure, read_word, read_either, read_maybe, read_many}
 use Rattle.grammar.specs.Texts.{read_whole}
 use Rattle.grammar.specs.Octets.{among}
 use Rattle.grammar.specs.TokenReading.{read_sign, read_spaces, read_gap, read_name}
@@ -55,6 +55,12 @@ read_rules = do
   first ← read_rule
   read_more_rules (first ∷ [])
 
--- what the text of export rules says, or the place at which it is wrong
-abbrev pub rules_of_text : List ℕ → Result (List NamedRule) Fault
-rules_of_text text = read_whole read_rules text
+-- a value, or the place of the fault
+abbrev pub or_place : {X : Type 0} → Result X Fault → Result X ℕ
+or_place (Ok x) = Ok x
+or_place (Err (Wrong at)) = Err at
+or_place (Err (Deep at)) = Err at
+
+-- the rules that a whole text spells, or the place at which it is wrong
+unfoldable pub rules_of_text : List ℕ → Result (List NamedRule) ℕ
+rules_of_text text = or_place (read_whole read_rules text)
