@@ -1,13 +1,13 @@
 -- What holds of every state that a legal run reaches.
-use Rattle.std.proofs.Common.{◌≡◌, ℕ, zero, suc, ◌+◌, ◌<◌, Bool, true, false, cond, nat_eq, List, [], ◌∷◌, ◌++◌, length, map, sym, ap, subst, ◌∙◌, refl, arith, sum_by}
+use Rattle.std.proofs.Common.{◌≡◌, ℕ, zero, suc, ◌+◌, ◌<◌, Bool, true, false, cond, nat_eq, List, [], ◌∷◌, ◌++◌, length, map, sym, ap, subst, ◌∙◌, refl, arith, sum_by, inl, inr}
 use Rattle.std.specs.Prelude.{◌&&◌, Option, Some, None, Result, Ok, Err, is_some, slice_get, slice_set, find, unwrap_or}
 use Rattle.std.specs.FinMap.{empty, entries, get-empty, len-entries, len-empty}
 use Rattle.std.specs.List.{position_from}
 use Rattle.std.specs.Option.{option_map, option_map_or}
 use Rattle.std.specs.declared.cmp.Ordering.{Ordering}
 use Rattle.std.proofs.lemmas.List.{length-append}
-use Rattle.events.specs.After.{next, next_by, after, accepted, with_port, with_known, with_update, updated, running, settled, with_told}
-use Rattle.events.specs.Fits.{FitsBy}
+use Rattle.events.specs.After.{next, next_by, after, accepted, with_port, with_known, without_from, bound_read, ruled, updated, running, settled, with_told}
+use Rattle.events.specs.Fits.{FitsBy, Passes, is_building}
 use Rattle.events.specs.Legal.{Legal, LegalFrom, state_after, state_from}
 use Rattle.events.specs.Refusals.{refusal}
 use Rattle.events.specs.Sound.{IsSound, rule_count}
@@ -15,12 +15,14 @@ use Rattle.events.specs.State.{State, first, present, port_of}
 use Rattle.events.specs.Resolving.{port_place, resolved_at, unresolved, with_answer, with_resolved, is_answered}
 use Rattle.events.specs.Tags.{retagged}
 use Rattle.events.specs.declared.Event.{Event}
-use Rattle.events.specs.declared.Event.TheVariants.{Bad, Exchange, Participant as DeclaresParticipant, Port as DeclaresPort, Update, Drain, Arp, Resolve, Packet, Frame, Table}
+use Rattle.events.specs.declared.Event.TheVariants.{Bad, Exchange, Participant as DeclaresParticipant, Port as DeclaresPort, Update, Down, Export, Drain, Arp, Resolve, Packet, Frame, Table}
 use Rattle.events.specs.declared.Head.{Head}
 use Rattle.events.specs.declared.Head.TheVariants.{Fine, Unrouted, Unresolved, Silent, Refused}
 use Rattle.events.specs.declared.Refusal.{Refusal}
 use Rattle.events.specs.declared.Reply.{Reply}
+use Rattle.net_types.specs.ExportReading.{rules_of_text}
 use Rattle.net_types.specs.Exports.{pid_of, Routing}
+use Rattle.net_types.specs.declared.export.ExportRule.{ExportRule}
 use Rattle.net_types.specs.Arp.{asked_ip, asker_mac}
 use Rattle.net_types.specs.Keys.{ip_cmp, prefix_cmp, pair_cmp}
 use Rattle.net_types.specs.Maps.{ordered}

@@ -1,5 +1,5 @@
 -- The state after a line (this exchange's own rule).
-use Rattle.std.specs.Prelude.{List, [], ◌∷◌, ◌++◌, codes, slice_set, Option, Some, None, Result, Ok, Err, unwrap_or}
+use Rattle.std.specs.Prelude.{ℕ, List, [], ◌∷◌, ◌++◌, codes, slice_set, Option, Some, None, Result, Ok, Err, unwrap_or}
 use Rattle.std.specs.FinMap.{FinMap, empty, get, insert, remove, retain_keys}
 use Rattle.net_types.specs.Changes as changes
 use Rattle.net_types.specs.ExportReading.{rules_of_text}
