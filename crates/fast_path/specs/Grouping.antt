@@ -1,0 +1,76 @@
+-- The groups of the prefixes that a change of routes touches, by what is known of each: its tag, the signature kept for
+-- that tag, and its signature afterwards.
+use Rattle.std.specs.Prelude.{Bool, true, false, ◌&&◌, not, List, [], ◌∷◌, ◌++◌, map, slice_get, Option, Some, None, if◌then◌else◌}
+use Rattle.std.specs.FinMap.{FinMap, get}
+use Rattle.std.specs.List.{list_any, position_from}
+use Rattle.std.specs.Option.{option_and_then}
+use Rattle.net_types.specs.Attributes.{same_option, same_signature}
+use Rattle.net_types.specs.Keys.{prefix_cmp, tag_cmp}
+use Rattle.net_types.specs.declared.address.Tag.{Tag}
+use Rattle.net_types.specs.declared.prefix.Prefix.{Prefix}
+use Rattle.net_types.specs.declared.route.Part.{Part}
+use Rattle.events.specs.Tags.{Group, same_group, same_tag}
+use Rattle.events.specs.declared.TagChange.{TagChange}
+use Rattle.fast_path.specs.declared.groups.Fresh.{Fresh}
+
+-- what the groups are made of: the tag of each prefix, and the signature of each tag
+pub record Known : Type 0 where
+  pub tag : FinMap prefix_cmp Tag
+  pub kept : FinMap tag_cmp (List Part)
+
+-- no participant has a best route
+abbrev pub is_empty : List Part → Bool
+is_empty [] = true
+is_empty (p ∷ ps) = false
+
+-- a carried prefix whose signature isn't the one kept for its tag
+abbrev pub is_moved : Known → Prefix → List Part → Bool
+is_moved k p sig = not (is_empty sig) && not (same_option same_signature (option_and_then (get k.kept) (get k.tag p)) (Some sig))
+
+-- the group of a prefix
+abbrev pub group_at : Known → Prefix → List Part → Group
+group_at k p sig = record { before = get k.tag p; after = sig }
+
+-- one group before others, where the prefix moves
+abbrev pub group_before : Bool → Group → List Group → List Group
+group_before true g gs = g ∷ gs
+group_before false g gs = gs
+
+-- the groups of the prefixes that move
+abbrev pub moved_groups : Known → List Prefix → List (List Part) → List Group
+moved_groups k [] sigs = []
+moved_groups k (p ∷ ps) [] = []
+moved_groups k (p ∷ ps) (sig ∷ sigs) = group_before (is_moved k p sig) (group_at k p sig) (moved_groups k ps sigs)
+
+-- a group behind others, where it isn't among them
+abbrev pub one_more : List Group → Group → List Group
+one_more gs g = if list_any (same_group g) gs then gs else gs ++ g ∷ []
+
+-- groups behind others, each once
+abbrev pub more_groups : List Group → List Group → List Group
+more_groups gs [] = gs
+more_groups gs (x ∷ xs) = more_groups (one_more gs x) xs
+
+-- the group that a class was made for
+abbrev pub group_of_class : Fresh → Group
+group_of_class f = record { before = f.before; after = f.sig }
+
+-- the groups of classes
+abbrev pub groups_of : List Fresh → List Group
+groups_of fs = map group_of_class fs
+
+-- the tag of a prefix that moves is that of its group; one that is carried otherwise keeps its tag
+abbrev pub tag_after : Known → List Group → List Tag → Prefix → List Part → Option Tag
+tag_after k gs ts p sig =
+    if is_empty sig then None
+    else (if is_moved k p sig then option_and_then (slice_get ts) (position_from (same_group (group_at k p sig)) 0 gs) else get k.tag p)
+
+-- one change before others, where the tag is another
+abbrev pub change_before : Prefix → Option Tag → Option Tag → List TagChange → List TagChange
+change_before p old new cs = if same_option same_tag old new then cs else record { prefix = p; tag = new } ∷ cs
+
+-- the prefixes whose tag is another, with that tag
+abbrev pub changes_of : Known → List Group → List Tag → List Prefix → List (List Part) → List TagChange
+changes_of k gs ts [] sigs = []
+changes_of k gs ts (p ∷ ps) [] = []
+changes_of k gs ts (p ∷ ps) (sig ∷ sigs) = change_before p (get k.tag p) (tag_after k gs ts p sig) (changes_of k gs ts ps sigs)
