@@ -11,21 +11,30 @@ use Rattle.net_types.specs.declared.prefix.Prefix.{Prefix}
 use Rattle.net_types.specs.declared.route.Part.{Part}
 use Rattle.events.specs.Tags.{Group, same_group, same_tag}
 use Rattle.events.specs.declared.TagChange.{TagChange}
-use Rattle.fast_path.specs.declared.groups.Fresh.{Fresh}
+use Rattle.prefix_classes.specs.Classes.{Classes}
+use Rattle.fast_path.specs.declared.grouping.Fresh.{Fresh}
 
 -- what the groups are made of: the tag of each prefix, and the signature of each tag
 pub record Known : Type 0 where
   pub tag : FinMap prefix_cmp Tag
   pub kept : FinMap tag_cmp (List Part)
 
+-- what classes know
+abbrev pub known : Classes → Known
+known c = record { tag = c.tag; kept = c.kept }
+
 -- no participant has a best route
 abbrev pub is_empty : List Part → Bool
 is_empty [] = true
 is_empty (p ∷ ps) = false
 
+-- the signature is the one kept for the prefix's tag
+abbrev pub is_kept_sig : Known → Prefix → List Part → Bool
+is_kept_sig k p sig = same_option same_signature (option_and_then (get k.kept) (get k.tag p)) (Some sig)
+
 -- a carried prefix whose signature isn't the one kept for its tag
 abbrev pub is_moved : Known → Prefix → List Part → Bool
-is_moved k p sig = not (is_empty sig) && not (same_option same_signature (option_and_then (get k.kept) (get k.tag p)) (Some sig))
+is_moved k p sig = not (is_empty sig) && not (is_kept_sig k p sig)
 
 -- the group of a prefix
 abbrev pub group_at : Known → Prefix → List Part → Group
@@ -54,6 +63,10 @@ more_groups gs (x ∷ xs) = more_groups (one_more gs x) xs
 -- the group that a class was made for
 abbrev pub group_of_class : Fresh → Group
 group_of_class f = record { before = f.before; after = f.sig }
+
+-- the class was made for this tag before and this signature after
+abbrev pub same_class : Option Tag → List Part → Fresh → Bool
+same_class before sig f = same_group (record { before = before; after = sig }) (group_of_class f)
 
 -- the groups of classes
 abbrev pub groups_of : List Fresh → List Group

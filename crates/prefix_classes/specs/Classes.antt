@@ -8,7 +8,6 @@ use Rattle.net_types.specs.declared.prefix.Prefix.{Prefix}
 use Rattle.net_types.specs.declared.address.Tag.{Tag}
 use Rattle.net_types.specs.declared.route.Part.{Part}
 use Rattle.prefix_map.specs.Held.{Held}
-use Rattle.prefix_classes.specs.declared.Kept.{Kept}
 
 pub record Classes : Type 0 where
   pub tag : FinMap prefix_cmp Tag
@@ -46,28 +45,3 @@ abbrev pub new_ones : FinMap prefix_cmp Tag → List Prefix → ℕ
 new_ones m [] = 0
 new_ones m (p ∷ ps) = missing (get m p) + new_ones m ps
 
-abbrev pub members_of : Option Kept → ℕ
-members_of None = 0
-members_of (Some k) = k.members
-
-abbrev pub counted : List (Tag × Kept) → Tag → ℕ
-counted es t = members_of (find tag_cmp t es)
-
-abbrev pub sig_entry : Tag × Kept → Tag × List Part
-sig_entry e = (e.0, e.1.sig)
-
-abbrev pub with_members : Tag → ℕ → Option Kept → List (Tag × Kept) → List (Tag × Kept)
-with_members t n None es = es
-with_members t n (Some k) es = put tag_cmp t (record k { members = n }) es
-
--- the number of members of a kept tag is set
-abbrev pub set_members : Tag → ℕ → List (Tag × Kept) → List (Tag × Kept)
-set_members t n es = with_members t n (find tag_cmp t es) es
-
--- The keys rise, and each tag, kept or not, has as many members as are counted for it.
-pub record IsKept (m : FinMap prefix_cmp Tag) (es : List (Tag × Kept)) : Type 0 where
-  pub sorted : is_sorted tag_cmp es ≡ true
-  pub counts : (t : Tag) → counted es t ≡ members m t
-
-abbrev pub classes_of : Held Tag → List (Tag × Kept) → ℕ → Classes
-classes_of held es room = record { tag = held.map; kept = from_sorted (map sig_entry es); prefixes = held.room; tags = room }

@@ -1,0 +1,103 @@
+//! The groups of the touched prefixes that need a fresh tag: those with the same tag before and the same signature after
+//! share one.
+
+ghost use Rattle.std.specs.Prelude.{◌≡◌, [], IfOk, OnOk};
+ghost use Rattle.std.specs.List.{position_from};
+ghost use Rattle.net_types.specs.Attributes.{same_option};
+ghost use Rattle.events.specs.Tags.{same_group, same_tag};
+ghost use Rattle.fast_path.specs.Grouping.{groups_of, is_kept_sig, is_moved, known, more_groups, moved_groups, one_more, same_class};
+
+use net_types::{Memory, Prefix, Sig, Tag, TryCopy, same_items};
+use prefix_classes::ClassMap;
+use route_server::Proposal;
+use std::alloc::Global;
+
+/// What the prefixes of a group have in common: their tag before, if any, and their signature after.
+#[derive(Drop)]
+pub struct Fresh {
+    pub before: Option<Tag>,
+    pub sig: Sig,
+}
+
+/// Whether two tags are the same, or both absent.
+pub fn same_tags(one: Option<Tag>, other: Option<Tag>) -> bool
+    ensures { result ≡ same_option same_tag one other }
+{
+    match one {
+        None => match other {
+            None => true,
+            Some(_) => false,
+        },
+        Some(one) => match other {
+            None => false,
+            Some(other) => one.0 == other.0,
+        },
+    }
+}
+
+/// Whether a signature is the one kept for the prefix's tag.
+fn is_kept(classes: &ClassMap, prefix: Prefix, sig: &Sig) -> bool
+    ensures { result ≡ is_kept_sig (known classes.now) prefix sig.now }
+{
+    let Some(tag) = classes.tag_of(prefix) else {
+        return false;
+    };
+    match classes.sig_of(tag) {
+        Some(kept) => same_items(kept.items(), sig.items()),
+        None => false,
+    }
+}
+
+/// Whether a carried prefix gets another tag: its signature isn't the one kept for its tag.
+pub fn is_moved(classes: &ClassMap, prefix: Prefix, sig: &Sig) -> bool
+    ensures { result ≡ is_moved (known classes.now) prefix sig.now }
+{
+    if sig.is_empty() {
+        return false;
+    }
+    !is_kept(classes, prefix, sig)
+}
+
+/// Whether a group has this tag before and this signature after.
+fn is_of(before: Option<Tag>, sig: &Sig, group: &Fresh) -> bool
+    ensures { result ≡ same_class before sig.now group.now }
+{
+    same_tags(before, group.before) && same_items(sig.items(), group.sig.items())
+}
+
+/// The place of the group with this tag before and this signature after.
+pub fn group_place(groups: &[Fresh], before: Option<Tag>, sig: &Sig) -> Option<usize>
+    ensures { result ≡ position_from (same_class before sig.now) 0 groups.now }
+{
+    for (place, group) in groups.iter().enumerate() {
+        if is_of(before, sig, group) {
+            return Some(place);
+        }
+    }
+    None
+}
+
+/// A group behind others, where it isn't among them.
+fn add(groups: &mut Vec<Fresh>, before: Option<Tag>, sig: &Sig) -> Result<(), Memory>
+    ensures { OnOk result (groups_of groups.new.items ≡ one_more (groups_of groups.old.items) (record { before = before; after = sig.now })) }
+{
+    if group_place(groups, before, sig).is_none() {
+        let own = sig.copy()?;
+        groups.push(Fresh { before, sig: own })?;
+    }
+    Ok(())
+}
+
+/// The groups of the touched prefixes that move, by their first places.
+pub fn groups(alloc: Global, classes: &ClassMap, proposal: &Proposal) -> Result<Vec<Fresh>, Memory>
+    ensures { IfOk result (λ groups. groups_of groups.items ≡ more_groups [] (moved_groups (known classes.now) proposal.now.touched proposal.now.sigs)) }
+{
+    let mut groups = Vec::new(alloc);
+    for (at, prefix) in proposal.touched().iter().enumerate() {
+        let sig = proposal.sig(at);
+        if is_moved(classes, *prefix, sig) {
+            add(&mut groups, classes.tag_of(*prefix), sig)?;
+        }
+    }
+    Ok(groups)
+}
