@@ -72,18 +72,18 @@ same_class before sig f = same_group (record { before = before; after = sig }) (
 abbrev pub groups_of : List Fresh → List Group
 groups_of fs = map group_of_class fs
 
--- the tag of a prefix that moves is that of its group; one that is carried otherwise keeps its tag
-abbrev pub tag_after : Known → List Group → List Tag → Prefix → List Part → Option Tag
-tag_after k gs ts p sig =
+-- a carried prefix keeps its tag where its signature is the one kept for it, and gets the tag of its class otherwise
+abbrev pub tag_after : Known → List Fresh → List Tag → Prefix → List Part → Option Tag
+tag_after k fs ts p sig =
     if is_empty sig then None
-    else (if is_moved k p sig then option_and_then (slice_get ts) (position_from (same_group (group_at k p sig)) 0 gs) else get k.tag p)
+    else (if is_kept_sig k p sig then get k.tag p else option_and_then (slice_get ts) (position_from (same_class (get k.tag p) sig) 0 fs))
 
 -- one change before others, where the tag is another
 abbrev pub change_before : Prefix → Option Tag → Option Tag → List TagChange → List TagChange
 change_before p old new cs = if same_option same_tag old new then cs else record { prefix = p; tag = new } ∷ cs
 
 -- the prefixes whose tag is another, with that tag
-abbrev pub changes_of : Known → List Group → List Tag → List Prefix → List (List Part) → List TagChange
-changes_of k gs ts [] sigs = []
-changes_of k gs ts (p ∷ ps) [] = []
-changes_of k gs ts (p ∷ ps) (sig ∷ sigs) = change_before p (get k.tag p) (tag_after k gs ts p sig) (changes_of k gs ts ps sigs)
+abbrev pub changes_of : Known → List Fresh → List Tag → List Prefix → List (List Part) → List TagChange
+changes_of k fs ts [] sigs = []
+changes_of k fs ts (p ∷ ps) [] = []
+changes_of k fs ts (p ∷ ps) (sig ∷ sigs) = change_before p (get k.tag p) (tag_after k fs ts p sig) (changes_of k fs ts ps sigs)

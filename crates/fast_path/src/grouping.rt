@@ -1,8 +1,8 @@
 //! The groups of the touched prefixes that need a fresh tag: those with the same tag before and the same signature after
 //! share one.
 
-ghost use Rattle.std.specs.Prelude.{◌≡◌, [], IfOk, OnOk};
-ghost use Rattle.std.specs.List.{position_from};
+ghost use Rattle.std.specs.Prelude.{◌≡◌, [], ◌∷◌, IfOk, OnOk};
+ghost use Rattle.std.specs.List.{list_any, position_from};
 ghost use Rattle.net_types.specs.Attributes.{same_option};
 ghost use Rattle.events.specs.Tags.{same_group, same_tag};
 ghost use Rattle.fast_path.specs.Grouping.{groups_of, is_kept_sig, is_moved, known, more_groups, moved_groups, one_more, same_class};
@@ -36,7 +36,7 @@ pub fn same_tags(one: Option<Tag>, other: Option<Tag>) -> bool
 }
 
 /// Whether a signature is the one kept for the prefix's tag.
-fn is_kept(classes: &ClassMap, prefix: Prefix, sig: &Sig) -> bool
+pub fn is_kept(classes: &ClassMap, prefix: Prefix, sig: &Sig) -> bool
     ensures { result ≡ is_kept_sig (known classes.now) prefix sig.now }
 {
     let Some(tag) = classes.tag_of(prefix) else {
@@ -49,7 +49,7 @@ fn is_kept(classes: &ClassMap, prefix: Prefix, sig: &Sig) -> bool
 }
 
 /// Whether a carried prefix gets another tag: its signature isn't the one kept for its tag.
-pub fn is_moved(classes: &ClassMap, prefix: Prefix, sig: &Sig) -> bool
+fn is_moved(classes: &ClassMap, prefix: Prefix, sig: &Sig) -> bool
     ensures { result ≡ is_moved (known classes.now) prefix sig.now }
 {
     if sig.is_empty() {
@@ -69,21 +69,38 @@ fn is_of(before: Option<Tag>, sig: &Sig, group: &Fresh) -> bool
 pub fn group_place(groups: &[Fresh], before: Option<Tag>, sig: &Sig) -> Option<usize>
     ensures { result ≡ position_from (same_class before sig.now) 0 groups.now }
 {
-    for (place, group) in groups.iter().enumerate() {
-        if is_of(before, sig, group) {
-            return Some(place);
-        }
-    }
-    None
+    groups.iter().position(|group| is_of(before, sig, group))
+}
+
+/// Whether there is a group with this tag before and this signature after.
+fn has(groups: &[Fresh], before: Option<Tag>, sig: &Sig) -> bool
+    ensures { result ≡ list_any (same_class before sig.now) groups.now }
+{
+    groups.iter().any(|group| is_of(before, sig, group))
 }
 
 /// A group behind others, where it isn't among them.
 fn add(groups: &mut Vec<Fresh>, before: Option<Tag>, sig: &Sig) -> Result<(), Memory>
     ensures { OnOk result (groups_of groups.new.items ≡ one_more (groups_of groups.old.items) (record { before = before; after = sig.now })) }
 {
-    if group_place(groups, before, sig).is_none() {
+    if !has(groups, before, sig) {
         let own = sig.copy()?;
         groups.push(Fresh { before, sig: own })?;
+    }
+    Ok(())
+}
+
+/// The groups with that of a further prefix, where it moves.
+fn consider(
+    groups: &mut Vec<Fresh>,
+    classes: &ClassMap,
+    prefix: Prefix,
+    sig: &Sig,
+) -> Result<(), Memory>
+    ensures { OnOk result (groups_of groups.new.items ≡ more_groups (groups_of groups.old.items) (moved_groups (known classes.now) (prefix ∷ []) (sig.now ∷ []))) }
+{
+    if is_moved(classes, prefix, sig) {
+        add(groups, classes.tag_of(prefix), sig)?;
     }
     Ok(())
 }
@@ -95,9 +112,7 @@ pub fn groups(alloc: Global, classes: &ClassMap, proposal: &Proposal) -> Result<
     let mut groups = Vec::new(alloc);
     for (at, prefix) in proposal.touched().iter().enumerate() {
         let sig = proposal.sig(at);
-        if is_moved(classes, *prefix, sig) {
-            add(&mut groups, classes.tag_of(*prefix), sig)?;
-        }
+        consider(&mut groups, classes, *prefix, sig)?;
     }
     Ok(groups)
 }

@@ -3,7 +3,7 @@
 #![tactic(auto)]
 
 mod grouping;
-
+mod tagging;
 
 pub use grouping::{Fresh, groups};
-
+pub use tagging::{fresh_tags, tag_changes};

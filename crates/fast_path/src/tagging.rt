@@ -1,0 +1,85 @@
+//! The fresh tags of groups, and the prefixes whose tag becomes another.
+
+ghost use Rattle.std.specs.Prelude.{◌≡◌, ◌≤◌, ◌++◌, [], length, take, IfOk, OnOk};
+ghost use Rattle.next_hop_pool.specs.Free.{free_tags};
+ghost use Rattle.fast_path.specs.Grouping.{change_before, changes_of, known, tag_after};
+
+use crate::grouping::{Fresh, group_place, is_kept, same_tags};
+use events::{TagChange, TagChanges};
+use net_types::{Items, Memory, Prefix, Sig, Tag};
+use next_hop_pool::Pool;
+use prefix_classes::ClassMap;
+use route_server::Proposal;
+use std::alloc::Global;
+
+/// So many free tags, the least ones, ascending.
+pub fn fresh_tags(alloc: Global, pool: &Pool, count: usize) -> Result<Vec<Tag>, Memory>
+    requires { count ≤ length (free_tags pool.now) }
+    ensures { IfOk result (λ tags. tags.items ≡ take count (free_tags pool.now)) }
+{
+    let mut tags = Vec::new(alloc);
+    let mut last = None;
+    while tags.len() < count {
+        last = pool.next_free(last);
+        match last {
+            Some(tag) => tags.push(tag)?,
+            None => unreachable!(),
+        }
+    }
+    Ok(tags)
+}
+
+/// The tag of a prefix with this signature: the one that it has where the signature is kept for it, or else that of its
+/// class; none where nobody has a best route.
+fn tag_after(
+    classes: &ClassMap,
+    groups: &[Fresh],
+    tags: &[Tag],
+    prefix: Prefix,
+    sig: &Sig,
+) -> Option<Tag>
+    ensures { result ≡ tag_after (known classes.now) groups.now tags.now prefix sig.now }
+{
+    if sig.is_empty() {
+        return None;
+    }
+    let before = classes.tag_of(prefix);
+    if is_kept(classes, prefix, sig) {
+        return before;
+    }
+    let place = group_place(groups, before, sig)?;
+    tags.get(place).copied()
+}
+
+/// A change more, where the tag is another.
+fn note(
+    changes: &mut TagChanges,
+    prefix: Prefix,
+    old: Option<Tag>,
+    new: Option<Tag>,
+) -> Result<(), Memory>
+    ensures { OnOk result (changes.new ≡ changes.old ++ change_before prefix old new []) }
+{
+    if !same_tags(old, new) {
+        changes.push(TagChange { prefix, tag: new })?;
+    }
+    Ok(())
+}
+
+/// The touched prefixes whose tag becomes another, in order.
+pub fn tag_changes(
+    alloc: Global,
+    classes: &ClassMap,
+    proposal: &Proposal,
+    groups: &[Fresh],
+    tags: &[Tag],
+) -> Result<TagChanges, Memory>
+    ensures { IfOk result (λ changes. changes ≡ changes_of (known classes.now) groups.now tags.now proposal.now.touched proposal.now.sigs) }
+{
+    let mut changes = Items::new(alloc);
+    for (at, prefix) in proposal.touched().iter().enumerate() {
+        let after = tag_after(classes, groups, tags, *prefix, proposal.sig(at));
+        note(&mut changes, *prefix, classes.tag_of(*prefix), after)?;
+    }
+    Ok(changes)
+}
