@@ -9,3 +9,4 @@ pub mod Counts
 pub mod Steady
 pub mod Listed
 pub mod Rerouting
+pub mod Quiet

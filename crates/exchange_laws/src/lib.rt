@@ -2,6 +2,7 @@
 #![tactic(auto)]
 
 mod counts;
+mod quiet;
 mod replies;
 mod reroutings;
 mod rules;
@@ -15,6 +16,7 @@ pub use counts::{
     changes_add_one_each, live_pairs_are_counted, pairs_are_live, rules_are_counted,
     tags_are_counted, telling_leaves_one_each,
 };
+pub use quiet::quiet_lines_are_accepted;
 pub use replies::{
     changes_are_built, defaults_are_rules, gone_pairs_are_dropped, new_pairs_are_added,
     replies_build_tables,
