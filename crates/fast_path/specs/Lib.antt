@@ -1,2 +1,3 @@
 pub mod Grouping
 pub mod Shown
+pub mod Committing

@@ -26,7 +26,7 @@ loop-last-preserved c =
     let below : c.len.result < c.args.count = c.loop-last-test.true in
     let here : c.len.result ≡ length ts = c.len.ensures ∙ c.loop-last.invariant.long in record {
       taken = front_grows (free_tags pool) ts c.push.new.self.items c.in-Some.tag c.loop-last.invariant.taken at c.in_ok-push-in-Some.ensures.items;
-      next = next_above 1 pool.taken (length ts) c.in-Some.tag at ∙ ap (slice_get (free_tags pool)) (sym more);
+      next = next_above pool (length ts) c.in-Some.tag at ∙ ap (slice_get (free_tags pool)) (sym more);
       few = omega arith;
       long = c.in_ok-push-in-Some.ensures.len ∙ ap (λ n. n + 1) c.loop-last.invariant.long ∙ sym more;
     }

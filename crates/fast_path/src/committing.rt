@@ -1,0 +1,82 @@
+//! Committing: the classes, the pool and the table become those that were planned. It takes no memory.
+
+ghost use Rattle.std.specs.Prelude.{◌≡◌, ◌≤◌, ◌<◌, ◌+◌, length, take, true, false};
+ghost use Rattle.events.specs.After.{without_pairs};
+ghost use Rattle.next_hop_pool.specs.Free.{free_tags};
+ghost use Rattle.prefix_classes.specs.Laws.{with_change};
+ghost use Rattle.fast_path.specs.Committing.{AreTaken, AreUnkept, AreUnused, HasKept, HaveKept, kept_with, kept_without, marked_all, tags_with, with_blocks};
+
+use events::TagChange;
+use net_types::{Sig, Tag};
+use next_hop_pool::Pool;
+use prefix_classes::ClassMap;
+
+/// Keeps the signatures of fresh tags.
+pub fn keep_all(classes: &mut ClassMap, fresh: Vec<(Tag, Sig)>)
+    requires new { AreUnkept classes.old.kept fresh.items }
+    requires room { length fresh.items ≤ classes.old.tags }
+    ensures tag { classes.new.tag ≡ classes.old.tag }
+    ensures kept { classes.new.kept ≡ kept_with classes.old.kept fresh.items }
+    ensures prefixes { classes.new.prefixes ≡ classes.old.prefixes }
+{
+    for (tag, sig) in fresh {
+        classes.keep(tag, sig);
+    }
+}
+
+/// Gives a prefix its new tag, or takes the one that it has.
+fn retag(classes: &mut ClassMap, change: &TagChange)
+    requires kept { HasKept classes.old.kept change.now }
+    requires room { 0 < classes.old.prefixes }
+    ensures tag { classes.new.tag ≡ with_change classes.old.tag change.now.prefix change.now.tag }
+    ensures kept { classes.new.kept ≡ classes.old.kept }
+    ensures prefixes { classes.old.prefixes ≤ classes.new.prefixes + 1 }
+{
+    match change.tag {
+        Some(tag) => classes.put(change.prefix, tag),
+        None => classes.drop_prefix(change.prefix),
+    }
+}
+
+/// Gives prefixes their new tags.
+pub fn retag_all(classes: &mut ClassMap, changes: &[TagChange])
+    requires kept { HaveKept classes.old.kept changes.now }
+    requires room { length changes.now ≤ classes.old.prefixes }
+    ensures tag { classes.new.tag ≡ tags_with classes.old.tag changes.now }
+    ensures kept { classes.new.kept ≡ classes.old.kept }
+{
+    for change in changes {
+        retag(classes, change);
+    }
+}
+
+/// Forgets the signatures of tags that no prefix has.
+pub fn forget_all(classes: &mut ClassMap, dead: &[Tag])
+    requires { AreUnused classes.old.tag dead.now }
+    ensures tag { classes.new.tag ≡ classes.old.tag }
+    ensures kept { classes.new.kept ≡ kept_without classes.old.kept dead.now }
+{
+    for tag in dead {
+        classes.forget(*tag);
+    }
+}
+
+/// Takes so many of the least free tags.
+pub fn take_all(pool: &mut Pool, count: usize)
+    requires { count ≤ length (free_tags pool.old) }
+    ensures { pool.new ≡ marked_all pool.old (take count (free_tags pool.old)) true }
+{
+    for _ in 0..count {
+        let _ = pool.take_least();
+    }
+}
+
+/// Gives tags back.
+pub fn give_all(pool: &mut Pool, dead: &[Tag])
+    requires { AreTaken pool.old dead.now }
+    ensures { pool.new ≡ marked_all pool.old dead.now false }
+{
+    for tag in dead {
+        pool.give_back(*tag);
+    }
+}
