@@ -1,6 +1,6 @@
 //! How many tags are free, and how many rules the table has.
 
-ghost use Rattle.exchange_laws.specs.Counts.{ChangesAddOneEach, FreeTagsAreCounted, LivePairsAreCounted, PairsAreLive, RulesAreCounted, SteadyHaveOneEach, TagsAreCounted, TellingLeavesOneEach};
+ghost use Rattle.exchange_laws.specs.Counts.{ChangesAddOneEach, ChangesAreCounted, FreeTagsAreCounted, LivePairsAreCounted, PairsAreLive, RulesAreCounted, SteadyHaveOneEach, TagsAreCounted, TellingLeavesOneEach};
 
 /// The free tags and the live ones are all of the pool.
 pub fn tags_are_counted()
@@ -37,7 +37,12 @@ pub fn changes_add_one_each()
     ensures { ChangesAddOneEach }
 {}
 
-/// And so it is where a participant is told anew.
+/// So there are as many rules after it as live pairs, whether or not they fit the table.
+pub fn changes_are_counted()
+    ensures { ChangesAreCounted }
+{}
+
+/// Each pair has one rule, too, where a participant is told anew.
 pub fn telling_leaves_one_each()
     ensures { TellingLeavesOneEach }
 {}
