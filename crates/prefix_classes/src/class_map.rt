@@ -4,7 +4,7 @@ ghost use Rattle.std.specs.Prelude.{◌≡◌, ◌≤◌, ◌<◌, ◌+◌, None
 ghost use Rattle.std.specs.FinMap as map;
 ghost use Rattle.prefix_classes.specs.Classes.{given, members, missing, new_ones};
 
-use crate::members::{Kept, lower, raise};
+use crate::members::{Kept, lower, move_member, raise};
 use net_types::{Memory, Prefix, Sig, Tag};
 use prefix_map::PrefixMap;
 use sorted_map::{put_reserved, take_out, value_at};
@@ -93,7 +93,7 @@ impl ClassMap {
     pub fn tagged(&self) -> usize
         ensures { result ≡ length (map.entries self.now.kept) }
     {
-        self.kept.len()
+        self.kept.as_slice().len()
     }
 
     /// Keeps a tag with its signature. It takes no memory.
@@ -120,12 +120,10 @@ impl ClassMap {
         let before = self.tags.put(prefix, tag);
         // No tag has more members than there are prefixes.
         let _ = self.tags.len();
-        let Some(before) = before else {
-            raise(&mut self.kept, tag);
-            return;
-        };
-        lower(&mut self.kept, before);
-        raise(&mut self.kept, tag);
+        match before {
+            Some(before) => move_member(&mut self.kept, before, tag),
+            None => raise(&mut self.kept, tag),
+        }
     }
 
     /// Keeps a tag with its signature, and gives it to each of the prefixes, whatever tag they had. It takes no memory.
@@ -151,10 +149,10 @@ impl ClassMap {
         ensures prefixes { self.old.prefixes ≤ self.new.prefixes }
         ensures tags { self.new.tags ≡ self.old.tags }
     {
-        let Some(before) = self.tags.remove(prefix) else {
-            return;
-        };
-        lower(&mut self.kept, before);
+        match self.tags.remove(prefix) {
+            Some(before) => lower(&mut self.kept, before),
+            None => {}
+        }
     }
 
     /// Forgets a tag without members, where it is kept.

@@ -1,10 +1,11 @@
 //! What is kept of a tag: its signature, and how many members it has.
 
-ghost use Rattle.std.specs.Prelude.{◌≡◌, ◌<◌, ◌+◌, ◌-◌, ◌^◌, IsTrue, is_some};
+ghost use Rattle.std.specs.Prelude.{◌≡◌, ◌<◌, ◌+◌, ◌^◌, None, Some, IsTrue, is_some};
 ghost use Rattle.std.specs.FinMap.Entries.{find, is_sorted};
 ghost use Rattle.std.specs.Vec.{vec_len, vec_capacity};
 ghost use Rattle.net_types.specs.Keys.{tag_cmp};
-ghost use Rattle.prefix_classes.specs.Counts.{counted, set_members};
+ghost use Rattle.prefix_classes.specs.Classes.{is_tag};
+ghost use Rattle.prefix_classes.specs.Counts.{counted, IsRecounted};
 
 use net_types::{Sig, Tag};
 use sorted_map::place;
@@ -20,7 +21,7 @@ pub(crate) fn raise(kept: &mut Vec<(Tag, Kept)>, tag: Tag)
     requires rising { IsTrue (is_sorted tag_cmp kept.old.items) }
     requires there { IsTrue (is_some (find tag_cmp tag kept.old.items)) }
     requires small { counted kept.old.items tag + 1 < 2 ^ 64 }
-    ensures items { kept.new.items ≡ set_members tag (counted kept.old.items tag + 1) kept.old.items }
+    ensures counts { IsRecounted kept.old.items kept.new.items None (Some tag) }
     ensures len { vec_len kept.new ≡ vec_len kept.old }
     ensures capacity { vec_capacity kept.new ≡ vec_capacity kept.old }
 {
@@ -34,7 +35,7 @@ pub(crate) fn raise(kept: &mut Vec<(Tag, Kept)>, tag: Tag)
 pub(crate) fn lower(kept: &mut Vec<(Tag, Kept)>, tag: Tag)
     requires rising { IsTrue (is_sorted tag_cmp kept.old.items) }
     requires some { 0 < counted kept.old.items tag }
-    ensures items { kept.new.items ≡ set_members tag (counted kept.old.items tag - 1) kept.old.items }
+    ensures counts { IsRecounted kept.old.items kept.new.items (Some tag) None }
     ensures len { vec_len kept.new ≡ vec_len kept.old }
     ensures capacity { vec_capacity kept.new ≡ vec_capacity kept.old }
 {
@@ -42,4 +43,18 @@ pub(crate) fn lower(kept: &mut Vec<(Tag, Kept)>, tag: Tag)
         Ok(at) => kept[at].1.members -= 1,
         Err(_) => unreachable!(),
     }
+}
+
+/// Counts a member of one tag as one of another, or of the same.
+pub(crate) fn move_member(kept: &mut Vec<(Tag, Kept)>, from: Tag, to: Tag)
+    requires rising { IsTrue (is_sorted tag_cmp kept.old.items) }
+    requires some { 0 < counted kept.old.items from }
+    requires there { IsTrue (is_some (find tag_cmp to kept.old.items)) }
+    requires small { counted kept.old.items to + 1 < 2 ^ 64 + is_tag to from }
+    ensures counts { IsRecounted kept.old.items kept.new.items (Some from) (Some to) }
+    ensures len { vec_len kept.new ≡ vec_len kept.old }
+    ensures capacity { vec_capacity kept.new ≡ vec_capacity kept.old }
+{
+    lower(kept, from);
+    raise(kept, to);
 }
