@@ -1,3 +1,4 @@
 pub mod GroupLemmas
 pub mod FreeLemmas
 pub mod TagsPlanned
+pub mod CommitLemmas

@@ -1,5 +1,5 @@
 -- What committing a plan does to the classes, the pool and the table.
-use Rattle.std.specs.Prelude.{◌≡◌, ℕ, Bool, List, [], ◌∷◌, map, Option, Some, None, is_some, IfSome, IsTrue}
+use Rattle.std.specs.Prelude.{◌≡◌, Bool, true, false, List, [], ◌∷◌, map, Option, Some, None, is_some, IfSome, IsTrue}
 use Rattle.std.specs.FinMap.{FinMap, get, insert, remove}
 use Rattle.net_types.specs.Keys.{pair_cmp, prefix_cmp, tag_cmp}
 use Rattle.net_types.specs.Sets.{Member}
@@ -24,6 +24,10 @@ abbrev pub kept_of : List Tag → List (List Part) → List Kept
 kept_of [] sigs = []
 kept_of (t ∷ ts) [] = []
 kept_of (t ∷ ts) (sig ∷ sigs) = (t, sig) ∷ kept_of ts sigs
+
+-- the tags of these
+abbrev pub tags_of : List Kept → List Tag
+tags_of fs = map (λ (f : Kept). f.0) fs
 
 -- the signatures with those of fresh tags
 abbrev pub kept_with : FinMap tag_cmp (List Part) → List Kept → FinMap tag_cmp (List Part)
@@ -71,7 +75,12 @@ marked_all p (t ∷ ts) b = marked_all (marked p t b) ts b
 -- each of the tags is taken when its turn comes
 abbrev pub AreTaken : Tags → List Tag → Type 0
 AreTaken p [] = Unit {0}
-AreTaken p (t ∷ ts) = IsTag p t × (is_taken p t ≡ Bool.true) × AreTaken (marked p t Bool.false) ts
+AreTaken p (t ∷ ts) = IsTag p t × (is_taken p t ≡ true) × AreTaken (marked p t false) ts
+
+-- each of the tags is free when its turn comes
+abbrev pub AreFree : Tags → List Tag → Type 0
+AreFree p [] = Unit {0}
+AreFree p (t ∷ ts) = IsTag p t × (is_taken p t ≡ false) × AreFree (marked p t true) ts
 
 -- ---- the table
 

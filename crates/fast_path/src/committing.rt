@@ -1,10 +1,8 @@
 //! Committing: the classes, the pool and the table become those that were planned. It takes no memory.
 
-ghost use Rattle.std.specs.Prelude.{◌≡◌, ◌≤◌, ◌<◌, ◌+◌, length, take, true, false};
-ghost use Rattle.events.specs.After.{without_pairs};
-ghost use Rattle.next_hop_pool.specs.Free.{free_tags};
+ghost use Rattle.std.specs.Prelude.{◌≡◌, ◌≤◌, ◌<◌, ◌+◌, length, true, false};
 ghost use Rattle.prefix_classes.specs.Laws.{with_change};
-ghost use Rattle.fast_path.specs.Committing.{AreTaken, AreUnkept, AreUnused, HasKept, HaveKept, kept_with, kept_without, marked_all, tags_with, with_blocks};
+ghost use Rattle.fast_path.specs.Committing.{AreFree, AreTaken, AreUnkept, AreUnused, HasKept, HaveKept, kept_with, kept_without, marked_all, tags_of, tags_with};
 
 use events::TagChange;
 use net_types::{Sig, Tag};
@@ -19,8 +17,8 @@ pub fn keep_all(classes: &mut ClassMap, fresh: Vec<(Tag, Sig)>)
     ensures kept { classes.new.kept ≡ kept_with classes.old.kept fresh.items }
     ensures prefixes { classes.new.prefixes ≡ classes.old.prefixes }
 {
-    for (tag, sig) in fresh {
-        classes.keep(tag, sig);
+    for kept in fresh {
+        classes.keep(kept.0, kept.1);
     }
 }
 
@@ -61,13 +59,13 @@ pub fn forget_all(classes: &mut ClassMap, dead: &[Tag])
     }
 }
 
-/// Takes so many of the least free tags.
-pub fn take_all(pool: &mut Pool, count: usize)
-    requires { count ≤ length (free_tags pool.old) }
-    ensures { pool.new ≡ marked_all pool.old (take count (free_tags pool.old)) true }
+/// Takes the fresh tags.
+pub fn take_all(pool: &mut Pool, fresh: &[(Tag, Sig)])
+    requires { AreFree pool.old (tags_of fresh.now) }
+    ensures { pool.new ≡ marked_all pool.old (tags_of fresh.now) true }
 {
-    for _ in 0..count {
-        let _ = pool.take_least();
+    for kept in fresh {
+        pool.take(kept.0);
     }
 }
 

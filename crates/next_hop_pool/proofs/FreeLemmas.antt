@@ -118,6 +118,23 @@ kept_taken base least free bs at kept within skipped is_free =
       },
     )
 
+-- a tag that is taken out of turn leaves the mark where it is
+pub kept_chosen : (base least free : ℕ) (bs : List Bool) (at : ℕ) → IsKept base bs least free → at < length bs → get_or bs at true ≡ false → (1 ≤ free) × IsKept base (set bs at true) least (free - 1)
+kept_chosen base least free bs at kept within is_free =
+    let count = count_taken 1 bs at within is_free in
+    let before = ap length (free_by_place bs) in
+    let after = ap length (free_by_place (set bs at true)) in
+    let size = length-set bs at true in (
+      omega (arith, count, kept.count, before),
+      record {
+        small = omega (arith, size, kept.small);
+        within = omega (arith, size, kept.within);
+        full = λ k below. ⊎_elim (λ same. ap (λ i. get_or (set bs at true) i true) same ∙ get_or-set_same bs at true true within)
+            (λ other. get_or-set_other bs at k true true other ∙ kept.full k below) (cases_eq k at);
+        count = omega (arith, count, kept.count, before, after);
+      },
+    )
+
 pub kept_given : (base least free : ℕ) (bs : List Bool) (at : ℕ) → IsKept base bs least free → at < length bs → get_or bs at true ≡ true → IsKept base (set bs at false) (min least at) (free + 1) × (free + 1 ≤ 65536)
 kept_given base least free bs at kept within taken =
     let count = count_given 1 bs at within taken in

@@ -73,6 +73,17 @@ impl Pool {
         }
     }
 
+    /// Takes a free tag.
+    pub fn take(&mut self, tag: Tag)
+        requires within { IsTag self.old tag }
+        requires free { is_taken self.old tag ≡ false }
+        ensures { self.new ≡ marked self.old tag true }
+    {
+        let at = (tag.0 - 1) as usize;
+        self.taken[at] = true;
+        self.free -= 1;
+    }
+
     /// Gives a taken tag back.
     pub fn give_back(&mut self, tag: Tag)
         requires within { IsTag self.old tag }
