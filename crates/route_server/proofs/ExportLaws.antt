@@ -24,9 +24,6 @@ use Rattle.route_server.proofs.ProposalLaws.{no_other}
 pub kept_rows : (m : FinMap route_cmp Attrs) (cs : List Change) → ((c : Change) → Member c cs → IsKept m c) → AreRowsOf cs m
 kept_rows m cs rows = record { each = λ c k f. (rows c k).looks f }
 
-pub rules_now : (o : Option (List (List ExportRule))) (after d : List (List ExportRule)) → o ≡ Some after → unwrap_or o d ≡ after
-rules_now o after d e = ap (λ x. unwrap_or x d) e
-
 -- where the participant has no route, nothing is another
 module _ (names : Registered) (v : Served) (after : List (List ExportRule)) (from : Pid) (own : List ExportRule) (now : (n : ℕ) → rules_at after n ≡ cond (eqb from.0 n) own (rules_at v.rules n)) where
   abbrev then : Served
