@@ -1,5 +1,5 @@
 -- What committing a plan does to the classes, the pool and the table.
-use Rattle.std.specs.Prelude.{◌≡◌, Bool, true, false, List, [], ◌∷◌, map, Option, Some, None, is_some, IfSome, IsTrue}
+use Rattle.std.specs.Prelude.{◌≡◌, Bool, true, false, List, [], ◌∷◌, length, map, Option, Some, None, is_some, IfSome, IsTrue}
 use Rattle.std.specs.FinMap.{FinMap, get, insert, remove}
 use Rattle.net_types.specs.Keys.{pair_cmp, prefix_cmp, tag_cmp}
 use Rattle.net_types.specs.Sets.{Member}
@@ -92,3 +92,8 @@ Block = Pair × List Rule
 abbrev pub with_blocks : FinMap pair_cmp (List Rule) → List Block → FinMap pair_cmp (List Rule)
 with_blocks m [] = m
 with_blocks m (b ∷ bs) = with_blocks (insert m b.0 b.1) bs
+
+-- each pair has one rule
+abbrev pub HaveOneRule : List Block → Type 0
+HaveOneRule [] = Unit {0}
+HaveOneRule (b ∷ bs) = (length b.1 ≡ 1) × HaveOneRule bs

@@ -1,11 +1,14 @@
 //! Committing: the classes, the pool and the table become those that were planned. It takes no memory.
 
-ghost use Rattle.std.specs.Prelude.{◌≡◌, ◌≤◌, ◌<◌, ◌+◌, length, true, false};
+ghost use Rattle.std.specs.Prelude.{◌≡◌, ◌≤◌, ◌<◌, ◌+◌, ◌^◌, length, true, false};
+ghost use Rattle.events.specs.After.{without_pairs};
+ghost use Rattle.match_switch.specs.Installed.{rule_count};
 ghost use Rattle.prefix_classes.specs.Laws.{with_change};
-ghost use Rattle.fast_path.specs.Committing.{AreFree, AreTaken, AreUnkept, AreUnused, HasKept, HaveKept, kept_with, kept_without, marked_all, tags_of, tags_with};
+ghost use Rattle.fast_path.specs.Committing.{AreFree, AreTaken, AreUnkept, AreUnused, HasKept, HaveKept, HaveOneRule, kept_with, kept_without, marked_all, tags_of, tags_with, with_blocks};
 
 use events::TagChange;
-use net_types::{Sig, Tag};
+use match_switch::Switch;
+use net_types::{Items, Pair, Rule, Sig, Tag};
 use next_hop_pool::Pool;
 use prefix_classes::ClassMap;
 
@@ -76,5 +79,30 @@ pub fn give_all(pool: &mut Pool, dead: &[Tag])
 {
     for tag in dead {
         pool.give_back(*tag);
+    }
+}
+
+/// Takes the rules of pairs out.
+pub fn remove_all(switch: &mut Switch, drops: &[Pair])
+    ensures table { switch.new.table ≡ without_pairs switch.old.table drops.now }
+    ensures capacity { switch.new.capacity ≡ switch.old.capacity }
+    ensures room { switch.old.room ≤ switch.new.room }
+    ensures count { rule_count switch.new.table ≤ rule_count switch.old.table }
+{
+    for pair in drops {
+        switch.remove(*pair);
+    }
+}
+
+/// Puts the rules of pairs in, one rule each.
+pub fn put_all(switch: &mut Switch, blocks: Vec<(Pair, Items<Rule>)>)
+    requires room { length blocks.items ≤ switch.old.room }
+    requires one { HaveOneRule blocks.items }
+    requires few { rule_count switch.old.table + length blocks.items < 2 ^ 64 }
+    ensures table { switch.new.table ≡ with_blocks switch.old.table blocks.items }
+    ensures capacity { switch.new.capacity ≡ switch.old.capacity }
+{
+    for block in blocks {
+        switch.put(block.0, block.1);
     }
 }
