@@ -4,14 +4,14 @@ use Rattle.std.specs.Prelude.{is_some, option_to_list}
 use Rattle.std.specs.List.{filter_map, cons_option, list_any}
 use Rattle.std.specs.Option.{option_map, option_and_then}
 use Rattle.std.specs.Ordering.{eq_by_cmp}
-use Rattle.std.specs.FinMap.{FinMap, get}
+use Rattle.std.specs.FinMap.{get}
 use Rattle.std.proofs.lemmas.List.{take_more}
 use Rattle.std.proofs.lemmas.List.Elements.{filter_map-append}
 use Rattle.net_types.proofs.FindLemmas.{filter_map_none, not_there}
 use Rattle.net_types.proofs.LongestLemmas.{any-member, member-any}
 use Rattle.net_types.specs.Changes.{best_attrs}
 use Rattle.net_types.specs.Exports.{Routing, is_given}
-use Rattle.net_types.specs.Keys.{prefix_cmp, route_cmp}
+use Rattle.net_types.specs.Keys.{prefix_cmp}
 use Rattle.net_types.specs.Routes.{Candidate, best_of, candidate, given, pids}
 use Rattle.net_types.specs.Sets.{Member, IsRising}
 use Rattle.net_types.specs.UpdateSpelling.{is_before}

@@ -1,11 +1,11 @@
 -- One effect more, and what the effects say of the routes.
 use Rattle.std.proofs.Common.{◌≡◌, ℕ, suc, ◌+◌, ◌-◌, ◌<◌, ◌≤◌, Bool, true, false, cond, ◌&&◌, not, List, [], ◌∷◌, ◌++◌, map, filter, take, length, get_or, sym, ap, subst, ◌∙◌, refl, arith, append_assoc, append-nil, inl, inr, true≢false}
-use Rattle.std.specs.Prelude.{Option, Some, None, slice_get, option_to_list, unwrap_or, ◌⊎◌, ◌≢◌}
+use Rattle.std.specs.Prelude.{Option, Some, None, slice_get, option_to_list, unwrap_or, ◌⊎◌}
 use Rattle.std.specs.List.{list_all, list_any}
 use Rattle.std.specs.Ordering.{eq_by_cmp}
 use Rattle.std.specs.Option.{option_map, option_map_or, option_and_then}
 use Rattle.std.specs.FinMap.{FinMap, get}
-use Rattle.std.proofs.lemmas.Bool.{and_parts, and_from, false_from_ne_true}
+use Rattle.std.proofs.lemmas.Bool.{and_parts}
 use Rattle.std.proofs.lemmas.List.{take_more, take_all}
 use Rattle.std.proofs.lemmas.List.Elements.{filter-append}
 use Rattle.std.proofs.lemmas.Option.{slice_get-get_or}
@@ -14,7 +14,7 @@ use Rattle.net_types.specs.Attributes.{same_option, same_attrs, same_signature}
 use Rattle.net_types.specs.Changes.{best_attrs, Differs, AreTouched}
 use Rattle.net_types.specs.Exports.{Routing}
 use Rattle.net_types.specs.Keys.{RouteKey, route_cmp, prefix_cmp}
-use Rattle.net_types.specs.Routes.{Candidate, best_of, pids, numbers}
+use Rattle.net_types.specs.Routes.{Candidate, pids, numbers}
 use Rattle.net_types.specs.Sets.{Member, IsRising}
 use Rattle.net_types.specs.Signatures.{signature}
 use Rattle.net_types.specs.UpdateSpelling.{is_before}
@@ -25,7 +25,7 @@ use Rattle.net_types.specs.declared.route.Attrs.{Attrs}
 use Rattle.net_types.proofs.LongestLemmas.{any-member, member-any}
 use Rattle.net_types.proofs.RisingLemmas.{filter-Member, Member-filter, filter-IsRising}
 use Rattle.registry.specs.Registered.{Registered}
-use Rattle.route_server.specs.Rows.{ruled, offered, held_at, held_by, look, Rising, signature_of}
+use Rattle.route_server.specs.Rows.{ruled, held_at, held_by, look, Rising, signature_of}
 use Rattle.route_server.specs.Served.{Served, routing, AreDeclared}
 use Rattle.route_server.specs.Effects.{place_attrs, row_at, effect_bests, best_by_row, same_by_rows, is_same, IsEffect, IsEffectOf, routing_after, AreRowsOf, AreEffects}
 use Rattle.route_server.specs.Proposed.{IsProposal}

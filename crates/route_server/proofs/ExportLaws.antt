@@ -1,12 +1,12 @@
 -- Other rules of one participant.
-use Rattle.std.proofs.Common.{◌≡◌, ℕ, zero, suc, ◌<◌, Bool, true, false, cond, ◌&&◌, not, eqb, List, [], ◌∷◌, length, set, arith, sym, ap, subst, ◌∙◌, refl}
-use Rattle.std.specs.Prelude.{Option, Some, None, is_some, unwrap_or}
-use Rattle.std.specs.Option.{option_and_then, option_map}
+use Rattle.std.proofs.Common.{◌≡◌, ℕ, zero, suc, ◌<◌, Bool, true, false, cond, ◌&&◌, not, eqb, List, [], ◌∷◌, length, set, arith, sym, ap, ◌∙◌, refl}
+use Rattle.std.specs.Prelude.{Option, Some, None, is_some}
+use Rattle.std.specs.Option.{option_and_then}
 use Rattle.std.specs.FinMap.{FinMap, get}
 use Rattle.std.proofs.lemmas.Bool.{eqb-true, eqb-false, eq-eqb, ne_eqb}
 use Rattle.net_types.specs.Changes.{Differs}
-use Rattle.net_types.specs.Exports.{Routing, allows, is_in_path, asn_of, is_given}
-use Rattle.net_types.specs.Keys.{RouteKey, route_cmp}
+use Rattle.net_types.specs.Exports.{allows, is_in_path, asn_of, is_given}
+use Rattle.net_types.specs.Keys.{route_cmp}
 use Rattle.net_types.specs.Routes.{candidate, given}
 use Rattle.net_types.specs.Sets.{Member}
 use Rattle.net_types.specs.declared.address.Pid.{Pid}

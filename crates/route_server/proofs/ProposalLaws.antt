@@ -1,17 +1,17 @@
 -- What changes reach, and where nothing is another.
-use Rattle.std.proofs.Common.{◌≡◌, ℕ, Bool, true, false, cond, ◌&&◌, eqb, List, [], ◌∷◌, ◌++◌, map, sym, ap, subst, ◌∙◌, refl, inl, inr, true≢false}
+use Rattle.std.proofs.Common.{◌≡◌, Bool, true, false, cond, eqb, List, [], ◌∷◌, map, sym, ap, subst, ◌∙◌, refl, inl, inr, true≢false}
 use Rattle.std.specs.Prelude.{Option, Some, None, unwrap_or}
 use Rattle.std.specs.List.{filter_map, cons_option}
 use Rattle.std.specs.Option.{option_map, option_map_or, option_and_then}
 use Rattle.std.specs.FinMap.{FinMap, get}
 use Rattle.std.proofs.lemmas.Bool.{and_parts, and_from, eqb-true, eq-eqb}
 use Rattle.net_types.proofs.PrefixLemmas.{prefix_ext}
-use Rattle.net_types.specs.Changes.{best_attrs, Differs}
+use Rattle.net_types.specs.Changes.{Differs}
 use Rattle.net_types.specs.Exports.{Routing, same_prefix, is_given}
 use Rattle.net_types.specs.Keys.{RouteKey, route_cmp}
 use Rattle.net_types.specs.Routes.{Candidate, given, candidates, candidate, best_of, pids}
 use Rattle.net_types.specs.Sets.{Member}
-use Rattle.net_types.specs.Signatures.{signature, part, offer}
+use Rattle.net_types.specs.Signatures.{part, offer}
 use Rattle.net_types.specs.declared.address.Pid.{Pid}
 use Rattle.net_types.specs.declared.export.ExportRule.{ExportRule}
 use Rattle.net_types.specs.declared.prefix.Prefix.{Prefix}

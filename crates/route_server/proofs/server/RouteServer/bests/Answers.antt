@@ -1,4 +1,4 @@
-use Rattle.std.proofs.Common.{◌≡◌, sym, ap, ◌∙◌, map, ◌++◌, ◌∷◌, [], append-nil}
+use Rattle.std.proofs.Common.{sym, ap, ◌∙◌, map, append-nil}
 use Rattle.std.specs.Prelude.{Some, None}
 use Rattle.std.specs.Option.{option_copied}
 use Rattle.std.specs.Borrow.{Bor}
