@@ -1,5 +1,4 @@
 pub mod Lists
-pub mod DeclaredSteps
 pub mod Sames
 pub mod FreshTags
 pub mod TagsAfter

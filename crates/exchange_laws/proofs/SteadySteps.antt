@@ -5,17 +5,18 @@ use Rattle.std.specs.FinMap.{empty, get, get-empty, values}
 use Rattle.std.specs.List.{list_any}
 use Rattle.std.specs.Option.{option_map_or}
 use Rattle.std.proofs.lemmas.Bool.{or_from}
-use Rattle.events.proofs.Reached.{IsDeclared, runs_sound}
-use Rattle.events.specs.After.{accepted, after, next, next_by, running, settled, updated, with_known, with_participant, with_port, with_told}
+use Rattle.events.proofs.Reached.{IsDeclared, first_sound, next_declared, step_sound}
+use Rattle.events.specs.After.{accepted, after, next, next_by, running, settled, bound_read, ruled, updated, with_known, with_participant, with_port, with_rules, with_told, with_update, without_from}
 use Rattle.events.specs.Fits.{FitsBy}
 use Rattle.events.specs.Legal.{LegalFrom, state_from}
 use Rattle.events.specs.Refusals.{is_placed, refusal_in_place}
 use Rattle.events.specs.Resolving.{is_answered, port_place, resolved_at, unresolved, with_answer, with_resolved}
 use Rattle.events.specs.Sound.{IsSound}
-use Rattle.events.specs.State.{State, Entry, first, port_of, present}
-use Rattle.events.specs.Tags.{is_live, same_tag, tells}
+use Rattle.events.specs.State.{State, first, port_of, present}
+use Rattle.events.specs.declared.Entry.{Entry}
+use Rattle.events.specs.Tags.{is_live, retagged, same_tag, tells}
 use Rattle.events.specs.declared.Event.{Event}
-use Rattle.events.specs.declared.Event.TheVariants.{Bad, Exchange, Participant as DeclaresParticipant, Port as DeclaresPort, Update, Drain, Arp, Resolve, Packet, Frame, Table}
+use Rattle.events.specs.declared.Event.TheVariants.{Bad, Exchange, Participant as DeclaresParticipant, Port as DeclaresPort, Update, Down, Export, Drain, Arp, Resolve, Packet, Frame, Table}
 use Rattle.events.specs.declared.Head.{Head}
 use Rattle.events.specs.declared.Head.TheVariants.{Fine, Unrouted, Unresolved, Silent, Refused}
 use Rattle.events.specs.declared.Phase.{Phase}
@@ -23,7 +24,6 @@ use Rattle.events.specs.declared.Phase.TheVariants.{Start, Declaring, Running}
 use Rattle.events.specs.declared.Refusal.{Refusal}
 use Rattle.events.specs.declared.Refusal.TheVariants.{Misplaced}
 use Rattle.events.specs.declared.Reply.{Reply}
-use Rattle.exchange_laws.proofs.DeclaredSteps.{next_declared}
 use Rattle.exchange_laws.proofs.Lists.{clash, place_of}
 use Rattle.exchange_laws.proofs.TagsAfter.{kept_stay_live, tags_stay_pooled}
 use Rattle.exchange_laws.proofs.ToldAnew.{keeps_live, present_are_known, tag_was_live}
@@ -34,7 +34,8 @@ use Rattle.net_types.proofs.FindLemmas.{slice_get-Member}
 use Rattle.net_types.proofs.PassLemmas.{any_more}
 use Rattle.net_types.proofs.ValueLemmas.{no_entries}
 use Rattle.net_types.specs.Arp.{asked_ip, asker_mac}
-use Rattle.net_types.specs.Exports.{pid_of}
+use Rattle.net_types.specs.ExportReading.{rules_of_text}
+use Rattle.net_types.specs.Exports.{Routing, pid_of}
 use Rattle.net_types.specs.Keys.{ip_cmp, prefix_cmp, tag_cmp}
 use Rattle.net_types.specs.Maps.{ordered}
 use Rattle.net_types.specs.Octets.{same_octets}
@@ -43,6 +44,7 @@ use Rattle.net_types.specs.declared.address.Ip.{Ip}
 use Rattle.net_types.specs.declared.address.Pid.{Pid}
 use Rattle.net_types.specs.declared.address.PortNo.{PortNo}
 use Rattle.net_types.specs.declared.address.Tag.{Tag}
+use Rattle.net_types.specs.declared.export.ExportRule.{ExportRule}
 use Rattle.net_types.specs.declared.prefix.Prefix.{Prefix}
 use Rattle.net_types.specs.declared.route.Participant.{Participant}
 use Rattle.net_types.specs.declared.route.PortInfo.{PortInfo}
@@ -72,7 +74,7 @@ not_kept (Some x) e f = cc
 
 pub starts_steady : StartsSteady
 starts_steady = record {
-  sound = runs_sound [] [] tt;
+  sound = first_sound;
   pooled = λ t live. absurd (clash live (first_live t));
   kept = λ t there. absurd (not_kept (get first.kept t) (get-empty tag_cmp t) there);
   owners = λ q m. elim m [ ];
@@ -102,9 +104,16 @@ participant_tidy s m is = record {
   start = λ phase t. participant_live s m t ∙ is.start phase t;
 }
 
+retagged_tidy : (s : State) (r : Routing) → HasTidyTags s → HasTidyTags (retagged s r)
+retagged_tidy s r is = record { pooled = tags_stay_pooled s r is.pooled; kept = kept_stay_live s r is.pooled; start = λ phase t. absurd (cc) }
+
 updated_tidy : (s : State) (who : Pid) (read : Result Message Fault) → HasTidyTags s → HasTidyTags (updated s who read)
-updated_tidy s who (Ok u) is = record { pooled = tags_stay_pooled s _ is.pooled; kept = kept_stay_live s _ is.pooled; start = λ phase t. absurd (cc) }
+updated_tidy s who (Ok u) is = retagged_tidy s (with_update s.routing who u) is
 updated_tidy s who (Err fault) is = is
+
+ruled_tidy : (s : State) (who : Pid) (rules : Option (List ExportRule)) → HasTidyTags s → HasTidyTags (ruled s who rules)
+ruled_tidy s who (Some rules) is = retagged_tidy s (with_rules s.routing who rules) is
+ruled_tidy s who None is = is
 
 told_tidy : (s : State) (who : Pid) → HasTidyTags s → HasTidyTags (settled (running (with_told s who (present s who))))
 told_tidy s who is = record {
@@ -142,6 +151,9 @@ after_tidy s (DeclaresParticipant name asn id) placed is = participant_tidy s (r
 after_tidy s (DeclaresPort name number ip mac) placed is =
     known_tidy s (pid_of s.routing name) (λ who. with_port s (record { owner = who; number = number; ip = ip; mac = mac })) is (λ who. record { pooled = is.pooled; kept = is.kept; start = is.start })
 after_tidy s (Update name bytes) placed is = known_tidy s (pid_of s.routing name) (λ who. updated s who (decoded bytes)) is (λ who. updated_tidy s who (decoded bytes) is)
+after_tidy s (Down name) placed is = known_tidy s (pid_of s.routing name) (λ who. retagged s (without_from s.routing who)) is (λ who. retagged_tidy s (without_from s.routing who) is)
+after_tidy s (Export name text) placed is =
+    known_tidy s (pid_of s.routing name) (λ who. ruled s who (bound_read s.routing (rules_of_text text))) is (λ who. ruled_tidy s who (bound_read s.routing (rules_of_text text)) is)
 after_tidy s (Drain name) placed is = known_tidy s (pid_of s.routing name) (λ who. settled (running (with_told s who (present s who)))) is (λ who. told_tidy s who is)
 after_tidy s (Arp port bytes) placed is = known_tidy s (port_of s port) (λ q. running (with_answer s q bytes)) is (λ q. run_tidy (with_answer s q bytes) (answer_tidy s q bytes is))
 after_tidy s (Resolve port) placed is =
@@ -192,7 +204,7 @@ module _ (s : State) (e : Event) (r : Reply) (steady : IsSteady s) where
     where
       by : (o : Option Refusal) → FitsBy o s e r → IsSteady (next s e r)
       by (Some why) fits = subst (λ x. IsSteady (next s e x)) (sym fits) steady
-      by None fits = taken placed fits.sound
+      by None fits = taken placed (step_sound s e r None steady.sound fits)
 
 pub steps_stay_steady : StepsStaySteady
 steps_stay_steady s e r steady fits = step s e r steady (is_placed s.phase e) refl fits

@@ -12,7 +12,8 @@ use Rattle.std.proofs.lemmas.List.Sums.{sum_by-cons}
 use Rattle.events.specs.After.{next, next_by, put_flows, running, settled, with_known, with_told, without_pairs}
 use Rattle.events.specs.Fits.{IsAccepted, IsTaken, dropped, none_rebuilt}
 use Rattle.events.specs.Sound.{IsRight, IsSound, owners_part, part_of, rule_count}
-use Rattle.events.specs.State.{State, Entry, port_of, present, told_to}
+use Rattle.events.specs.State.{State, port_of, present, told_to}
+use Rattle.events.specs.declared.Entry.{Entry}
 use Rattle.events.specs.Tags.{is_live, is_live_pair, same_tag, tells}
 use Rattle.events.specs.declared.Event.TheVariants.{Drain}
 use Rattle.events.specs.declared.Reply.{Reply}

@@ -4,7 +4,8 @@ use Rattle.std.specs.FinMap.{FinMap, retain_keys}
 use Rattle.events.specs.After.{next, running, settled, with_told}
 use Rattle.events.specs.Fits.{IsAccepted, IsTaken}
 use Rattle.events.specs.Sound.{IsSound}
-use Rattle.events.specs.State.{State, Entry, port_of, present, told_to}
+use Rattle.events.specs.State.{State, port_of, present, told_to}
+use Rattle.events.specs.declared.Entry.{Entry}
 use Rattle.events.specs.Tags.{is_live, is_live_pair, tells}
 use Rattle.events.specs.declared.Event.TheVariants.{Drain}
 use Rattle.events.specs.declared.Reply.{Reply}
