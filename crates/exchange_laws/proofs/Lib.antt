@@ -5,7 +5,9 @@ pub mod TagsAfter
 pub mod LivePairs
 pub mod RulesAfter
 pub mod Flows
-pub mod Updates
+pub mod Built
+pub mod Rerouted
+pub mod AcceptedChanges
 pub mod ToldAnew
 pub mod Untouched
 pub mod SameRoutes

@@ -8,3 +8,4 @@ pub mod Touched
 pub mod Counts
 pub mod Steady
 pub mod Listed
+pub mod Rerouting

@@ -3,6 +3,7 @@
 
 mod counts;
 mod replies;
+mod reroutings;
 mod rules;
 mod steady;
 mod tags;
@@ -16,7 +17,11 @@ pub use counts::{
 };
 pub use replies::{
     changes_are_built, defaults_are_rules, gone_pairs_are_dropped, new_pairs_are_added,
-    replies_build_tables, updates_are_accepted,
+    replies_build_tables,
+};
+pub use reroutings::{
+    downs_reroute, exports_reroute, nothing_is_rerouted, reroutings_are_accepted,
+    reroutings_are_changes, updates_reroute,
 };
 pub use rules::{
     changes_stay_sound, defaults_are_tables, live_pairs_have_rules, new_pairs_have_parts,
@@ -36,4 +41,4 @@ pub use touched::{
     gone_pairs_are_touched, new_pairs_are_touched, other_prefixes_keep_tags,
     other_prefixes_stay_present, touched_prefixes_have_changes, touched_prefixes_have_groups,
 };
-pub use unchanged::{nothing_is_said, nothing_is_updated, routes_stay, same_routes_have_no_groups};
+pub use unchanged::{nothing_is_said, routes_stay, same_routes_have_no_groups};

@@ -1,0 +1,3 @@
+pub mod SignatureParts
+pub mod PortsAndTags
+pub mod GonePairs

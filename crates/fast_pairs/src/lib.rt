@@ -1,0 +1,8 @@
+//! The pairs that come and go with a change of routes.
+#![tactic(auto)]
+
+mod forward;
+mod theorem;
+
+pub use forward::Forward;
+pub use theorem::{gone_pairs_are_live_only, new_pairs_are_live_only, dead_tags_are_live_only};
