@@ -85,7 +85,7 @@ module _ (s : State) (r : Routing) (change : IsChange s r) where
         let part : Part = of_part.of in
         let parts = Member-unless (was_told s.told part.sender t) (map (pair_at t) (ports_of names part.sender)) pair of_part.gives in
         let image = map-Member (pair_at t) (ports_of names part.sender) pair parts.1 in
-        subst (λ x. (is_live_pair s x ≡ true) × (is_live_pair s1 x ≡ false)) (sym image.is)
+        subst (λ x. (is_live_pair s x ≡ true) × (is_live_pair s1 x ≡ false)) (sym {b = pair_at t image.of} image.is)
         (one_gone t p.prefix part.sender image.of p.tagged empty.1 (part_senders s.routing p.prefix part of_part.stands).routed parts.0 (port_listed s part.sender image.of image.stands))
 
     -- ---- all of them

@@ -1,3 +1,6 @@
 pub mod SignatureParts
 pub mod PortsAndTags
 pub mod GonePairs
+pub mod Forwards
+pub mod NewPairs
+pub mod DeadTags

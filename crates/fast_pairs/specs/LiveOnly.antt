@@ -8,8 +8,10 @@ use Rattle.events.specs.State.{State, port_of}
 use Rattle.events.specs.Tags.{Group, free_tags, groups, is_live, retagged, same_tag}
 use Rattle.exchange_laws.specs.Listed.{AreLiveOnly}
 use Rattle.exchange_laws.specs.Rules.{IsChange, with_rules}
-use Rattle.fast_pairs.specs.Pairs.{gone_pairs, new_flows, untold}
+use Rattle.fast_pairs.specs.Pairs.{forward_cmp, forwards, gone_pairs, new_flows, untold}
+use Rattle.fast_pairs.specs.declared.forward.Forward.{Forward}
 use Rattle.net_types.specs.Exports.{Routing}
+use Rattle.net_types.specs.Maps.{ordered}
 use Rattle.net_types.specs.Sets.{Member}
 use Rattle.net_types.specs.declared.address.Tag.{Tag}
 use Rattle.net_types.specs.declared.route.Part.{Part}
@@ -57,6 +59,12 @@ group_tags s r = take (length (groups s r)) (free_tags s)
 -- the signatures of the groups
 abbrev pub group_signatures : State → Routing → List (List Part)
 group_signatures s r = map (λ (g : Group). g.after) (groups s r)
+
+-- the pairs of the fresh tags are those that become live
+abbrev pub NewPairsAreThose : Type 0
+NewPairsAreThose =
+    (s : State) (r : Routing) → IsChange s r → PortsDiffer s
+    → AreLiveOnly (retagged s r) s (map (λ (f : Forward). f.pair) (ordered forward_cmp (forwards (registered s) (group_signatures s r) (group_tags s r))))
 
 -- the rules of the fresh tags are those that the reply adds
 abbrev pub NewFlowsAreAdded : Type 0

@@ -1,7 +1,7 @@
 //! Laws of the pairs and tags that a change of routes brings and takes. The functions have empty bodies, and their contracts
 //! are the laws.
 
-ghost use Rattle.fast_pairs.specs.LiveOnly.{GonePairsAreThose, GonePairsAreDropped, NewFlowsAreAdded, UntoldAreDead};
+ghost use Rattle.fast_pairs.specs.LiveOnly.{GonePairsAreThose, GonePairsAreDropped, NewFlowsAreAdded, NewPairsAreThose, UntoldAreDead};
 
 /// The pairs of the emptied tags are those that are live no more, and those that are dropped.
 pub fn gone_pairs_are_live_only()
@@ -11,7 +11,8 @@ pub fn gone_pairs_are_live_only()
 
 /// The rules of the fresh tags are those that are added.
 pub fn new_pairs_are_live_only()
-    ensures { NewFlowsAreAdded }
+    ensures live { NewPairsAreThose }
+    ensures added { NewFlowsAreAdded }
 {}
 
 /// Those of the emptied tags that nobody was told are the tags that are live no more.
