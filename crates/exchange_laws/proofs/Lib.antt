@@ -13,5 +13,8 @@ pub mod Untouched
 pub mod SameRoutes
 pub mod TouchedPrefixes
 pub mod Counted
+pub mod OwnHops
+pub mod NewStates
+pub mod LineSteps
 pub mod SteadySteps
 pub mod ListedPairs

@@ -9,7 +9,7 @@ use Rattle.events.specs.declared.Entry.{Entry}
 use Rattle.events.specs.Tags.{is_live, is_live_pair, tells}
 use Rattle.events.specs.declared.Event.TheVariants.{Drain}
 use Rattle.events.specs.declared.Reply.{Reply}
-use Rattle.exchange_laws.specs.Retagging.{KeptAreLive, TagsArePooled}
+use Rattle.exchange_laws.specs.Retagging.{KeptAreLive, LiveAreKept, TagsArePooled}
 use Rattle.net_types.specs.Exports.{pid_of}
 use Rattle.net_types.specs.Keys.{prefix_cmp}
 use Rattle.net_types.specs.declared.address.Pid.{Pid}
@@ -41,6 +41,10 @@ TellingStaysPooled =
 -- and each tag that is kept is live
 abbrev pub TellingKeepsLive : Type 0
 TellingKeepsLive = (s : State) (who : Pid) (entries : FinMap prefix_cmp Entry) → KeptAreLive (told_anew s who entries)
+
+-- and each live tag is kept
+abbrev pub TellingStaysKept : Type 0
+TellingStaysKept = (s : State) (who : Pid) (entries : FinMap prefix_cmp Entry) → LiveAreKept s → AreKnownTo s who entries → LiveAreKept (told_anew s who entries)
 
 -- a pair that is live no more is one of the participant's ports with a tag that it was told
 abbrev pub GonePairsWereTold : Type 0

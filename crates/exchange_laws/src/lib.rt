@@ -31,11 +31,11 @@ pub use steady::{runs_stay_steady, starts_steady, steps_stay_steady};
 pub use tags::{
     carried_prefixes_have_tags, changed_prefixes_are_grouped, free_tags_rise, fresh_tags_differ,
     fresh_tags_go_by_place, groups_have_fresh_tags, kept_tags_stay_live, live_tags_keep_signatures,
-    signatures_are_kept, tags_stay_pooled,
+    live_tags_stay_kept, signatures_are_kept, tags_stay_pooled,
 };
 pub use telling::{
     drains_are_accepted, gone_pairs_were_told, gone_tags_were_told, present_are_known,
-    telling_keeps_live, telling_stays_pooled, telling_stays_sound,
+    telling_keeps_live, telling_stays_kept, telling_stays_pooled, telling_stays_sound,
 };
 pub use touched::{
     gone_pairs_are_touched, new_pairs_are_touched, other_prefixes_keep_tags,
