@@ -4,3 +4,4 @@ pub mod GonePairs
 pub mod Forwards
 pub mod NewPairs
 pub mod DeadTags
+pub mod SortedLists

@@ -17,17 +17,17 @@ use Rattle.net_types.specs.declared.prefix.Prefix.{Prefix}
 use Rattle.net_types.specs.declared.route.Part.{Part}
 
 -- a member of what a function gives of some, with what it comes from
-record IsGiven {A B : Type 0} (f : A → Option B) (xs : List A) (y : B) : Type 0 where
-  source : A
-  stands : Member source xs
-  is : f source ≡ Some y
+pub record IsGiven {A B : Type 0} (f : A → Option B) (xs : List A) (y : B) : Type 0 where
+  pub source : A
+  pub stands : Member source xs
+  pub is : f source ≡ Some y
 
 given_case : {A B : Type 0} (f : A → Option B) (x : A) (xs : List A) (y : B) (o : Option B) → f x ≡ o → Member y (cons_option o (filter_map f xs)) → (Member y (filter_map f xs) → IsGiven f xs y) → IsGiven f (x ∷ xs) y
 given_case f x xs y None e m later = let g = later m in record { source = g.source; stands = inr g.stands; is = g.is }
 given_case f x xs y (Some z) e (inl same) later = record { source = x; stands = inl refl; is = e ∙ ap Some (sym same) }
 given_case f x xs y (Some z) e (inr m) later = let g = later m in record { source = g.source; stands = inr g.stands; is = g.is }
 
-given : {A B : Type 0} (f : A → Option B) (xs : List A) (y : B) → Member y (filter_map f xs) → IsGiven f xs y
+pub given : {A B : Type 0} (f : A → Option B) (xs : List A) (y : B) → Member y (filter_map f xs) → IsGiven f xs y
 given f [] y m = elim m [ ]
 given f (x ∷ xs) y m = given_case f x xs y (f x) refl m (given f xs y)
 

@@ -76,6 +76,10 @@ new_flows names sigs ts = map flow_of (ordered forward_cmp (forwards names sigs 
 
 -- ---- the tags that are live no more
 
+-- somebody was told the tag
+abbrev pub is_told : Told → Tag → Bool
+is_told told t = list_any (λ entries. tells entries t) told
+
 -- those of the tags that nobody was told
 abbrev pub untold : Told → List Tag → List Tag
-untold told ts = filter (λ t. not (list_any (λ entries. tells entries t) told)) ts
+untold told ts = filter (λ t. not (is_told told t)) ts
