@@ -1,29 +1,29 @@
--- The tags of prefixes, and the signatures with which tags were given.
-use Rattle.std.specs.Prelude.{◌≡◌, ℕ, ◌+◌, true, cond, List, [], ◌∷◌, map, Option, Some, None}
+-- The tags of prefixes, and the signatures that are kept for tags (this exchange's own rule).
+use Rattle.std.specs.Prelude.{ℕ, ◌+◌, List, [], ◌∷◌, Option, Some, None, if◌then◌else◌}
 use Rattle.std.specs.Ordering.{eq_by_cmp}
-use Rattle.std.specs.FinMap.{FinMap, entries, get, insert, from_sorted}
-use Rattle.std.specs.FinMap.Entries.{find, put, is_sorted}
+use Rattle.std.specs.FinMap.{FinMap, entries, get, insert}
 use Rattle.net_types.specs.Keys.{prefix_cmp, tag_cmp}
-use Rattle.net_types.specs.declared.prefix.Prefix.{Prefix}
 use Rattle.net_types.specs.declared.address.Tag.{Tag}
+use Rattle.net_types.specs.declared.prefix.Prefix.{Prefix}
 use Rattle.net_types.specs.declared.route.Part.{Part}
-use Rattle.prefix_map.specs.Held.{Held}
-use Rattle.prefix_classes.specs.declared.Kept.{Kept}
 
+-- each prefix's tag, each kept tag's signature, and how many new prefixes and tags go in without memory
 pub record Classes : Type 0 where
   pub tag : FinMap prefix_cmp Tag
   pub kept : FinMap tag_cmp (List Part)
-  -- for so many more prefixes and tags there is room
   pub prefixes : ℕ
   pub tags : ℕ
 
+-- 1 where it is the tag, else 0
 abbrev pub is_tag : Tag → Tag → ℕ
-is_tag t u = cond (eq_by_cmp tag_cmp t u) 1 0
+is_tag t u = if eq_by_cmp tag_cmp t u then 1 else 0
 
+-- 1 where it is the tag, 0 where it is another one or none
 abbrev pub has_tag : Tag → Option Tag → ℕ
 has_tag t None = 0
 has_tag t (Some u) = is_tag t u
 
+-- how many entries have the tag
 abbrev pub count_of : Tag → List (Prefix × Tag) → ℕ
 count_of t [] = 0
 count_of t (e ∷ es) = is_tag t e.1 + count_of t es
@@ -32,42 +32,17 @@ count_of t (e ∷ es) = is_tag t e.1 + count_of t es
 abbrev pub members : FinMap prefix_cmp Tag → Tag → ℕ
 members m t = count_of t (entries m)
 
--- the prefixes put under the tag, one after another
+-- the tags after these prefixes are given the tag
 abbrev pub given : Tag → List Prefix → FinMap prefix_cmp Tag → FinMap prefix_cmp Tag
 given t [] m = m
 given t (p ∷ ps) m = given t ps (insert m p t)
 
+-- 1 where there is no tag, else 0
 abbrev pub missing : Option Tag → ℕ
 missing None = 1
 missing (Some t) = 0
 
--- how many of the prefixes have no tag yet
+-- how many of the prefixes have no tag, each counted as often as it stands there
 abbrev pub new_ones : FinMap prefix_cmp Tag → List Prefix → ℕ
 new_ones m [] = 0
 new_ones m (p ∷ ps) = missing (get m p) + new_ones m ps
-
-abbrev pub members_of : Option Kept → ℕ
-members_of None = 0
-members_of (Some k) = k.members
-
-abbrev pub counted : List (Tag × Kept) → Tag → ℕ
-counted es t = members_of (find tag_cmp t es)
-
-abbrev pub sig_entry : Tag × Kept → Tag × List Part
-sig_entry e = (e.0, e.1.sig)
-
-abbrev pub with_members : Tag → ℕ → Option Kept → List (Tag × Kept) → List (Tag × Kept)
-with_members t n None es = es
-with_members t n (Some k) es = put tag_cmp t (record k { members = n }) es
-
--- the number of members of a kept tag is set
-abbrev pub set_members : Tag → ℕ → List (Tag × Kept) → List (Tag × Kept)
-set_members t n es = with_members t n (find tag_cmp t es) es
-
--- The keys rise, and each tag, kept or not, has as many members as are counted for it.
-pub record IsKept (m : FinMap prefix_cmp Tag) (es : List (Tag × Kept)) : Type 0 where
-  pub sorted : is_sorted tag_cmp es ≡ true
-  pub counts : (t : Tag) → counted es t ≡ members m t
-
-abbrev pub classes_of : Held Tag → List (Tag × Kept) → ℕ → Classes
-classes_of held es room = record { tag = held.map; kept = from_sorted (map sig_entry es); prefixes = held.room; tags = room }
