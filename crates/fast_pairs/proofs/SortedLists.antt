@@ -15,12 +15,13 @@ use Rattle.fast_pairs.proofs.PortsAndTags.{tie}
 use Rattle.fast_pairs.specs.Pairs.{forward_cmp}
 use Rattle.fast_pairs.specs.declared.forward.Forward.{Forward}
 use Rattle.net_types.proofs.MemberLemmas.{Contains-Member, Member-at, Member-permutation}
-use Rattle.net_types.proofs.OrderLemmas.{pairs_total}
+use Rattle.net_types.proofs.OrderLemmas.{pairs_total, tags_total}
 use Rattle.net_types.proofs.RisingLemmas.{before}
-use Rattle.net_types.proofs.TieLemmas.{then_ties}
-use Rattle.net_types.specs.Keys.{pair_cmp}
+use Rattle.net_types.proofs.TieLemmas.{same_from_tie, tag_cmp-IsAntisymmetric, then_ties}
+use Rattle.net_types.specs.Keys.{pair_cmp, tag_cmp}
 use Rattle.net_types.specs.Maps.{ordered}
 use Rattle.net_types.specs.Sets.{IsRising, Member}
+use Rattle.net_types.specs.declared.address.Tag.{Tag}
 use Rattle.net_types.specs.declared.rule.Pair.{Pair}
 
 each : {A : Type 0} (P : A → Type 0) (xs : List A) (x : A) → AllByRecursion P xs → Member x xs → P x
@@ -71,3 +72,6 @@ forward_ties f g = (λ i. pair_ties f.pair g.pair i && unsigned_ties f.to.0 g.to
 
 pub forwards_in_order : (xs ys : List Forward) → IsPermutation xs ys → IsSorted forward_cmp ys → dedup same_forward ys ≡ ordered forward_cmp xs
 forwards_in_order = deduped_is forward_cmp forwards_total forwards_tie same_forward forward_ties
+
+pub tags_in_order : (xs ys : List Tag) → IsPermutation xs ys → IsSorted tag_cmp ys → dedup (λ (t u : Tag). eqb t.0 u.0) ys ≡ ordered tag_cmp xs
+tags_in_order = deduped_is tag_cmp tags_total (same_from_tie tag_cmp tag_cmp-IsAntisymmetric) (λ t u. eqb t.0 u.0) (λ t u. unsigned_ties t.0 u.0)

@@ -1,12 +1,12 @@
 //! Lists without repeats, in order.
 
 ghost use Rattle.std.specs.Prelude.{◌≡◌};
-ghost use Rattle.net_types.specs.Keys.{pair_cmp};
+ghost use Rattle.net_types.specs.Keys.{pair_cmp, tag_cmp};
 ghost use Rattle.net_types.specs.Maps.{ordered};
 ghost use Rattle.fast_pairs.specs.Pairs.{forward_cmp};
 
 use crate::forward::Forward;
-use net_types::Pair;
+use net_types::{Pair, Tag};
 
 /// The same pairs, ascending by port, and then by tag, each once.
 pub fn ascending_pairs(mut pairs: Vec<Pair>) -> Vec<Pair>
@@ -24,4 +24,13 @@ pub fn ascending_forwards(mut forwards: Vec<Forward>) -> Vec<Forward>
     forwards.sort_unstable();
     forwards.dedup();
     forwards
+}
+
+/// The same tags, ascending, each once.
+pub fn ascending_tags(mut tags: Vec<Tag>) -> Vec<Tag>
+    ensures { result.items ≡ ordered tag_cmp tags.items }
+{
+    tags.sort_unstable();
+    tags.dedup();
+    tags
 }

@@ -5,15 +5,16 @@ ghost use Rattle.exchange_laws.specs.Rules.{rule_to};
 ghost use Rattle.net_types.specs.Answers.{offered_port};
 ghost use Rattle.net_types.specs.Sets.{union_over};
 ghost use Rattle.registry.specs.Registered.{Registered};
-ghost use Rattle.fast_pairs.specs.Pairs.{flow_of, forward, forwards, is_told, new_flows, pair_at, part_forwards, part_pairs, untold, was_told};
+ghost use Rattle.fast_pairs.specs.Pairs.{flow_of, forward, forwards, gone_pairs, is_told, new_flows, pair_at, part_forwards, part_pairs, untold, was_told};
 
-use crate::ascending::ascending_forwards;
+use crate::ascending::{ascending_forwards, ascending_pairs};
 use crate::forward::{Forward, Fresh};
 use advert_queue::Told;
 use events::{Flow, Flows};
 use net_types::{
-    Action, Actions, Assign, Cube, Items, Memory, Pair, Part, Pid, PortNo, Rule, Tag,
+    Action, Actions, Assign, Cube, Items, Memory, Pair, Pairs, Part, Pid, PortNo, Rule, Tag,
 };
+use prefix_classes::ClassMap;
 use registry::Registry;
 use std::alloc::Global;
 
@@ -53,6 +54,26 @@ fn push_gone(
         }
     }
     Ok(())
+}
+
+/// The pairs that go with tags that no prefix has any more, ascending by port, and then by tag: the ports of the senders
+/// in the tag's signature, but for those of senders that were told the tag. Memory is the only refusal.
+pub fn gone_pairs(
+    alloc: Global,
+    names: &Registry,
+    classes: &ClassMap,
+    told: &[Told],
+    emptied: &[Tag],
+) -> Result<Pairs, Memory>
+    ensures { IfOk result (λ pairs. pairs ≡ gone_pairs names.now classes.now.kept told.now emptied.now) }
+{
+    let mut pairs = Vec::new(alloc);
+    for &tag in emptied {
+        if let Some(sig) = classes.sig_of(tag) {
+            push_gone(names, told, tag, sig.items(), &mut pairs)?;
+        }
+    }
+    Ok(Items::from_vec(ascending_pairs(pairs)))
 }
 
 /// The port of the part's best offer.
@@ -109,8 +130,13 @@ fn forwards(
     ensures { IfOk result (λ all. all.items ≡ forwards names.now (map (λ g. g.sig) groups.now) tags.now) }
 {
     let mut all = Vec::new(alloc);
-    for (group, &tag) in groups.iter().zip(tags) {
+    let mut rest = tags;
+    for group in groups {
+        let Some((&tag, after)) = rest.split_first() else {
+            return Ok(all);
+        };
         push_class(names, tag, group.sig.items(), &mut all)?;
+        rest = after;
     }
     Ok(all)
 }
