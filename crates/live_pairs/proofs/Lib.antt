@@ -1,0 +1,10 @@
+pub mod SignatureParts
+pub mod PortsAndTags
+pub mod GonePairs
+pub mod Forwards
+pub mod NewPairs
+pub mod DeadTags
+pub mod SortedLists
+pub mod EmptiedTags
+pub mod Loops
+pub mod CountedTags
