@@ -1,5 +1,5 @@
 -- What committing a plan does to the classes, the pool and the table.
-use Rattle.std.specs.Prelude.{◌≡◌, Bool, true, false, List, [], ◌∷◌, length, map, Option, Some, None, is_some, IfSome, IsTrue}
+use Rattle.std.specs.Prelude.{◌≡◌, ◌≤◌, ◌<◌, ◌+◌, ◌^◌, Bool, true, false, List, [], ◌∷◌, length, map, Option, Some, None, is_some, IfSome, IsTrue}
 use Rattle.std.specs.FinMap.{FinMap, get, insert, remove}
 use Rattle.net_types.specs.Keys.{pair_cmp, prefix_cmp, tag_cmp}
 use Rattle.net_types.specs.Sets.{Member}
@@ -10,8 +10,10 @@ use Rattle.net_types.specs.declared.rule.Pair.{Pair}
 use Rattle.net_types.specs.declared.rule.Rule.{Rule}
 use Rattle.events.specs.declared.TagChange.{TagChange}
 use Rattle.next_hop_pool.specs.Free.{IsTag, Tags, is_taken, marked}
-use Rattle.prefix_classes.specs.Classes.{members}
+use Rattle.match_switch.specs.Installed.{Installed, rule_count}
+use Rattle.prefix_classes.specs.Classes.{Classes, members}
 use Rattle.prefix_classes.specs.Laws.{changed}
+use Rattle.fast_path.specs.declared.planned.Plan.{Plan}
 
 -- ---- signatures
 
@@ -97,3 +99,17 @@ with_blocks m (b ∷ bs) = with_blocks (insert m b.0 b.1) bs
 abbrev pub HaveOneRule : List Block → Type 0
 HaveOneRule [] = Unit {0}
 HaveOneRule (b ∷ bs) = (length b.1 ≡ 1) × HaveOneRule bs
+
+-- The plan can be committed: its fresh tags are free and not kept, each new tag will be kept, its dead tags will be taken and
+-- no prefix's, and there is room for all that is put in.
+pub record CanCommit (plan : Plan) (classes : Classes) (pool : Tags) (switch : Installed) : Type 0 where
+  pub unkept : AreUnkept classes.kept plan.fresh.items
+  pub tags_room : length plan.fresh.items ≤ classes.tags
+  pub kept : HaveKept (kept_with classes.kept plan.fresh.items) plan.tags
+  pub prefixes_room : length plan.tags ≤ classes.prefixes
+  pub unused : AreUnused (tags_with classes.tag plan.tags) plan.dead.items
+  pub free : AreFree pool (tags_of plan.fresh.items)
+  pub taken : AreTaken (marked_all pool (tags_of plan.fresh.items) true) plan.dead.items
+  pub pairs_room : length plan.blocks.items ≤ switch.room
+  pub one : HaveOneRule plan.blocks.items
+  pub few : rule_count switch.table + length plan.blocks.items < 2 ^ 64

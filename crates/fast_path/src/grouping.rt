@@ -7,17 +7,11 @@ ghost use Rattle.net_types.specs.Attributes.{same_option};
 ghost use Rattle.events.specs.Tags.{same_group, same_tag};
 ghost use Rattle.fast_path.specs.Grouping.{groups_of, is_kept_sig, is_moved, known, more_groups, moved_groups, one_more, same_class};
 
+use live_pairs::Fresh;
 use net_types::{Memory, Prefix, Sig, Tag, TryCopy, same_items};
 use prefix_classes::ClassMap;
 use route_server::Proposal;
 use std::alloc::Global;
-
-/// What the prefixes of a group have in common: their tag before, if any, and their signature after.
-#[derive(Drop)]
-pub struct Fresh {
-    pub before: Option<Tag>,
-    pub sig: Sig,
-}
 
 /// Whether two tags are the same, or both absent.
 pub fn same_tags(one: Option<Tag>, other: Option<Tag>) -> bool

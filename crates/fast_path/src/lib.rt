@@ -4,8 +4,11 @@
 
 mod committing;
 mod grouping;
+mod parts;
+mod planned;
 mod tagging;
 
-pub use committing::{forget_all, give_all, keep_all, put_all, remove_all, retag_all, take_all};
-pub use grouping::{Fresh, groups};
+pub use committing::{commit, reserve};
+pub use grouping::groups;
+pub use planned::{FastFault, Plan};
 pub use tagging::{fresh_tags, tag_changes};

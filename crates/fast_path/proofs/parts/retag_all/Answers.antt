@@ -3,7 +3,7 @@ use Rattle.std.specs.Prelude.{slice_index_or}
 use Rattle.net_types.specs.Sets.{Member}
 use Rattle.fast_path.specs.Committing.{HasKept}
 use Rattle.fast_path.proofs.CommitLemmas.{at_Member}
-use Rattle.fast_path.proofs.committing.retag_all.Goals as goal
+use Rattle.fast_path.proofs.parts.retag_all.Goals as goal
 
 pub retag-requires-clause-kept : goal.retag-requires-clause-kept
 retag-requires-clause-kept c =

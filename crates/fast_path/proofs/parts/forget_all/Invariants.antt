@@ -1,6 +1,6 @@
 use Rattle.std.proofs.Common.{◌≡◌, drop}
 use Rattle.fast_path.specs.Committing.{kept_without}
-use Rattle.fast_path.proofs.committing.forget_all.Given as goal
+use Rattle.fast_path.proofs.parts.forget_all.Given as goal
 
 abbrev pub invariant-loop-tag : goal.invariant-loop-tag
 invariant-loop-tag l = record {

@@ -1,6 +1,6 @@
 use Rattle.std.proofs.Common.{◌≡◌, drop, false}
 use Rattle.fast_path.specs.Committing.{AreTaken, marked_all}
-use Rattle.fast_path.proofs.committing.give_all.Given as goal
+use Rattle.fast_path.proofs.parts.give_all.Given as goal
 
 abbrev pub invariant-loop-tag : goal.invariant-loop-tag
 invariant-loop-tag l = record {

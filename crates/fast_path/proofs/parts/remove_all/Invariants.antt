@@ -1,7 +1,7 @@
 use Rattle.std.proofs.Common.{◌≡◌, ◌≤◌, drop}
 use Rattle.events.specs.After.{without_pairs}
 use Rattle.match_switch.specs.Installed.{rule_count}
-use Rattle.fast_path.proofs.committing.remove_all.Given as goal
+use Rattle.fast_path.proofs.parts.remove_all.Given as goal
 
 abbrev pub invariant-loop-pair : goal.invariant-loop-pair
 invariant-loop-pair l = record {

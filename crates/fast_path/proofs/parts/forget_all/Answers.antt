@@ -2,7 +2,7 @@ use Rattle.std.proofs.Common.{◌≡◌, ap, ◌∙◌}
 use Rattle.std.specs.Prelude.{slice_index_or}
 use Rattle.prefix_classes.specs.Classes.{members}
 use Rattle.fast_path.proofs.CommitLemmas.{at_Member}
-use Rattle.fast_path.proofs.committing.forget_all.Goals as goal
+use Rattle.fast_path.proofs.parts.forget_all.Goals as goal
 
 pub forget-requires : goal.forget-requires
 forget-requires c =

@@ -1,6 +1,6 @@
 use Rattle.std.proofs.Common.{◌≡◌, drop, true}
 use Rattle.fast_path.specs.Committing.{AreFree, marked_all, tags_of}
-use Rattle.fast_path.proofs.committing.take_all.Given as goal
+use Rattle.fast_path.proofs.parts.take_all.Given as goal
 
 abbrev pub invariant-loop-kept : goal.invariant-loop-kept
 invariant-loop-kept l = record {

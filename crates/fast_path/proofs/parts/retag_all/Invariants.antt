@@ -1,6 +1,6 @@
 use Rattle.std.proofs.Common.{◌≡◌, ◌≤◌, ◌+◌, drop, length}
 use Rattle.fast_path.specs.Committing.{tags_with}
-use Rattle.fast_path.proofs.committing.retag_all.Given as goal
+use Rattle.fast_path.proofs.parts.retag_all.Given as goal
 
 abbrev pub invariant-loop-change : goal.invariant-loop-change
 invariant-loop-change l = record {

@@ -1,6 +1,6 @@
 use Rattle.std.proofs.Common.{◌≡◌, ◌≤◌, length}
 use Rattle.fast_path.specs.Committing.{AreUnkept, kept_with}
-use Rattle.fast_path.proofs.committing.keep_all.Given as goal
+use Rattle.fast_path.proofs.parts.keep_all.Given as goal
 
 abbrev pub invariant-loop-kept : goal.invariant-loop-kept
 invariant-loop-kept l = record {

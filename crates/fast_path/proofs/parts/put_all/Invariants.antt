@@ -1,7 +1,7 @@
 use Rattle.std.proofs.Common.{◌≡◌, ◌≤◌, ◌<◌, ◌+◌, ◌^◌, length}
 use Rattle.match_switch.specs.Installed.{rule_count}
 use Rattle.fast_path.specs.Committing.{HaveOneRule, with_blocks}
-use Rattle.fast_path.proofs.committing.put_all.Given as goal
+use Rattle.fast_path.proofs.parts.put_all.Given as goal
 
 abbrev pub invariant-loop-block : goal.invariant-loop-block
 invariant-loop-block l = record {

@@ -1,0 +1,37 @@
+//! What a change of routes does.
+
+use events::{Flows, TagChanges};
+use net_types::{Items, Memory, Pair, Pairs, Rule, Sig, Tag};
+
+/// What a change of routes does to tags and rules. It changes nothing until it is committed.
+#[derive(Drop)]
+pub struct Plan {
+    /// The prefixes whose tag becomes another, with that tag.
+    pub tags: TagChanges,
+    /// The pairs whose rules are taken out.
+    pub drops: Pairs,
+    /// The rules that are put in.
+    pub adds: Flows,
+    /// The same rules, by pair.
+    pub blocks: Vec<(Pair, Items<Rule>)>,
+    /// The fresh tags, with their signatures.
+    pub fresh: Vec<(Tag, Sig)>,
+    /// The tags that are live no more.
+    pub dead: Vec<Tag>,
+}
+
+/// Why there is no plan.
+#[derive(Clone, Copy, Debug, PartialEq, Eq)]
+pub enum FastFault {
+    /// More fresh tags are needed than are free.
+    NoNextHop { need: u64, free: u32 },
+    /// The table would have more rules than it has room for.
+    TableFull { rules: usize, capacity: usize },
+    Memory,
+}
+
+impl From<Memory> for FastFault {
+    fn from(_: Memory) -> FastFault {
+        FastFault::Memory
+    }
+}
