@@ -6,9 +6,11 @@ mod committing;
 mod grouping;
 mod parts;
 mod planned;
+mod planning;
 mod tagging;
 
 pub use committing::{commit, reserve};
 pub use grouping::groups;
 pub use planned::{FastFault, Plan};
+pub use planning::plan;
 pub use tagging::{fresh_tags, tag_changes};
