@@ -8,7 +8,8 @@ use Rattle.std.proofs.lemmas.Bool.{eqb-true, or_cases, or_right}
 use Rattle.events.proofs.Routed.{part_with, signature_part}
 use Rattle.events.specs.Refusals.{pairs}
 use Rattle.events.specs.Sound.{owners_part, part_of}
-use Rattle.events.specs.State.{State, Entry, port_of, present, present_entry, told_to}
+use Rattle.events.specs.State.{State, port_of, present, present_entry, told_to}
+use Rattle.events.specs.declared.Entry.{Entry}
 use Rattle.events.specs.Tags.{is_live, is_live_for, is_live_pair, same_tag, tags, tells}
 use Rattle.exchange_laws.proofs.FreshTags.{best_announced}
 use Rattle.exchange_laws.proofs.Lists.{get_tabulated, is_some_of}

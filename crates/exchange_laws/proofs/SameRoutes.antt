@@ -1,36 +1,32 @@
 -- Updates that leave the routes as they were leave the tags, the signatures and the rules as they were.
-use Rattle.std.proofs.Common.{◌≡◌, Bool, true, false, cond, ◌&&◌, ◌||◌, not, List, [], ◌∷◌, ◌++◌, filter, map, sym, ap, subst, ◌∙◌, refl, inl, inr}
+use Rattle.std.proofs.Common.{◌≡◌, Bool, true, false, cond, ◌&&◌, ◌||◌, not, List, [], ◌∷◌, ◌++◌, filter, map, sym, ap, ◌∙◌, refl, inl, inr}
 use Rattle.std.specs.Prelude.{Option, Some, None, find, is_none, is_some}
 use Rattle.std.specs.FinMap.{FinMap, contains_key-keys, entries, entries_sorted, get, get-entries, keys, same_map, values}
 use Rattle.std.specs.FinMap.Entries.{find-where_key, is_sorted-where_key, same_entries, where_key}
 use Rattle.std.specs.List.{list_any}
 use Rattle.std.specs.Option.{option_map_or}
 use Rattle.events.proofs.OrderedLemmas.{member_any}
-use Rattle.events.specs.After.{next, running, updated, with_known}
-use Rattle.events.specs.Fits.{IsBuilt, bare, flows_of, none_rebuilt, tag_changes}
+use Rattle.events.specs.After.{running}
+use Rattle.events.specs.Fits.{flows_of, none_rebuilt, tag_changes}
 use Rattle.events.specs.Sound.{IsSound}
 use Rattle.events.specs.State.{State}
 use Rattle.events.specs.Tags.{Group, each_once, fresh_tag, group_of, groups, is_carried, is_changed, is_live, kept_signature, retagged, same_group, same_tag, tells}
-use Rattle.events.specs.declared.Event.TheVariants.{Update}
-use Rattle.events.specs.declared.Head.TheVariants.{Fine}
 use Rattle.events.specs.declared.Phase.TheVariants.{Running}
 use Rattle.exchange_laws.proofs.Lists.{listed_or_none}
 use Rattle.exchange_laws.proofs.Sames.{tag_itself}
 use Rattle.exchange_laws.proofs.TagsAfter.{kept_is, tags_are}
 use Rattle.exchange_laws.proofs.Untouched.{keeps_tag, unchanged}
 use Rattle.exchange_laws.specs.Retagging.{KeptAreLive, TagsArePooled}
-use Rattle.exchange_laws.specs.Unchanged.{NoGroups, NothingIsSaid, NothingIsUpdated, RoutesStay}
+use Rattle.exchange_laws.specs.Unchanged.{NoGroups, NothingIsSaid, RoutesStay}
 use Rattle.net_types.proofs.OrderLemmas.{pairs_total, prefixes_total, tags_total}
 use Rattle.net_types.proofs.PassLemmas.{filter_nothing, filter_twice}
 use Rattle.net_types.proofs.SameLemmas.{option_itself}
 use Rattle.net_types.proofs.TieLemmas.{pair_cmp-IsAntisymmetric, prefix_cmp-IsAntisymmetric, same_from_tie, tag_cmp-IsAntisymmetric}
 use Rattle.net_types.specs.Attributes.{same_option}
-use Rattle.net_types.specs.Exports.{pid_of}
 use Rattle.net_types.specs.Keys.{pair_cmp, prefix_cmp}
 use Rattle.net_types.specs.Maps.{ordered}
 use Rattle.net_types.specs.Routes.{announced}
 use Rattle.net_types.specs.Sets.{Member, union_over}
-use Rattle.net_types.specs.UpdateReading.{decoded}
 use Rattle.net_types.specs.declared.rule.Pair.{Pair}
 use Rattle.net_types.specs.declared.rule.Rule.{Rule}
 
@@ -101,7 +97,7 @@ nothing_is_said s s1 table tag = record {
   frames = refl;
 }
 
-running_sound : (s : State) → IsSound s → IsSound (running s)
+pub running_sound : (s : State) → IsSound s → IsSound (running s)
 running_sound s sound = record {
   pairs = sound.pairs;
   right = (sound.right.0, record { names = sound.right.1.names; outbound = sound.right.1.outbound; inbound = sound.right.1.inbound }, sound.right.2);
@@ -109,15 +105,3 @@ running_sound s sound = record {
   tagged = sound.tagged;
   kept = sound.kept;
 }
-
-pub nothing_is_updated : NothingIsUpdated
-nothing_is_updated s name bytes who u sound pooled kept known read same =
-    let after_is : with_known s (pid_of s.routing name) (λ w. updated s w (decoded bytes)) ≡ running s =
-    ap (λ o. with_known s o (λ w. updated s w (decoded bytes))) known ∙ ap (updated s who) read ∙ ap (retagged s) same ∙ routes_stay s sound pooled kept in
-    let is : next s (Update name bytes) (bare Fine) ≡ running s = λ i. record (after_is i) { table = s.table } in (
-      is,
-      record {
-        answer = subst (λ x. IsBuilt s x none_rebuilt (bare Fine)) (sym is) (nothing_is_said s (running s) refl refl);
-        sound = subst IsSound (sym is) (running_sound s sound);
-      },
-    )

@@ -1,70 +1,72 @@
 -- Any line with a reply that fits leaves a steady state steady.
-use Rattle.std.proofs.Common.{◌≡◌, ℕ, Bool, true, false, cond, ◌&&◌, ◌||◌, List, [], ◌∷◌, ◌++◌, length, map, sym, ap, subst, ◌∙◌, refl}
-use Rattle.std.specs.Prelude.{Option, Some, None, Result, Ok, Err, is_some, slice_set}
+use Rattle.std.proofs.Common.{◌≡◌, ℕ, zero, suc, ◌+◌, ◌≤◌, ◌<◌, Bool, true, false, ◌||◌, List, [], ◌∷◌, ◌++◌, length, map, sym, ap, subst, ◌∙◌, refl, arith, inl, inr}
+use Rattle.std.specs.Prelude.{Option, Some, None, codes, is_some, slice_get}
 use Rattle.std.specs.FinMap.{empty, get, get-empty, values}
 use Rattle.std.specs.List.{list_any}
-use Rattle.std.specs.Option.{option_map_or}
-use Rattle.std.proofs.lemmas.Bool.{or_from}
-use Rattle.events.proofs.Reached.{IsDeclared, runs_sound}
-use Rattle.events.specs.After.{accepted, after, next, next_by, running, settled, updated, with_known, with_participant, with_port, with_told}
-use Rattle.events.specs.Fits.{FitsBy}
+use Rattle.std.specs.Option.{option_map}
+use Rattle.std.proofs.lemmas.List.{length-append}
+use Rattle.events.proofs.Reached.{first_sound, step_sound}
+use Rattle.events.specs.After.{accepted, after, next, next_by, with_participant}
+use Rattle.events.specs.Fits.{FitsBy, IsWellFormed}
 use Rattle.events.specs.Legal.{LegalFrom, state_from}
-use Rattle.events.specs.Refusals.{is_placed, refusal_in_place}
-use Rattle.events.specs.Resolving.{is_answered, port_place, resolved_at, unresolved, with_answer, with_resolved}
+use Rattle.events.specs.Refusals.{refusal}
 use Rattle.events.specs.Sound.{IsSound}
-use Rattle.events.specs.State.{State, Entry, first, port_of, present}
-use Rattle.events.specs.Tags.{is_live, same_tag, tells}
+use Rattle.events.specs.State.{State, first, port_of, present}
+use Rattle.events.specs.Tags.{is_live, retagged, same_tag, tells}
 use Rattle.events.specs.declared.Event.{Event}
-use Rattle.events.specs.declared.Event.TheVariants.{Bad, Exchange, Participant as DeclaresParticipant, Port as DeclaresPort, Update, Drain, Arp, Resolve, Packet, Frame, Table}
 use Rattle.events.specs.declared.Head.{Head}
 use Rattle.events.specs.declared.Head.TheVariants.{Fine, Unrouted, Unresolved, Silent, Refused}
-use Rattle.events.specs.declared.Phase.{Phase}
 use Rattle.events.specs.declared.Phase.TheVariants.{Start, Declaring, Running}
 use Rattle.events.specs.declared.Refusal.{Refusal}
-use Rattle.events.specs.declared.Refusal.TheVariants.{Misplaced}
 use Rattle.events.specs.declared.Reply.{Reply}
-use Rattle.exchange_laws.proofs.DeclaredSteps.{next_declared}
-use Rattle.exchange_laws.proofs.Lists.{clash, place_of}
-use Rattle.exchange_laws.proofs.TagsAfter.{kept_stay_live, tags_stay_pooled}
-use Rattle.exchange_laws.proofs.ToldAnew.{keeps_live, present_are_known, tag_was_live}
-use Rattle.exchange_laws.specs.Retagging.{KeptAreLive, TagsArePooled}
+use Rattle.exchange_laws.proofs.LineSteps.{AllRise, QuietStep, Step, participant, pool, port, quiet, resolved, resolving, routes, step_of, taken, told}
+use Rattle.exchange_laws.proofs.Lists.{TableOf, clash}
+use Rattle.exchange_laws.proofs.NewStates.{no_live, no_route, nothing_told}
+use Rattle.exchange_laws.proofs.OwnHops.{own_hop, stay_apart}
+use Rattle.exchange_laws.proofs.Rerouted.{Rerouted, set_length}
+use Rattle.exchange_laws.proofs.TagsAfter.{kept_stay_live, live_stay_kept, tags_stay_pooled}
+use Rattle.exchange_laws.proofs.ToldAnew.{keeps_live, live_kept, present_are_known, tag_was_live}
+use Rattle.exchange_laws.specs.Retagging.{KeptAreLive, LiveAreKept, TagsArePooled}
 use Rattle.exchange_laws.specs.Rules.{OwnersAreDeclared}
-use Rattle.exchange_laws.specs.Steady.{IsSteady, RunsStaySteady, StartsSteady, StepsStaySteady}
-use Rattle.net_types.proofs.FindLemmas.{slice_get-Member}
+use Rattle.exchange_laws.specs.Steady.{AllDrop, HopsAreOwn, IsNew, IsSized, IsSteady, PortsAreNumbered, PortsDiffer, RoutesAreDeclared, RunsStaySteady, StartsSteady, StepsStaySteady, is_ip_before}
 use Rattle.net_types.proofs.PassLemmas.{any_more}
-use Rattle.net_types.proofs.ValueLemmas.{no_entries}
-use Rattle.net_types.specs.Arp.{asked_ip, asker_mac}
-use Rattle.net_types.specs.Exports.{pid_of}
-use Rattle.net_types.specs.Keys.{ip_cmp, prefix_cmp, tag_cmp}
-use Rattle.net_types.specs.Maps.{ordered}
-use Rattle.net_types.specs.Octets.{same_octets}
-use Rattle.net_types.specs.UpdateReading.{decoded}
-use Rattle.net_types.specs.declared.address.Ip.{Ip}
+use Rattle.net_types.proofs.SetLemmas.{Member-append_cases, map-append}
+use Rattle.net_types.specs.Exports.{Routing}
+use Rattle.net_types.specs.Keys.{tag_cmp}
+use Rattle.net_types.specs.Sets.{IsRising, Member}
+use Rattle.net_types.specs.Signatures.{port_with}
 use Rattle.net_types.specs.declared.address.Pid.{Pid}
-use Rattle.net_types.specs.declared.address.PortNo.{PortNo}
 use Rattle.net_types.specs.declared.address.Tag.{Tag}
-use Rattle.net_types.specs.declared.prefix.Prefix.{Prefix}
 use Rattle.net_types.specs.declared.route.Participant.{Participant}
 use Rattle.net_types.specs.declared.route.PortInfo.{PortInfo}
-use Rattle.net_types.specs.declared.update.Fault.{Fault}
-use Rattle.net_types.specs.declared.update.Update.{Update as Message}
 
--- ---- tags
+-- what holds of a steady state, whatever its table
+pub record IsTidy (s : State) : Type 0 where
+  pub pooled : TagsArePooled s
+  pub kept : KeptAreLive s
+  pub live : LiveAreKept s
+  pub owners : OwnersAreDeclared s.routing
+  pub told : length s.told ≡ length s.routing.participants
+  pub hops : HopsAreOwn s
+  pub routed : RoutesAreDeclared s.routing
+  pub apart : PortsDiffer s.routing.ports
+  pub numbered : PortsAreNumbered s.routing.ports
+  pub rules : length s.routing.rules ≡ length s.routing.participants
+  pub resolved : length s.resolved ≡ length s.routing.ports
+  pub rising : AllRise s.resolved
+  pub few : length s.routing.participants ≤ 256
+  pub drop : AllDrop s
+  pub sized : IsSized s
+  pub new : (s.phase ≡ Running → ⊥) → IsNew s
 
--- what holds of the tags
-record HasTidyTags (s : State) : Type 0 where
-  pooled : TagsArePooled s
-  kept : KeptAreLive s
-  start : s.phase ≡ Start → (t : Tag) → is_live s t ≡ false
+-- ---- the start
 
-nothing_told : (t : Tag) → tells empty t ≡ false
-nothing_told t = ap (λ es. list_any (λ (x : Entry). same_tag x.tag t) (map (λ (d : Prefix × Entry). d.1) es)) (no_entries Prefix Entry prefix_cmp)
+first_new : IsNew first
+first_new = record { routes = refl; tag = refl; kept = refl; told = λ entries m. absurd m }
 
-no_tag : (t : Tag) → list_any (same_tag t) (values (empty {K = Prefix} {X = Tag} {R = prefix_cmp})) ≡ false
-no_tag t = ap (λ es. list_any (same_tag t) (map (λ (d : Prefix × Tag). d.1) es)) (no_entries Prefix Tag prefix_cmp)
-
-first_live : (t : Tag) → is_live first t ≡ false
-first_live t = or_from (list_any (same_tag t) (values first.tag)) false (no_tag t) refl
+no_place : {A : Type 0} (k : ℕ) (x : A) → let none : List A = [] in slice_get none k ≡ Some x → ⊥
+no_place zero x e = cc
+no_place (suc k) x e = cc
 
 not_kept : {X : Type 0} (o : Option X) → o ≡ None → is_some o ≡ true → ⊥
 not_kept None e f = cc
@@ -72,20 +74,32 @@ not_kept (Some x) e f = cc
 
 pub starts_steady : StartsSteady
 starts_steady = record {
-  sound = runs_sound [] [] tt;
-  pooled = λ t live. absurd (clash live (first_live t));
+  sound = first_sound;
+  pooled = λ t live. absurd (clash live (no_live first first_new t));
   kept = λ t there. absurd (not_kept (get first.kept t) (get-empty tag_cmp t) there);
-  owners = λ q m. elim m [ ];
+  live = λ t live. absurd (clash live (no_live first first_new t));
+  owners = λ q m. absurd m;
   told = refl;
-  start = λ phase t. first_live t;
+  hops = λ who p a e. absurd (no_route first first_new (record { from = who; prefix = p }) a e);
+  routed = λ who p a e. absurd (no_route first first_new (record { from = who; prefix = p }) a e);
+  apart = record { numbers = λ i j p q e f same. absurd (no_place i p e); addresses = λ i j p q e f same. absurd (no_place i p e) };
+  numbered = λ q m. absurd m;
+  rules = refl;
+  resolved = refl;
+  rising = λ ips m. absurd m;
+  few = omega arith;
+  drop = record { outbound = refl; inbound = refl };
+  sized = record { start = λ e. refl; small = omega arith; low = λ later. absurd (later refl); high = omega arith; room = omega arith };
+  new = λ later. first_new;
 }
 
-run_tidy : (s : State) → HasTidyTags s → HasTidyTags (running s)
-run_tidy s is = record { pooled = is.pooled; kept = is.kept; start = λ phase t. absurd (cc) }
+-- ---- one line
 
-known_tidy : {X : Type 0} (s : State) (o : Option X) (f : X → State) → HasTidyTags s → ((x : X) → HasTidyTags (f x)) → HasTidyTags (with_known s o f)
-known_tidy s None f is some = is
-known_tidy s (Some x) f is some = some x
+pub not_running : (s : State) → s.phase ≡ Start → s.phase ≡ Running → ⊥
+not_running s e f = cc
+
+pub not_running_yet : (s : State) → s.phase ≡ Declaring → s.phase ≡ Running → ⊥
+not_running_yet s e f = cc
 
 participant_live : (s : State) (m : Participant) (t : Tag) → is_live (with_participant s m) t ≡ is_live s t
 participant_live s m t =
@@ -95,115 +109,256 @@ participant_live s m t =
     or_false true = refl
     or_false false = refl
 
-participant_tidy : (s : State) (m : Participant) → HasTidyTags s → HasTidyTags (with_participant s m)
-participant_tidy s m is = record {
-  pooled = λ t live. is.pooled t (sym (participant_live s m t) ∙ live);
-  kept = λ t there. participant_live s m t ∙ is.kept t there;
-  start = λ phase t. participant_live s m t ∙ is.start phase t;
+-- sizes stay where the pool and the capacity do
+sized_later : (s s1 : State) → IsSized s → (s.phase ≡ Start → ⊥) → (s1.phase ≡ Start → ⊥) → s1.base ≡ s.base → s1.size ≡ s.size → s1.capacity ≡ s.capacity → IsSized s1
+sized_later s s1 is before later base size capacity = record {
+  start = λ e. absurd (later e);
+  small = subst (λ n. n ≤ 65536) (sym size) is.small;
+  low = λ e. subst (λ ip. 16777215 ≤ ip.0) (sym base) (is.low before);
+  high = subst (λ n. s1.base.0 + n ≤ 3758096383) (sym size) (subst (λ ip. ip.0 + s.size ≤ 3758096383) (sym base) is.high);
+  room = subst (λ n. n ≤ 1000000) (sym capacity) is.room;
 }
 
-updated_tidy : (s : State) (who : Pid) (read : Result Message Fault) → HasTidyTags s → HasTidyTags (updated s who read)
-updated_tidy s who (Ok u) is = record { pooled = tags_stay_pooled s _ is.pooled; kept = kept_stay_live s _ is.pooled; start = λ phase t. absurd (cc) }
-updated_tidy s who (Err fault) is = is
+pub quiet_tidy : (s : State) {s1 : State} → QuietStep s s1 → IsTidy s → IsTidy s1
+quiet_tidy s (pool base size capacity start formed) is =
+    let new : IsNew s = is.new (not_running s start) in record {
+      pooled = λ t live. absurd (clash live (no_live s new t));
+      kept = is.kept;
+      live = λ t live. absurd (clash live (no_live s new t));
+      owners = is.owners;
+      told = is.told;
+      hops = is.hops;
+      routed = is.routed;
+      apart = is.apart;
+      numbered = is.numbered;
+      rules = is.rules;
+      resolved = is.resolved;
+      rising = is.rising;
+      few = is.few;
+      drop = record { outbound = is.drop.outbound; inbound = is.drop.inbound };
+      sized = record { start = λ e. absurd (cc); small = formed.1; low = λ e. formed.4; high = formed.5; room = formed.3 };
+      new = λ e. record { routes = new.routes; tag = new.tag; kept = new.kept; told = new.told };
+    }
+quiet_tidy s (participant m declaring few) is =
+    let new : IsNew s = is.new (not_running_yet s declaring) in
+    let more : length (s.routing.participants ++ m ∷ []) ≡ length s.routing.participants + 1 = length-append s.routing.participants (m ∷ []) in record {
+      pooled = λ t live. absurd (clash (sym (participant_live s m t) ∙ live) (no_live s new t));
+      kept = λ t there. participant_live s m t ∙ is.kept t there;
+      live = λ t live. absurd (clash (sym (participant_live s m t) ∙ live) (no_live s new t));
+      owners = λ q stands. let below : q.owner.0 < length s.routing.participants = is.owners q stands in omega arith;
+      told = length-append s.told (empty ∷ []) ∙ ap (λ n. n + 1) is.told ∙ sym more;
+      hops = is.hops;
+      routed = λ who p a e. absurd (no_route s new (record { from = who; prefix = p }) a e);
+      apart = is.apart;
+      numbered = is.numbered;
+      rules = length-append s.routing.rules ([] ∷ []) ∙ ap (λ n. n + 1) is.rules ∙ sym more;
+      resolved = is.resolved;
+      rising = is.rising;
+      few = omega arith;
+      drop = record {
+        outbound = ap (λ texts. texts ++ codes "drop" ∷ []) is.drop.outbound ∙ sym (map-append (λ (x : Participant). codes "drop") s.routing.participants (m ∷ []));
+        inbound = ap (λ texts. texts ++ codes "drop" ∷ []) is.drop.inbound ∙ sym (map-append (λ (x : Participant). codes "drop") s.routing.participants (m ∷ []));
+      };
+      sized = record { start = is.sized.start; small = is.sized.small; low = is.sized.low; high = is.sized.high; room = is.sized.room };
+      new = λ e. record {
+        routes = new.routes;
+        tag = new.tag;
+        kept = new.kept;
+        told = λ entries stands. elim (Member-append_cases s.told (empty ∷ []) entries stands) [
+          | inl there ↦ new.told entries there
+          | inr last ↦ elim last [ inl same ↦ same | inr none ↦ absurd none ]
+        ];
+      };
+    }
+quiet_tidy s (port q declaring declared free number) is =
+    let new : IsNew s = is.new (not_running_yet s declaring) in record {
+      pooled = is.pooled;
+      kept = is.kept;
+      live = is.live;
+      owners = λ x stands. elim (Member-append_cases s.routing.ports (q ∷ []) x stands) [
+        | inl there ↦ is.owners x there
+        | inr last ↦ elim last [ inl same ↦ subst (λ (y : PortInfo). y.owner.0 < length s.routing.participants) (sym same) declared | inr none ↦ absurd none ]
+      ];
+      told = is.told;
+      hops = λ who p a e. absurd (no_route s new (record { from = who; prefix = p }) a e);
+      routed = λ who p a e. absurd (no_route s new (record { from = who; prefix = p }) a e);
+      apart = stay_apart s q free is.apart;
+      numbered = λ x stands. elim (Member-append_cases s.routing.ports (q ∷ []) x stands) [
+        | inl there ↦ is.numbered x there
+        | inr last ↦ elim last [ inl same ↦ subst (λ (y : PortInfo). (1 ≤ y.number.0) × (y.number.0 ≤ 65279)) (sym same) number | inr none ↦ absurd none ]
+      ];
+      rules = is.rules;
+      resolved = length-append s.resolved ([] ∷ []) ∙ ap (λ n. n + 1) is.resolved ∙ sym (length-append s.routing.ports (q ∷ []));
+      rising = λ ips stands. elim (Member-append_cases s.resolved ([] ∷ []) ips stands) [
+        | inl there ↦ is.rising ips there
+        | inr last ↦ elim last [ inl same ↦ subst (IsRising is_ip_before) (sym same) tt | inr none ↦ absurd none ]
+      ];
+      few = is.few;
+      drop = record { outbound = is.drop.outbound; inbound = is.drop.inbound };
+      sized = record { start = is.sized.start; small = is.sized.small; low = is.sized.low; high = is.sized.high; room = is.sized.room };
+      new = λ e. record { routes = new.routes; tag = new.tag; kept = new.kept; told = new.told };
+    }
+quiet_tidy s (resolved lists later long rising) is = record {
+  pooled = is.pooled;
+  kept = is.kept;
+  live = is.live;
+  owners = is.owners;
+  told = is.told;
+  hops = is.hops;
+  routed = is.routed;
+  apart = is.apart;
+  numbered = is.numbered;
+  rules = is.rules;
+  resolved = long ∙ is.resolved;
+  rising = rising is.rising;
+  few = is.few;
+  drop = record { outbound = is.drop.outbound; inbound = is.drop.inbound };
+  sized = sized_later s (resolving s lists) is.sized later (λ e. cc) refl refl refl;
+  new = λ e. absurd (e refl);
+}
 
-told_tidy : (s : State) (who : Pid) → HasTidyTags s → HasTidyTags (settled (running (with_told s who (present s who))))
-told_tidy s who is = record {
+routes_tidy : (s : State) (e : Event) (after : Rerouted s e) → (s.phase ≡ Start → ⊥) → IsTidy s → IsTidy (retagged s after.routing)
+routes_tidy s e after later is =
+    let r : Routing = after.routing in
+    let declared : length r.participants ≡ length s.routing.participants = ap length after.alike.participants in record {
+      pooled = tags_stay_pooled s r is.pooled;
+      kept = kept_stay_live s r is.pooled;
+      live = live_stay_kept s r is.pooled is.live;
+      owners = λ q m. let below : q.owner.0 < length s.routing.participants = is.owners q (subst (Member q) after.alike.ports m) in omega arith;
+      told = is.told ∙ sym declared;
+      hops = λ who p a has. ap (λ ports. option_map (λ (x : PortInfo). x.owner) (port_of (record s { routing = record s.routing { ports = ports } }) (port_with ports a.next_hop))) after.alike.ports
+          ∙ elim (after.each who p a has) [ inl there ↦ is.hops who p a there | inr own ↦ own_hop s is.apart who a.next_hop own.hop ];
+      routed = λ who p a has. subst (λ n. who.0 < n) (sym declared) (elim (after.each who p a has) [ inl there ↦ is.routed who p a there | inr own ↦ own.declared ]);
+      apart = subst PortsDiffer (sym after.alike.ports) is.apart;
+      numbered = subst PortsAreNumbered (sym after.alike.ports) is.numbered;
+      rules = after.rules ∙ is.rules ∙ sym declared;
+      resolved = is.resolved ∙ ap length (sym after.alike.ports);
+      rising = is.rising;
+      few = subst (λ n. n ≤ 256) (sym declared) is.few;
+      drop = record {
+        outbound = is.drop.outbound ∙ ap (map (λ (x : Participant). codes "drop")) (sym after.alike.participants);
+        inbound = is.drop.inbound ∙ ap (map (λ (x : Participant). codes "drop")) (sym after.alike.participants);
+      };
+      sized = sized_later s (retagged s r) is.sized later (λ e. cc) refl refl refl;
+      new = λ e. absurd (e refl);
+    }
+
+told_tidy : (s : State) (who : Pid) → (s.phase ≡ Start → ⊥) → IsTidy s → IsTidy (taken s who)
+told_tidy s who later is = record {
   pooled = λ t live. is.pooled t (tag_was_live s who (present s who) (present_are_known s who) t live);
   kept = keeps_live s who (present s who);
-  start = λ phase t. absurd (cc);
+  live = live_kept s who (present s who) (present_are_known s who) is.live;
+  owners = is.owners;
+  told = set_length s.told who.0 (present s who) ∙ is.told;
+  hops = is.hops;
+  routed = is.routed;
+  apart = is.apart;
+  numbered = is.numbered;
+  rules = is.rules;
+  resolved = is.resolved;
+  rising = is.rising;
+  few = is.few;
+  drop = record { outbound = is.drop.outbound; inbound = is.drop.inbound };
+  sized = sized_later s (taken s who) is.sized later (λ e. cc) refl refl refl;
+  new = λ e. absurd (e refl);
 }
 
-resolved_tidy : (s : State) (n : PortNo) (ips : List Ip) → HasTidyTags s → HasTidyTags (with_resolved s n ips)
-resolved_tidy s n ips is = at (port_place s n)
-  where
-    at : (o : Option ℕ) → HasTidyTags (option_map_or (λ place. let x : State = record s { resolved = slice_set s.resolved place (ordered ip_cmp (resolved_at s n ++ ips)) } in x) o s)
-    at None = is
-    at (Some place) = record { pooled = is.pooled; kept = is.kept; start = is.start }
+step_tidy : (s : State) (e : Event) {s1 : State} → Step s e s1 → IsTidy s → IsTidy s1
+step_tidy s e (quiet s1 step) is = quiet_tidy s step is
+step_tidy s e (routes after later) is = routes_tidy s e after later is
+step_tidy s e (told who later) is = told_tidy s who later is
 
-answer_tidy : (s : State) (q : PortInfo) (frame : List ℕ) → HasTidyTags s → HasTidyTags (with_answer s q frame)
-answer_tidy s q frame is = by (is_answered s frame && same_octets (asker_mac frame).0 q.mac.0)
-  where
-    by : (b : Bool) → HasTidyTags (cond b (with_resolved s q.number (asked_ip frame ∷ [])) s)
-    by true = resolved_tidy s q.number (asked_ip frame ∷ []) is
-    by false = is
+-- the table is another one
+retable : (s : State) (table : TableOf) → IsTidy s → IsTidy (record s { table = table })
+retable s table is = record {
+  pooled = is.pooled;
+  kept = is.kept;
+  live = is.live;
+  owners = is.owners;
+  told = is.told;
+  hops = is.hops;
+  routed = is.routed;
+  apart = is.apart;
+  numbered = is.numbered;
+  rules = is.rules;
+  resolved = is.resolved;
+  rising = is.rising;
+  few = is.few;
+  drop = record { outbound = is.drop.outbound; inbound = is.drop.inbound };
+  sized = record { start = is.sized.start; small = is.sized.small; low = is.sized.low; high = is.sized.high; room = is.sized.room };
+  new = λ e. let new = is.new e in record { routes = new.routes; tag = new.tag; kept = new.kept; told = new.told };
+}
 
--- the pool is given only at the start
-at_start : (phase : Phase) (base : Ip) (size capacity : ℕ) → is_placed phase (Exchange base size capacity) ≡ true → phase ≡ Start
-at_start Start base size capacity e = refl
-at_start Declaring base size capacity e = cc
-at_start Running base size capacity e = cc
+-- ---- any reply
 
-after_tidy : (s : State) (e : Event) → is_placed s.phase e ≡ true → HasTidyTags s → HasTidyTags (after s e)
-after_tidy s Bad placed is = is
-after_tidy s (Exchange base size capacity) placed is =
-    let none : (t : Tag) → is_live s t ≡ false = is.start (at_start s.phase base size capacity placed) in
-    record { pooled = λ t live. absurd (clash live (none t)); kept = is.kept; start = λ phase t. none t }
-after_tidy s (DeclaresParticipant name asn id) placed is = participant_tidy s (record { name = name; asn = asn; id = id }) is
-after_tidy s (DeclaresPort name number ip mac) placed is =
-    known_tidy s (pid_of s.routing name) (λ who. with_port s (record { owner = who; number = number; ip = ip; mac = mac })) is (λ who. record { pooled = is.pooled; kept = is.kept; start = is.start })
-after_tidy s (Update name bytes) placed is = known_tidy s (pid_of s.routing name) (λ who. updated s who (decoded bytes)) is (λ who. updated_tidy s who (decoded bytes) is)
-after_tidy s (Drain name) placed is = known_tidy s (pid_of s.routing name) (λ who. settled (running (with_told s who (present s who)))) is (λ who. told_tidy s who is)
-after_tidy s (Arp port bytes) placed is = known_tidy s (port_of s port) (λ q. running (with_answer s q bytes)) is (λ q. run_tidy (with_answer s q bytes) (answer_tidy s q bytes is))
-after_tidy s (Resolve port) placed is =
-    known_tidy s (port_of s port) (λ q. running (with_resolved s port (unresolved s q))) is (λ q. run_tidy (with_resolved s port (unresolved s q)) (resolved_tidy s port (unresolved s q) is))
-after_tidy s (Packet port bytes) placed is = run_tidy s is
-after_tidy s (Frame port bytes) placed is = run_tidy s is
-after_tidy s Table placed is = run_tidy s is
+pub tidy : (s : State) → IsSteady s → IsTidy s
+tidy s steady = record {
+  pooled = steady.pooled;
+  kept = steady.kept;
+  live = steady.live;
+  owners = steady.owners;
+  told = steady.told;
+  hops = steady.hops;
+  routed = steady.routed;
+  apart = steady.apart;
+  numbered = steady.numbered;
+  rules = steady.rules;
+  resolved = steady.resolved;
+  rising = steady.rising;
+  few = steady.few;
+  drop = steady.drop;
+  sized = steady.sized;
+  new = steady.new;
+}
 
-accepted_tidy : (s : State) (e : Event) (r : Reply) → is_placed s.phase e ≡ true → HasTidyTags s → HasTidyTags (accepted s e r)
-accepted_tidy s e r placed is = let later : HasTidyTags (after s e) = after_tidy s e placed is in record { pooled = later.pooled; kept = later.kept; start = later.start }
+module _ (s : State) (e : Event) (r : Reply) (steady : IsSteady s) (formed : IsWellFormed e) where
+  accepted_tidy : refusal s e ≡ None → IsTidy (accepted s e r)
+  accepted_tidy none = retable (after s e) _ (step_tidy s e (step_of s e none formed) (tidy s steady))
 
-next_tidy : (s : State) (e : Event) (r : Reply) (h : Head) → is_placed s.phase e ≡ true → HasTidyTags s → HasTidyTags (next_by h s e r)
-next_tidy s e r (Refused why) placed is = is
-next_tidy s e r Fine placed is = accepted_tidy s e r placed is
-next_tidy s e r Unrouted placed is = accepted_tidy s e r placed is
-next_tidy s e r (Unresolved ip) placed is = accepted_tidy s e r placed is
-next_tidy s e r Silent placed is = accepted_tidy s e r placed is
+  next_tidy : refusal s e ≡ None → (h : Head) → IsTidy (next_by h s e r)
+  next_tidy none (Refused why) = tidy s steady
+  next_tidy none Fine = accepted_tidy none
+  next_tidy none Unrouted = accepted_tidy none
+  next_tidy none (Unresolved ip) = accepted_tidy none
+  next_tidy none Silent = accepted_tidy none
 
--- ---- what is declared
-
-pub places_declared : (s : State) → OwnersAreDeclared s.routing → length s.told ≡ length s.routing.participants → IsDeclared s
-places_declared s owners told = record { owners = λ k q at. owners q (slice_get-Member s.routing.ports k q at); told = told }
-
-pub declared_owners : (s : State) → IsDeclared s → OwnersAreDeclared s.routing
-declared_owners s is q m = let place = place_of s.routing.ports q m in is.owners place.0 q place.1
-
--- ---- one line
-
-module _ (s : State) (e : Event) (r : Reply) (steady : IsSteady s) where
-  tidy : HasTidyTags s
-  tidy = record { pooled = steady.pooled; kept = steady.kept; start = steady.start }
-
-  taken : is_placed s.phase e ≡ true → IsSound (next s e r) → IsSteady (next s e r)
-  taken placed sound =
-      let tags : HasTidyTags (next s e r) = next_tidy s e r r.head placed tidy in
-      let declared : IsDeclared (next s e r) = next_declared s e r r.head (places_declared s steady.owners steady.told) in record {
+  passed : refusal s e ≡ None → IsSound (next s e r) → IsSteady (next s e r)
+  passed none sound =
+      let is : IsTidy (next s e r) = next_tidy none r.head in record {
         sound = sound;
-        pooled = tags.pooled;
-        kept = tags.kept;
-        owners = declared_owners (next s e r) declared;
-        told = declared.told;
-        start = tags.start;
+        pooled = is.pooled;
+        kept = is.kept;
+        live = is.live;
+        owners = is.owners;
+        told = is.told;
+        hops = is.hops;
+        routed = is.routed;
+        apart = is.apart;
+        numbered = is.numbered;
+        rules = is.rules;
+        resolved = is.resolved;
+        rising = is.rising;
+        few = is.few;
+        drop = is.drop;
+        sized = is.sized;
+        new = is.new;
       }
 
-  step : (b : Bool) → is_placed s.phase e ≡ b → FitsBy (cond b (refusal_in_place s e) (Some Misplaced)) s e r → IsSteady (next s e r)
-  step false placed fits = subst (λ x. IsSteady (next s e x)) (sym fits) steady
-  step true placed fits = by (refusal_in_place s e) fits
-    where
-      by : (o : Option Refusal) → FitsBy o s e r → IsSteady (next s e r)
-      by (Some why) fits = subst (λ x. IsSteady (next s e x)) (sym fits) steady
-      by None fits = taken placed fits.sound
+  step : (o : Option Refusal) → refusal s e ≡ o → FitsBy o s e r → IsSteady (next s e r)
+  step (Some why) is fits = subst (λ x. IsSteady (next s e x)) (sym fits) steady
+  step None none fits = passed none (step_sound s e r None steady.sound fits)
 
 pub steps_stay_steady : StepsStaySteady
-steps_stay_steady s e r steady fits = step s e r steady (is_placed s.phase e) refl fits
+steps_stay_steady s e r steady formed fits = step s e r steady formed (refusal s e) refl fits
 
 -- ---- a run
 
-from_steady : (s : State) (es : List Event) (rs : List Reply) → IsSteady s → LegalFrom s es rs → IsSteady (state_from s es rs)
-from_steady s [] [] steady legal = steady
-from_steady s [] (r ∷ rs) steady legal = absurd legal
-from_steady s (e ∷ es) [] steady legal = absurd legal
-from_steady s (e ∷ es) (r ∷ rs) steady legal = from_steady (next s e r) es rs (steps_stay_steady s e r steady legal.0) legal.1
+from_steady : (s : State) (es : List Event) (rs : List Reply) → ((e : Event) → Member e es → IsWellFormed e) → IsSteady s → LegalFrom s es rs → IsSteady (state_from s es rs)
+from_steady s [] [] formed steady legal = steady
+from_steady s [] (r ∷ rs) formed steady legal = absurd legal
+from_steady s (e ∷ es) [] formed steady legal = absurd legal
+from_steady s (e ∷ es) (r ∷ rs) formed steady legal =
+    from_steady (next s e r) es rs (λ x m. formed x (inr m)) (steps_stay_steady s e r steady (formed e (inl refl)) legal.0) legal.1
 
 pub runs_stay_steady : RunsStaySteady
-runs_stay_steady es rs legal = from_steady first es rs starts_steady legal
+runs_stay_steady es rs formed legal = from_steady first es rs formed starts_steady legal

@@ -11,7 +11,7 @@ use Rattle.exchange_laws.proofs.FreshTags.{carried_announced, changed_have_fresh
 use Rattle.exchange_laws.proofs.Lists.{clash, cond_there, get_tabulated, is_some_of, some_of}
 use Rattle.exchange_laws.proofs.Sames.{signatures_test, tag_itself, tag_same, tags_test}
 use Rattle.exchange_laws.specs.Fresh.{HasEnoughTags}
-use Rattle.exchange_laws.specs.Retagging.{CarriedHaveTags, KeptStayLive, LiveTagsStay, SignaturesAreKept, TagsArePooled, TagsStayPooled}
+use Rattle.exchange_laws.specs.Retagging.{CarriedHaveTags, KeptStayLive, LiveStayKept, LiveTagsStay, SignaturesAreKept, TagsArePooled, TagsStayPooled}
 use Rattle.net_types.proofs.FindLemmas.{any_at, find-IsFound, find_none}
 use Rattle.net_types.proofs.OrderLemmas.{prefix_tie, prefixes_total, tags_total}
 use Rattle.net_types.proofs.PassLemmas.{is_some-any, some_there}
@@ -32,11 +32,11 @@ pub live_of : (s : State) (p : Prefix) (t : Tag) → get s.tag p ≡ Some t → 
 live_of s p t is = or_left (list_any (same_tag t) (values s.tag)) (list_any (λ entries. tells entries t) s.told) (any_value prefix_cmp prefixes_total (same_tag t) s.tag p t is (tag_itself t))
 
 -- a live tag is a prefix's, or somebody was told it
-record HasTag (s : State) (t : Tag) : Type 0 where
-  prefix : Prefix
-  tagged : get s.tag prefix ≡ Some t
+pub record HasTag (s : State) (t : Tag) : Type 0 where
+  pub prefix : Prefix
+  pub tagged : get s.tag prefix ≡ Some t
 
-live_cases : (s : State) (t : Tag) → is_live s t ≡ true → HasTag s t ⊎ (list_any (λ entries. tells entries t) s.told ≡ true)
+pub live_cases : (s : State) (t : Tag) → is_live s t ≡ true → HasTag s t ⊎ (list_any (λ entries. tells entries t) s.told ≡ true)
 live_cases s t live = elim (or_cases (list_any (same_tag t) (values s.tag)) (list_any (λ entries. tells entries t) s.told) live) [
   | inl has ↦ let v = value_at prefix_cmp prefixes_total (same_tag t) s.tag has in inl (record { prefix = v.key; tagged = v.there ∙ ap Some (sym (tag_same t v.value v.passes)) })
   | inr told ↦ inr told
@@ -149,3 +149,12 @@ signatures_are_kept s r pooled p t is =
           let same = unchanged s r p before.0 in
           old_signature s r t (live_of s p t before.1) ∙ ap (get s.kept) (some_of t same.tag (sym before.1 ∙ same.tagged)) ∙ same.kept
     ]
+
+-- a tag that is live is a prefix's, whose signature is kept, or was live before
+pub live_stay_kept : LiveStayKept
+live_stay_kept s r pooled live t is = elim (live_cases (retagged s r) t is) [
+  | inl has ↦ ap is_some (signatures_are_kept s r pooled has.prefix t has.tagged)
+  | inr told ↦
+      let was : is_live s t ≡ true = or_right (list_any (same_tag t) (values s.tag)) (list_any (λ entries. tells entries t) s.told) told in
+      ap is_some (live_tags_stay s r pooled t was is) ∙ live t was
+]

@@ -12,7 +12,8 @@ use Rattle.std.proofs.lemmas.List.Sums.{sum_by-cons}
 use Rattle.events.specs.After.{next, next_by, put_flows, running, settled, with_known, with_told, without_pairs}
 use Rattle.events.specs.Fits.{IsAccepted, IsTaken, dropped, none_rebuilt}
 use Rattle.events.specs.Sound.{IsRight, IsSound, owners_part, part_of, rule_count}
-use Rattle.events.specs.State.{State, Entry, port_of, present, told_to}
+use Rattle.events.specs.State.{State, port_of, present, told_to}
+use Rattle.events.specs.declared.Entry.{Entry}
 use Rattle.events.specs.Tags.{is_live, is_live_pair, same_tag, tells}
 use Rattle.events.specs.declared.Event.TheVariants.{Drain}
 use Rattle.events.specs.declared.Reply.{Reply}
@@ -20,7 +21,8 @@ use Rattle.exchange_laws.proofs.Flows.{get_undropped}
 use Rattle.exchange_laws.proofs.Lists.{clash, cond_there}
 use Rattle.exchange_laws.proofs.LivePairs.{live_at, live_from, live_tag, present_tag, told_live}
 use Rattle.exchange_laws.proofs.TagsAfter.{live_of}
-use Rattle.exchange_laws.specs.Telling.{AreKnownTo, DrainsAreAccepted, GonePairsWereTold, GoneTagsWereTold, PresentAreKnown, TellingKeepsLive, TellingStaysPooled, TellingStaysSound, told_anew}
+use Rattle.exchange_laws.specs.Retagging.{LiveAreKept}
+use Rattle.exchange_laws.specs.Telling.{AreKnownTo, DrainsAreAccepted, GonePairsWereTold, GoneTagsWereTold, PresentAreKnown, TellingKeepsLive, TellingStaysKept, TellingStaysPooled, TellingStaysSound, told_anew}
 use Rattle.net_types.proofs.OrderLemmas.{pairs_total}
 use Rattle.net_types.proofs.TieLemmas.{pair_cmp-IsAntisymmetric, tag_cmp-IsAntisymmetric}
 use Rattle.net_types.specs.Exports.{pid_of}
@@ -149,6 +151,10 @@ module _ (s : State) (who : Pid) (es : FinMap prefix_cmp Entry) where
       ]
     ]
 
+    -- a live tag's signature is still kept
+    pub live_kept : LiveAreKept s → (t : Tag) → is_live s1 t ≡ true → is_some (get s1.kept t) ≡ true
+    live_kept kept t live = ap is_some (kept_is t ∙ ap (λ b. cond b (get s.kept t) None) live) ∙ kept t (tag_was_live t live)
+
     told_before : (w : Pid) (t : Tag) → tells (told_to s1 w) t ≡ true → (tells (told_to s w) t || tells (present s w) t) ≡ true
     told_before w t told = elim (get_set s.told who.0 w.0 es empty) [
       | inl same ↦ or_left (tells (told_to s w) t) (tells (present s w) t) (ap (λ e. tells e t) (sym same) ∙ told)
@@ -218,6 +224,9 @@ telling_stays_sound s who entries sound known = told_sound s who entries known s
 
 pub telling_stays_pooled : TellingStaysPooled
 telling_stays_pooled s who entries pooled known t live = pooled t (tag_was_live s who entries known t live)
+
+pub telling_stays_kept : TellingStaysKept
+telling_stays_kept s who entries kept known t live = live_kept s who entries known kept t live
 
 pub telling_keeps_live : TellingKeepsLive
 telling_keeps_live s who entries t there = keeps_live s who entries t there

@@ -4,7 +4,8 @@ use Rattle.std.specs.FinMap.{FinMap, get, keys}
 use Rattle.events.specs.Fits.{added, dropped}
 use Rattle.events.specs.Refusals.{live_pairs}
 use Rattle.events.specs.Sound.{IsSound, rule_count}
-use Rattle.events.specs.State.{State, Entry}
+use Rattle.events.specs.State.{State}
+use Rattle.events.specs.declared.Entry.{Entry}
 use Rattle.events.specs.Tags.{free_tags, is_live, retagged, tags}
 use Rattle.exchange_laws.specs.Replies.{IsBuiltOn}
 use Rattle.exchange_laws.specs.Retagging.{TagsArePooled}

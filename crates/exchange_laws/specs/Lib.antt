@@ -8,3 +8,5 @@ pub mod Touched
 pub mod Counts
 pub mod Steady
 pub mod Listed
+pub mod Rerouting
+pub mod Quiet

@@ -1,22 +1,17 @@
 -- What the reply to a line that builds rules puts into the table (this exchange's own rule).
-use Rattle.std.specs.Prelude.{◌≡◌, ℕ, ◌≤◌, Bool, true, false, ◌||◌, List, [], Ok, Some, is_none}
+use Rattle.std.specs.Prelude.{◌≡◌, Bool, true, false, ◌||◌, List, [], Some, is_none}
 use Rattle.std.specs.FinMap.{FinMap, get}
-use Rattle.events.specs.After.{next, put_flows, with_update, without_pairs}
-use Rattle.events.specs.Fits.{IsAccepted, IsBuilt, added, dropped, none_rebuilt}
-use Rattle.events.specs.Sound.{IsSound, rule_count}
+use Rattle.events.specs.After.{put_flows, without_pairs}
+use Rattle.events.specs.Fits.{added, dropped, none_rebuilt}
+use Rattle.events.specs.Sound.{IsSound}
 use Rattle.events.specs.State.{State}
 use Rattle.events.specs.Tags.{is_live_pair, retagged}
-use Rattle.events.specs.declared.Event.TheVariants.{Update}
-use Rattle.events.specs.declared.Reply.{Reply}
 use Rattle.exchange_laws.specs.Retagging.{TagsArePooled}
-use Rattle.exchange_laws.specs.Rules.{IsChange, IsTableAfter, table_after}
+use Rattle.exchange_laws.specs.Rules.{IsTableAfter, table_after}
 use Rattle.net_types.specs.Keys.{pair_cmp}
-use Rattle.net_types.specs.Exports.{Routing, pid_of}
-use Rattle.net_types.specs.UpdateReading.{decoded}
-use Rattle.net_types.specs.declared.address.Pid.{Pid}
+use Rattle.net_types.specs.Exports.{Routing}
 use Rattle.net_types.specs.declared.rule.Pair.{Pair}
 use Rattle.net_types.specs.declared.rule.Rule.{Rule}
-use Rattle.net_types.specs.declared.update.Update.{Update as Message}
 
 -- A pair that stays and isn't built anew keeps its rules, and one that is new or built anew has some.
 pub record IsBuiltOn (s s1 : State) (is_rebuilt : Pair → Bool) : Type 0 where
@@ -38,14 +33,6 @@ abbrev pub ChangesAreBuilt : Type 0
 ChangesAreBuilt =
     (s : State) (r : Routing) (table : FinMap pair_cmp (List Rule)) → IsSound s → IsTableAfter s (retagged s r) table → HasNewRules s table
     → IsBuiltOn s (record (retagged s r) { table = table }) none_rebuilt
-
--- an UPDATE is accepted with the reply that says what is dropped and added, and the state is the one with the new routes and rules
-abbrev pub UpdatesAreAccepted : Type 0
-UpdatesAreAccepted =
-    (s : State) (name bytes : List ℕ) (who : Pid) (u : Message) (table : FinMap pair_cmp (List Rule)) (reply : Reply) → pid_of s.routing name ≡ Some who → decoded bytes ≡ Ok u
-    → let r = with_update s.routing who u in IsChange s r → IsTableAfter s (retagged s r) table → HasNewRules s table
-    → let s1 = record (retagged s r) { table = table } in rule_count s1 ≤ s.capacity → IsBuilt s s1 none_rebuilt reply
-    → (next s (Update name bytes) reply ≡ s1) × IsAccepted s (Update name bytes) reply
 
 -- the default rules are rules
 abbrev pub DefaultsAreRules : Type 0

@@ -18,6 +18,10 @@ TagsArePooled s = (t : Tag) → is_live s t ≡ true → Member t (tags s)
 abbrev pub KeptAreLive : State → Type 0
 KeptAreLive s = (t : Tag) → is_some (get s.kept t) ≡ true → is_live s t ≡ true
 
+-- each live tag is kept
+abbrev pub LiveAreKept : State → Type 0
+LiveAreKept s = (t : Tag) → is_live s t ≡ true → is_some (get s.kept t) ≡ true
+
 -- exactly the carried prefixes have a tag
 abbrev pub CarriedHaveTags : Type 0
 CarriedHaveTags = (s : State) (r : Routing) → HasEnoughTags s r → (p : Prefix) → is_some (get (retagged s r).tag p) ≡ is_carried r p
@@ -39,3 +43,7 @@ TagsStayPooled = (s : State) (r : Routing) → TagsArePooled s → TagsArePooled
 -- and each tag that is kept is live
 abbrev pub KeptStayLive : Type 0
 KeptStayLive = (s : State) (r : Routing) → TagsArePooled s → KeptAreLive (retagged s r)
+
+-- and each live tag is kept
+abbrev pub LiveStayKept : Type 0
+LiveStayKept = (s : State) (r : Routing) → TagsArePooled s → LiveAreKept s → LiveAreKept (retagged s r)

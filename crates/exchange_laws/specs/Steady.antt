@@ -1,36 +1,102 @@
 -- What holds of the state between any two lines (this exchange's own rule).
-use Rattle.std.specs.Prelude.{◌≡◌, false, List, length}
+use Rattle.std.specs.Prelude.{◌≡◌, ℕ, ◌+◌, ◌≤◌, ◌<◌, Bool, List, codes, length, map, slice_get, Some}
+use Rattle.std.specs.FinMap.{FinMap, empty}
+use Rattle.std.specs.Option.{option_map}
+use Rattle.std.specs.Ordering.{is_lt}
 use Rattle.events.specs.After.{next}
-use Rattle.events.specs.Fits.{Fits}
+use Rattle.events.specs.Fits.{Fits, IsWellFormed}
 use Rattle.events.specs.Legal.{Legal, state_after}
 use Rattle.events.specs.Sound.{IsSound}
-use Rattle.events.specs.State.{State, first}
-use Rattle.events.specs.Tags.{is_live}
+use Rattle.events.specs.State.{State, first, port_of}
+use Rattle.events.specs.declared.Entry.{Entry}
 use Rattle.events.specs.declared.Event.{Event}
-use Rattle.events.specs.declared.Phase.TheVariants.{Start}
+use Rattle.events.specs.declared.Phase.TheVariants.{Running, Start}
 use Rattle.events.specs.declared.Reply.{Reply}
-use Rattle.exchange_laws.specs.Retagging.{KeptAreLive, TagsArePooled}
+use Rattle.exchange_laws.specs.Retagging.{KeptAreLive, LiveAreKept, TagsArePooled}
 use Rattle.exchange_laws.specs.Rules.{OwnersAreDeclared}
-use Rattle.net_types.specs.declared.address.Tag.{Tag}
+use Rattle.net_types.specs.Exports.{Routing, route}
+use Rattle.net_types.specs.Keys.{ip_cmp, prefix_cmp}
+use Rattle.net_types.specs.Sets.{IsRising, Member}
+use Rattle.net_types.specs.Signatures.{port_with}
+use Rattle.net_types.specs.declared.address.Ip.{Ip}
+use Rattle.net_types.specs.declared.address.Pid.{Pid}
+use Rattle.net_types.specs.declared.prefix.Prefix.{Prefix}
+use Rattle.net_types.specs.declared.route.Attrs.{Attrs}
+use Rattle.net_types.specs.declared.route.PortInfo.{PortInfo}
 
--- The state is sound, the live tags are the pool's, what is kept is live, and each port and each map of what was told is a
--- declared participant's. At the start no tag is live.
+-- each route's NEXT_HOP is at a port of its participant
+abbrev pub HopsAreOwn : State → Type 0
+HopsAreOwn s =
+    (who : Pid) (p : Prefix) (attrs : Attrs) → route s.routing who p ≡ Some attrs
+    → option_map (λ (x : PortInfo). x.owner) (port_of s (port_with s.routing.ports attrs.next_hop)) ≡ Some who
+
+-- each route is a declared participant's
+abbrev pub RoutesAreDeclared : Routing → Type 0
+RoutesAreDeclared r = (who : Pid) (p : Prefix) (attrs : Attrs) → route r who p ≡ Some attrs → who.0 < length r.participants
+
+-- two ports differ in number and in address
+pub record PortsDiffer (ports : List PortInfo) : Type 0 where
+  pub numbers : (i j : ℕ) (p q : PortInfo) → slice_get ports i ≡ Some p → slice_get ports j ≡ Some q → p.number.0 ≡ q.number.0 → i ≡ j
+  pub addresses : (i j : ℕ) (p q : PortInfo) → slice_get ports i ≡ Some p → slice_get ports j ≡ Some q → p.ip.0 ≡ q.ip.0 → i ≡ j
+
+-- the number of each port is one that a line may have
+abbrev pub PortsAreNumbered : List PortInfo → Type 0
+PortsAreNumbered ports = (q : PortInfo) → Member q ports → (1 ≤ q.number.0) × (q.number.0 ≤ 65279)
+
+-- each participant's policies are the text `drop`
+pub record AllDrop (s : State) : Type 0 where
+  pub outbound : s.outbound ≡ map (λ m. codes "drop") s.routing.participants
+  pub inbound : s.inbound ≡ map (λ m. codes "drop") s.routing.participants
+
+-- the pool and the table are as large as a line may say, and at the start there is no pool
+pub record IsSized (s : State) : Type 0 where
+  pub start : s.phase ≡ Start → s.size ≡ 0
+  pub small : s.size ≤ 65536
+  pub low : (s.phase ≡ Start → ⊥) → 16777215 ≤ s.base.0
+  pub high : s.base.0 + s.size ≤ 3758096383
+  pub room : s.capacity ≤ 1000000
+
+-- one address comes before another
+abbrev pub is_ip_before : Ip → Ip → Bool
+is_ip_before a b = is_lt (ip_cmp a b)
+
+-- there are no routes and no tags, and nobody was told anything
+pub record IsNew (s : State) : Type 0 where
+  pub routes : s.routing.routes ≡ empty
+  pub tag : s.tag ≡ empty
+  pub kept : s.kept ≡ empty
+  pub told : (entries : FinMap prefix_cmp Entry) → Member entries s.told → entries ≡ empty
+
+-- The state is sound. The live tags are the pool's, and exactly they are kept. Each port, each route and each map of what
+-- was told is a declared participant's, ports differ, and each NEXT_HOP is at a port of its route's participant. The lists
+-- are as long as what is declared, all policies drop, and nothing is there before the exchange runs.
 pub record IsSteady (s : State) : Type 0 where
   pub sound : IsSound s
   pub pooled : TagsArePooled s
   pub kept : KeptAreLive s
+  pub live : LiveAreKept s
   pub owners : OwnersAreDeclared s.routing
   pub told : length s.told ≡ length s.routing.participants
-  pub start : s.phase ≡ Start → (t : Tag) → is_live s t ≡ false
+  pub hops : HopsAreOwn s
+  pub routed : RoutesAreDeclared s.routing
+  pub apart : PortsDiffer s.routing.ports
+  pub numbered : PortsAreNumbered s.routing.ports
+  pub rules : length s.routing.rules ≡ length s.routing.participants
+  pub resolved : length s.resolved ≡ length s.routing.ports
+  pub rising : (ips : List Ip) → Member ips s.resolved → IsRising is_ip_before ips
+  pub few : length s.routing.participants ≤ 256
+  pub drop : AllDrop s
+  pub sized : IsSized s
+  pub new : (s.phase ≡ Running → ⊥) → IsNew s
 
 -- the state before the first line is steady
 abbrev pub StartsSteady : Type 0
 StartsSteady = IsSteady first
 
--- any line with a reply that fits leaves a steady state steady
+-- any line that can be written, with a reply that fits, leaves a steady state steady
 abbrev pub StepsStaySteady : Type 0
-StepsStaySteady = (s : State) (e : Event) (r : Reply) → IsSteady s → Fits s e r → IsSteady (next s e r)
+StepsStaySteady = (s : State) (e : Event) (r : Reply) → IsSteady s → IsWellFormed e → Fits s e r → IsSteady (next s e r)
 
 -- so the state after any legal run is steady
 abbrev pub RunsStaySteady : Type 0
-RunsStaySteady = (es : List Event) (rs : List Reply) → Legal es rs → IsSteady (state_after es rs)
+RunsStaySteady = (es : List Event) (rs : List Reply) → ((e : Event) → Member e es → IsWellFormed e) → Legal es rs → IsSteady (state_after es rs)

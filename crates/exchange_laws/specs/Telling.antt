@@ -4,11 +4,12 @@ use Rattle.std.specs.FinMap.{FinMap, retain_keys}
 use Rattle.events.specs.After.{next, running, settled, with_told}
 use Rattle.events.specs.Fits.{IsAccepted, IsTaken}
 use Rattle.events.specs.Sound.{IsSound}
-use Rattle.events.specs.State.{State, Entry, port_of, present, told_to}
+use Rattle.events.specs.State.{State, port_of, present, told_to}
+use Rattle.events.specs.declared.Entry.{Entry}
 use Rattle.events.specs.Tags.{is_live, is_live_pair, tells}
 use Rattle.events.specs.declared.Event.TheVariants.{Drain}
 use Rattle.events.specs.declared.Reply.{Reply}
-use Rattle.exchange_laws.specs.Retagging.{KeptAreLive, TagsArePooled}
+use Rattle.exchange_laws.specs.Retagging.{KeptAreLive, LiveAreKept, TagsArePooled}
 use Rattle.net_types.specs.Exports.{pid_of}
 use Rattle.net_types.specs.Keys.{prefix_cmp}
 use Rattle.net_types.specs.declared.address.Pid.{Pid}
@@ -40,6 +41,10 @@ TellingStaysPooled =
 -- and each tag that is kept is live
 abbrev pub TellingKeepsLive : Type 0
 TellingKeepsLive = (s : State) (who : Pid) (entries : FinMap prefix_cmp Entry) → KeptAreLive (told_anew s who entries)
+
+-- and each live tag is kept
+abbrev pub TellingStaysKept : Type 0
+TellingStaysKept = (s : State) (who : Pid) (entries : FinMap prefix_cmp Entry) → LiveAreKept s → AreKnownTo s who entries → LiveAreKept (told_anew s who entries)
 
 -- a pair that is live no more is one of the participant's ports with a tag that it was told
 abbrev pub GonePairsWereTold : Type 0

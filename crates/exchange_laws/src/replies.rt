@@ -1,7 +1,7 @@
 //! What replies put into the table.
 
 ghost use Rattle.exchange_laws.specs.Listed.{GoneAreDropped, NewAreAdded};
-ghost use Rattle.exchange_laws.specs.Replies.{ChangesAreBuilt, DefaultsAreRules, RepliesBuildTables, UpdatesAreAccepted};
+ghost use Rattle.exchange_laws.specs.Replies.{ChangesAreBuilt, DefaultsAreRules, RepliesBuildTables};
 
 /// The pairs dropped are taken out, the rules added are put in, and the table is the new one.
 pub fn replies_build_tables()
@@ -16,11 +16,6 @@ pub fn changes_are_built()
 /// The default rules are rules.
 pub fn defaults_are_rules()
     ensures { DefaultsAreRules }
-{}
-
-/// An UPDATE is accepted with the reply that says what is dropped and added.
-pub fn updates_are_accepted()
-    ensures { UpdatesAreAccepted }
 {}
 
 /// The pairs that are live no more, in order, are those dropped.

@@ -1,7 +1,7 @@
 //! Fresh tags, and the tags and signatures after a line that changes the routes.
 
 ghost use Rattle.exchange_laws.specs.Fresh.{ChangedAreGrouped, FreeTagsRise, FreshTagsByPlace, FreshTagsDiffer, GroupsHaveFreshTags};
-ghost use Rattle.exchange_laws.specs.Retagging.{CarriedHaveTags, KeptStayLive, LiveTagsStay, SignaturesAreKept, TagsStayPooled};
+ghost use Rattle.exchange_laws.specs.Retagging.{CarriedHaveTags, KeptStayLive, LiveStayKept, LiveTagsStay, SignaturesAreKept, TagsStayPooled};
 
 /// The group at a place takes the free tag at that place.
 pub fn fresh_tags_go_by_place()
@@ -51,4 +51,9 @@ pub fn tags_stay_pooled()
 /// Each tag that is kept is live.
 pub fn kept_tags_stay_live()
     ensures { KeptStayLive }
+{}
+
+/// And each live tag is kept.
+pub fn live_tags_stay_kept()
+    ensures { LiveStayKept }
 {}

@@ -1,6 +1,6 @@
 //! What becomes of a sound state where a participant is told anew.
 
-ghost use Rattle.exchange_laws.specs.Telling.{DrainsAreAccepted, GonePairsWereTold, GoneTagsWereTold, PresentAreKnown, TellingKeepsLive, TellingStaysPooled, TellingStaysSound};
+ghost use Rattle.exchange_laws.specs.Telling.{DrainsAreAccepted, GonePairsWereTold, GoneTagsWereTold, PresentAreKnown, TellingKeepsLive, TellingStaysKept, TellingStaysPooled, TellingStaysSound};
 
 /// What is present for a participant is known to it.
 pub fn present_are_known()
@@ -20,6 +20,11 @@ pub fn telling_stays_pooled()
 /// Each tag that is kept is live.
 pub fn telling_keeps_live()
     ensures { TellingKeepsLive }
+{}
+
+/// And each live tag is kept.
+pub fn telling_stays_kept()
+    ensures { TellingStaysKept }
 {}
 
 /// A pair that is live no more is one of the participant's ports with a tag that it was told.

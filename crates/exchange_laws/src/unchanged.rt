@@ -1,6 +1,6 @@
-//! Updates that leave the routes as they were.
+//! Lines that leave the routes as they were.
 
-ghost use Rattle.exchange_laws.specs.Unchanged.{NoGroups, NothingIsSaid, NothingIsUpdated, RoutesStay};
+ghost use Rattle.exchange_laws.specs.Unchanged.{NoGroups, NothingIsSaid, RoutesStay};
 
 /// By the same routes no prefix changes.
 pub fn same_routes_have_no_groups()
@@ -15,9 +15,4 @@ pub fn routes_stay()
 /// Nothing is said where neither tags nor rules change.
 pub fn nothing_is_said()
     ensures { NothingIsSaid }
-{}
-
-/// An UPDATE that leaves the routes as they were is accepted without a word.
-pub fn nothing_is_updated()
-    ensures { NothingIsUpdated }
 {}

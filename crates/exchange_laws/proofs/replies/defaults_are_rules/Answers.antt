@@ -1,4 +1,4 @@
-use Rattle.exchange_laws.proofs.Updates.{defaults_are_rules}
+use Rattle.exchange_laws.proofs.Built.{defaults_are_rules}
 use Rattle.exchange_laws.proofs.replies.defaults_are_rules.Goals as goal
 
 pub returns : goal.returns

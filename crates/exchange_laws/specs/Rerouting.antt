@@ -1,0 +1,65 @@
+-- Lines that change the routes: an UPDATE, a participant whose routes go, and export rules (this exchange's own rule).
+use Rattle.std.specs.Prelude.{◌≡◌, ℕ, ◌≤◌, true, List, Ok, Some, None}
+use Rattle.std.specs.FinMap.{FinMap}
+use Rattle.events.specs.After.{after, bound_read, next, running, with_rules, with_update, without_from}
+use Rattle.events.specs.Fits.{Fits, IsBuilt, bare, is_building, none_rebuilt}
+use Rattle.events.specs.Refusals.{refusal}
+use Rattle.events.specs.Sound.{IsSound, rule_count}
+use Rattle.events.specs.State.{State}
+use Rattle.events.specs.Tags.{retagged}
+use Rattle.events.specs.declared.Event.{Event}
+use Rattle.events.specs.declared.Event.TheVariants.{Down, Export, Update}
+use Rattle.events.specs.declared.Head.TheVariants.{Fine}
+use Rattle.events.specs.declared.Reply.{Reply}
+use Rattle.exchange_laws.specs.Replies.{HasNewRules}
+use Rattle.exchange_laws.specs.Retagging.{KeptAreLive, TagsArePooled}
+use Rattle.exchange_laws.specs.Rules.{IsChange, IsTableAfter, OwnersAreDeclared}
+use Rattle.net_types.specs.ExportReading.{rules_of_text}
+use Rattle.net_types.specs.Exports.{Routing, pid_of}
+use Rattle.net_types.specs.Keys.{pair_cmp}
+use Rattle.net_types.specs.UpdateReading.{decoded}
+use Rattle.net_types.specs.declared.address.Pid.{Pid}
+use Rattle.net_types.specs.declared.export.ExportRule.{ExportRule}
+use Rattle.net_types.specs.declared.rule.Rule.{Rule}
+use Rattle.net_types.specs.declared.update.Update.{Update as Message}
+
+-- a line that no refusal stops builds rules, and these are the routes after it
+pub record IsRerouting (s : State) (e : Event) (r : Routing) : Type 0 where
+  pub passes : refusal s e ≡ None
+  pub building : is_building e ≡ true
+  pub leaves : after s e ≡ retagged s r
+
+-- an UPDATE leaves the routes that it says
+abbrev pub UpdatesReroute : Type 0
+UpdatesReroute =
+    (s : State) (name bytes : List ℕ) (who : Pid) (u : Message) → pid_of s.routing name ≡ Some who → decoded bytes ≡ Ok u
+    → after s (Update name bytes) ≡ retagged s (with_update s.routing who u)
+
+-- a participant that is down has no routes
+abbrev pub DownsReroute : Type 0
+DownsReroute = (s : State) (name : List ℕ) (who : Pid) → pid_of s.routing name ≡ Some who → after s (Down name) ≡ retagged s (without_from s.routing who)
+
+-- export rules are those that were read
+abbrev pub ExportsReroute : Type 0
+ExportsReroute =
+    (s : State) (name text : List ℕ) (who : Pid) (rules : List ExportRule) → pid_of s.routing name ≡ Some who
+    → bound_read s.routing (rules_of_text text) ≡ Some rules → after s (Export name text) ≡ retagged s (with_rules s.routing who rules)
+
+-- in a sound state such a line is a change of routes for which there are enough tags
+abbrev pub ReroutingsAreChanges : Type 0
+ReroutingsAreChanges =
+    (s : State) (e : Event) (r : Routing) → IsSound s → TagsArePooled s → OwnersAreDeclared s.routing → IsRerouting s e r → IsChange s r
+
+-- It is accepted with the reply that says what is dropped and added, where the rules fit the table, and the state is the one
+-- with the new routes and rules.
+abbrev pub ReroutingsAreAccepted : Type 0
+ReroutingsAreAccepted =
+    (s : State) (e : Event) (r : Routing) (table : FinMap pair_cmp (List Rule)) (reply : Reply) → IsRerouting s e r → IsChange s r
+    → IsTableAfter s (retagged s r) table → HasNewRules s table
+    → let s1 = record (retagged s r) { table = table } in rule_count s1 ≤ s.capacity → IsBuilt s s1 none_rebuilt reply
+    → (next s e reply ≡ s1) × Fits s e reply
+
+-- where it leaves the routes as they were, it is accepted without a word
+abbrev pub NothingIsRerouted : Type 0
+NothingIsRerouted =
+    (s : State) (e : Event) → IsSound s → TagsArePooled s → KeptAreLive s → IsRerouting s e s.routing → (next s e (bare Fine) ≡ running s) × Fits s e (bare Fine)
