@@ -1,5 +1,5 @@
 -- What an answer beside the reading of a text says.
-use Rattle.std.proofs.Common.{◌≡◌, ℕ, ◌≤◌, List, length, Result, Ok, Err, refl}
+use Rattle.std.proofs.Common.{◌≡◌, ℕ, ◌≤◌, List, length, Result, Ok, Err, refl, ap, ◌∙◌, subst}
 use Rattle.std.specs.Prelude.{IfOk, IfErr, MatchResult}
 use Rattle.grammar.specs.Texts.{IsPlainText, IsPlainCause, read_whole}
 use Rattle.grammar.specs.Reading.{OutOfMemory}
@@ -8,7 +8,7 @@ use Rattle.net_types.specs.declared.named_rule.NamedRule.{NamedRule}
 use Rattle.net_types.specs.ExportTexts.{rules}
 use Rattle.export_rules.specs.declared.fault.RulesFault.{RulesFault}
 use Rattle.export_rules.specs.declared.fault.RulesFault.TheVariants.{TextLong, Syntax, Memory}
-use Rattle.net_types.specs.ExportReading.{read_rules}
+use Rattle.net_types.specs.ExportReading.{read_rules, or_place, rules_of_text}
 use Rattle.export_rules.specs.Answers.{cause_of, Gives, IsCause}
 use Rattle.export_rules.proofs.RulesExact.{after_rules, rules_exact}
 
@@ -43,3 +43,27 @@ module _ {X : Type 0} (view : X → List NamedRule) (max_len : ℕ) (text : List
       go : (r : Result X RulesFault) → MatchResult r (λ x. view x ≡ rs) (λ e. cause_of e ≡ OutOfMemory) → MatchResult r (λ x. view x ≡ rs) (λ e. e ≡ Memory)
       go (Ok x) k = k
       go (Err e) k = only_memory e k
+
+  -- what is answered is the value of the text
+  pub value_said : IfOk result (λ x. rules_of_text text ≡ Ok (view x))
+  unfolding rules_of_text
+  value_said = go result h
+    where
+      go : (r : Result X RulesFault) → Gives view r (read_whole read_rules text) → IfOk r (λ x. or_place (read_whole read_rules text) ≡ Ok (view x))
+      go (Ok x) k = ap or_place k
+      go (Err e) k = tt
+
+  -- the place of a fault is the value of the text
+  pub place_said : IfErr result (λ e. (at : ℕ) → e ≡ Syntax at → rules_of_text text ≡ Err at)
+  unfolding rules_of_text
+  place_said = go result h
+    where
+      go : (r : Result X RulesFault) → Gives view r (read_whole read_rules text) → IfErr r (λ e. (at : ℕ) → e ≡ Syntax at → or_place (read_whole read_rules text) ≡ Err at)
+      go (Ok x) k = tt
+      go (Err TextLong) k = absurd k
+      go (Err (Syntax n)) k = λ at e. let same : n ≡ at = cc in ap or_place k ∙ ap Err same
+      go (Err Memory) k = λ at e. absurd cc
+
+  -- the text was not too long
+  pub never_long : result ≡ Err TextLong → ⊥
+  never_long e = subst (λ r. Gives view r (read_whole read_rules text)) e h

@@ -1,3 +1,4 @@
 pub mod RulesExact
 pub mod Binding
 pub mod Answered
+pub mod TextValue

@@ -7,7 +7,7 @@ ghost use Rattle.net_types.specs.ExportTexts.{bound_rule, bound};
 
 use crate::fault::BindFault;
 use crate::parsed::Rules;
-use net_types::{ExportRule, Name, NamedRule, Pid, Prefix, Which};
+use net_types::{ExportRule, ExportRules, Items, Name, NamedRule, Pid, Prefix, Which};
 use registry::Registry;
 use std::marker::Model;
 
@@ -81,6 +81,13 @@ impl Bound {
         ensures { result.now ≡ self.now }
     {
         self.rules.as_slice()
+    }
+
+    /// The rules as a list of their own, in their order. It takes no memory.
+    pub fn into_rules(self) -> ExportRules
+        ensures { result ≡ self }
+    {
+        Items::from_vec(self.rules)
     }
 
     /// Whether a participant may be given the routes of a prefix: what the first rule says that applies, and yes where

@@ -3,6 +3,7 @@
 
 mod bound;
 mod fault;
+mod laws;
 mod parsed;
 mod reading;
 #[cfg(test)]
@@ -10,4 +11,5 @@ mod tests;
 
 pub use bound::Bound;
 pub use fault::{BindFault, RulesFault};
+pub use laws::reading_is_spelling;
 pub use parsed::{Rules, parse_rules};

@@ -1,9 +1,9 @@
 //! Rules as a text writes them.
 
-ghost use Rattle.std.specs.Prelude.{◌≡◌, ◌≤◌, length, IfOk, IfErr, Some, None};
+ghost use Rattle.std.specs.Prelude.{◌≡◌, ℕ, ◌<◌, ◌≤◌, ◌↔◌, length, IfOk, IfErr, Some, None};
 ghost use Rattle.grammar.specs.Texts.{read_whole};
 ghost use Rattle.net_types.specs.ExportTexts.{RulesText};
-ghost use Rattle.net_types.specs.ExportReading.{read_rules};
+ghost use Rattle.net_types.specs.ExportReading.{read_rules, rules_of_text};
 ghost use Rattle.export_rules.specs.Answers.{Gives, IsCause, FindsRules};
 
 use crate::fault::RulesFault;
@@ -57,6 +57,12 @@ pub fn parse_rules(alloc: Global, text: &str) -> Result<Rules, RulesFault>
     ensures err { IfErr result (λ fault. IsCause 8192 text.now fault) }
     // A text that is short enough and spells rules is read, unless memory runs out.
     ensures found { FindsRules 8192 text.now result }
+    // The rules are the value of the text.
+    ensures value { IfOk result (λ rules. rules_of_text text.now ≡ Ok rules) }
+    // The place of the fault is the value of the text.
+    ensures place { IfErr result (λ fault. (at : ℕ) → fault ≡ RulesFault.Syntax at → rules_of_text text.now ≡ Err at) }
+    // Too long are exactly the texts of more than 8192 octets.
+    ensures long { (result ≡ Err RulesFault.TextLong) ↔ (8192 < length text.now) }
 {
     if text.len() > 8192 {
         return Err(RulesFault::TextLong);
