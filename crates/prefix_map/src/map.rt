@@ -1,6 +1,6 @@
 //! The map, over a vector of entries whose prefixes rise.
 
-ghost use Rattle.std.specs.Prelude.{◌≡◌, ◌≤◌, ◌<◌, ◌+◌, Some, None, IsTrue, IsOk, OnOk, OnErr, IfOk, IfSome, option_copied, is_some, if◌then◌else◌};
+ghost use Rattle.std.specs.Prelude.{◌≡◌, ◌≤◌, ◌<◌, ◌+◌, Some, None, IsTrue, IsOk, OnOk, OnErr, IfOk, IfSome, option_copied, is_some, length, if◌then◌else◌};
 ghost use Rattle.std.specs.FinMap as map;
 ghost use Rattle.std.specs.Option.{option_map};
 ghost use Rattle.net_types.specs.Prefixes.{covers};
@@ -79,6 +79,13 @@ impl<V> PrefixMap<V> {
             }
         }
         None
+    }
+
+    /// How many prefixes have a value.
+    pub fn len(&self) -> usize
+        ensures { result ≡ length (map.entries self.now.map) }
+    {
+        self.entries.as_slice().len()
     }
 
     /// The prefixes with their values, ascending by address, and then by length. It takes no memory.

@@ -1,0 +1,69 @@
+-- A key below all keys of entries isn't among them, and what a removal does to the entries of a map.
+use Rattle.std.proofs.Common.{◌≡◌, Bool, true, false, cond, ◌&&◌, not, T, List, [], ◌∷◌, sym, ap, ◌∙◌, refl}
+use Rattle.std.specs.Prelude.{Some, None}
+use Rattle.std.specs.Ordering.{is_lt, is_eq, eq_by_cmp}
+use Rattle.std.specs.Cmp.{IsTotalOrder}
+use Rattle.std.specs.declared.cmp.Ordering.{Ordering}
+use Rattle.std.specs.declared.cmp.Ordering.TheVariants.{Less, Equal, Greater}
+use Rattle.std.specs.FinMap.{FinMap, remove, entries, entries_sorted, from_sorted, entries-from_sorted, same_entries_map, IsAntisymmetric}
+use Rattle.std.specs.FinMap.Entries.{find, is_sorted, below_all}
+use Rattle.std.proofs.lemmas.Bool.{and_parts}
+use Rattle.net_types.proofs.PlaceLemmas.{without, entries_of_sorted, without_sorted, remove_sorted}
+
+pub shown : (b : Bool) → T b → b ≡ true
+shown true h = refl
+shown false h = absurd h
+
+less : (r : Ordering) → is_lt r ≡ true → r ≡ Less
+less Less e = refl
+less Equal e = cc
+less Greater e = cc
+
+module _ {K X : Type 0} (R : K → K → Ordering) where
+  -- the first key is below all that follow
+  pub first_below : (d : K × X) (ds : List (K × X)) → is_sorted R (d ∷ ds) ≡ true → below_all R d.0 ds ≡ true
+  first_below d ds sorted = (and_parts (below_all R d.0 ds) (is_sorted R ds) sorted).0
+
+  pub rest_sorted : (d : K × X) (ds : List (K × X)) → is_sorted R (d ∷ ds) ≡ true → is_sorted R ds ≡ true
+  rest_sorted d ds sorted = (and_parts (below_all R d.0 ds) (is_sorted R ds) sorted).1
+
+  module _ (o : IsTotalOrder R) where
+    below_less : (x y : K) (es : List (K × X)) → R x y ≡ Less → below_all R y es ≡ true → below_all R x es ≡ true
+    below_less x y [] p h = refl
+    below_less x y (e ∷ es) p h =
+        let parts = and_parts (is_lt (R y e.0)) (below_all R y es) h in
+        ap (λ r. is_lt r && below_all R x es) (o.trans x y e.0 p (less _ parts.0)) ∙ below_less x y es p parts.1
+
+    below_tied : (x y : K) (es : List (K × X)) → R x y ≡ Equal → below_all R y es ≡ true → below_all R x es ≡ true
+    below_tied x y [] p h = refl
+    below_tied x y (e ∷ es) p h =
+        let parts = and_parts (is_lt (R y e.0)) (below_all R y es) h in
+        ap (λ b. b && below_all R x es) (ap is_lt (o.congr x y e.0 p) ∙ parts.0) ∙ below_tied x y es p parts.1
+
+    find_below : (q : K) (es : List (K × X)) → below_all R q es ≡ true → find R q es ≡ None
+    find_below q [] h = refl
+    find_below q (e ∷ es) h =
+        let parts = and_parts (is_lt (R q e.0)) (below_all R q es) h in
+        ap (λ r. cond (is_eq r) (Some e.1) (find R q es)) (less _ parts.0) ∙ find_below q es parts.1
+
+    without_below : (q : K) (es : List (K × X)) → below_all R q es ≡ true → without R q es ≡ es
+    without_below q [] h = refl
+    without_below q (e ∷ es) h =
+        let parts = and_parts (is_lt (R q e.0)) (below_all R q es) h in
+        ap (λ r. cond (not (is_eq r)) (e ∷ without R q es) (without R q es)) (less _ parts.0) ∙ ap (λ ds. e ∷ ds) (without_below q es parts.1)
+
+    -- a key below the first is not among sorted entries
+    pub find_before : (q : K) (d : K × X) (ds : List (K × X)) → is_sorted R (d ∷ ds) ≡ true → R q d.0 ≡ Less → find R q ds ≡ None
+    find_before q d ds sorted p = find_below q ds (below_less q d.0 ds p (first_below d ds sorted))
+
+    -- a key that ties with the first is not among the rest
+    pub without_first : (q : K) (d : K × X) (ds : List (K × X)) → is_sorted R (d ∷ ds) ≡ true → R q d.0 ≡ Equal → without R q ds ≡ ds
+    without_first q d ds sorted p = without_below q ds (below_tied q d.0 ds p (first_below d ds sorted))
+
+    pub entries-remove : IsAntisymmetric R → (m : FinMap R X) (k : K) → entries (remove m k) ≡ without R k (entries m)
+    entries-remove same m k =
+        let sorted = shown _ (entries_sorted m) in
+        let whole : from_sorted {R = R} (entries m) ≡ m = same_entries_map _ _ (entries-from_sorted R (entries m) (entries_sorted m)) in
+        ap (λ n. entries (remove n k)) (sym whole)
+        ∙ ap entries (sym (remove_sorted R o same k (entries m) sorted))
+        ∙ entries_of_sorted R (without R k (entries m)) (without_sorted R k (entries m) sorted)

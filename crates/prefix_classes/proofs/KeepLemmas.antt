@@ -1,0 +1,102 @@
+-- Tags without members: at first, and when one is kept or forgotten. The prefixes that one tag is given to.
+use Rattle.std.proofs.Common.{◌≡◌, ℕ, suc, ◌+◌, ◌<◌, ◌≤◌, Bool, true, false, cond, not, List, [], ◌∷◌, length, get_or, drop, drop-cons, sym, ap, subst, ◌∙◌, refl, arith}
+use Rattle.std.specs.Prelude.{Option, Some, None, is_some}
+use Rattle.std.specs.Ordering.{eq_by_cmp, is_eq}
+use Rattle.std.specs.Cmp.{eq_by_cmp_equiv, alike_right}
+use Rattle.std.specs.FinMap.{FinMap, get, insert, remove, empty, get-insert, get-remove, same_map}
+use Rattle.std.specs.FinMap.Entries.{find, put, is_sorted, find-put, find-where_key}
+use Rattle.net_types.proofs.OrderLemmas.{prefixes_total, tags_total}
+use Rattle.net_types.proofs.PlaceLemmas.{put_sorted, without_sorted}
+use Rattle.net_types.proofs.TieLemmas.{tag_cmp-IsAntisymmetric, ties_itself}
+use Rattle.net_types.specs.Keys.{prefix_cmp, tag_cmp}
+use Rattle.net_types.specs.declared.address.Tag.{Tag}
+use Rattle.net_types.specs.declared.prefix.Prefix.{Prefix}
+use Rattle.net_types.specs.declared.route.Part.{Part}
+use Rattle.sorted_map.specs.Places.{without}
+use Rattle.prefix_classes.proofs.CountLemmas.{sig_in, get-sigs, find_not_kept, tied}
+use Rattle.prefix_classes.proofs.MemberLemmas.{members-empty}
+use Rattle.prefix_classes.specs.Classes.{given, members, missing, new_ones}
+use Rattle.prefix_classes.specs.Counts.{counted, members_of, sigs_of, IsCounted}
+use Rattle.prefix_classes.specs.declared.members.Kept.{Kept}
+
+-- at first
+pub none_counted : (m : FinMap prefix_cmp Tag) (es : List (Tag × Kept)) → m ≡ empty → es ≡ [] → IsCounted m es
+none_counted m es no_tags no_entries = record {
+  sorted = ap (is_sorted tag_cmp) no_entries;
+  counts = λ t. ap (λ xs. counted xs t) no_entries ∙ sym (ap (λ k. members k t) no_tags ∙ members-empty t);
+}
+
+-- a tag is kept that no prefix has
+pub keep_new : (m : FinMap prefix_cmp Tag) (es : List (Tag × Kept)) (t : Tag) (k : Kept) (kept : FinMap tag_cmp (List Part)) → k.members ≡ 0 → IsCounted m es → sigs_of es ≡ kept → get kept t ≡ None
+    → IsCounted m (put tag_cmp t k es) × (sigs_of (put tag_cmp t k es) ≡ insert kept t k.sig)
+keep_new m es t k kept no_members is same none =
+    let absent = find_not_kept es t kept is.sorted same none in
+    let sorted = put_sorted tag_cmp tags_total t k es is.sorted in (
+      record {
+        sorted = sorted;
+        counts = λ u. ap members_of (find-put tag_cmp tags_total u t k es)
+            ∙ elim (eq_by_cmp tag_cmp u t) as (λ b. eq_by_cmp tag_cmp u t ≡ b → members_of (cond b (Some k) (find tag_cmp u es)) ≡ counted es u) [
+              | true ↦ λ e. no_members ∙ sym (ap members_of (tied es u t e ∙ absent))
+              | false ↦ λ e. refl
+            ] refl ∙ is.counts u;
+      },
+      same_map tags_total tag_cmp-IsAntisymmetric _ _ (λ q.
+          get-sigs (put tag_cmp t k es) q sorted ∙ ap sig_in (find-put tag_cmp tags_total q t k es)
+          ∙ elim (eq_by_cmp tag_cmp q t) as (λ b. sig_in (cond b (Some k) (find tag_cmp q es)) ≡ cond b (Some k.sig) (sig_in (find tag_cmp q es))) [ true ↦ refl | false ↦ refl ]
+          ∙ ap (cond (eq_by_cmp tag_cmp q t) (Some k.sig)) (sym (get-sigs es q is.sorted) ∙ ap (λ n. get n q) same)
+          ∙ sym (get-insert tags_total kept t k.sig q)),
+    )
+
+turned : {A : Type 0} (b : Bool) (x y : A) → cond (not b) x y ≡ cond b y x
+turned true x y = refl
+turned false x y = refl
+
+find-without : (t q : Tag) (es : List (Tag × Kept)) → find tag_cmp q (without tag_cmp t es) ≡ cond (eq_by_cmp tag_cmp q t) None (find tag_cmp q es)
+find-without t q es =
+    find-where_key tag_cmp (λ x. not (eq_by_cmp tag_cmp t x)) q (λ x e. ap (λ r. not (is_eq r)) (sym (alike_right tags_total q x t e))) es
+    ∙ turned (eq_by_cmp tag_cmp t q) _ _ ∙ ap (λ b. cond b None (find tag_cmp q es)) ((eq_by_cmp_equiv tags_total).symm t q)
+
+-- a tag that no prefix has is forgotten
+pub forget_none : (m : FinMap prefix_cmp Tag) (es : List (Tag × Kept)) (t : Tag) (kept : FinMap tag_cmp (List Part)) → IsCounted m es → sigs_of es ≡ kept → members m t ≡ 0
+    → IsCounted m (without tag_cmp t es) × (sigs_of (without tag_cmp t es) ≡ remove kept t)
+forget_none m es t kept is same no_members =
+    let sorted = without_sorted tag_cmp t es is.sorted in (
+      record {
+        sorted = sorted;
+        counts = λ u. ap members_of (find-without t u es)
+            ∙ elim (eq_by_cmp tag_cmp u t) as (λ b. eq_by_cmp tag_cmp u t ≡ b → members_of (cond b None (find tag_cmp u es)) ≡ counted es u) [
+              | true ↦ λ e. sym (ap members_of (tied es u t e) ∙ is.counts t ∙ no_members)
+              | false ↦ λ e. refl
+            ] refl ∙ is.counts u;
+      },
+      same_map tags_total tag_cmp-IsAntisymmetric _ _ (λ q.
+          get-sigs (without tag_cmp t es) q sorted ∙ ap sig_in (find-without t q es)
+          ∙ elim (eq_by_cmp tag_cmp q t) as (λ b. sig_in (cond b None (find tag_cmp q es)) ≡ cond b None (sig_in (find tag_cmp q es))) [ true ↦ refl | false ↦ refl ]
+          ∙ ap (cond (eq_by_cmp tag_cmp q t) None) (sym (get-sigs es q is.sorted) ∙ ap (λ n. get n q) same)
+          ∙ sym (get-remove tags_total kept t q)),
+    )
+
+-- a tag that was just kept is there
+pub kept_itself : (kept : FinMap tag_cmp (List Part)) (t : Tag) (sig : List Part) → is_some (get (insert kept t sig) t) ≡ true
+kept_itself kept t sig = ap is_some (get-insert tags_total kept t sig t ∙ ap (λ b. cond b (Some sig) (get kept t)) (ties_itself tags_total t))
+
+missing_less : (b : Bool) (t : Tag) (o : Option Tag) → missing (cond b (Some t) o) ≤ missing o
+missing_less true t None = omega arith
+missing_less true t (Some u) = omega arith
+missing_less false t o = omega arith
+
+new_ones-insert : (m : FinMap prefix_cmp Tag) (x : Prefix) (t : Tag) (ps : List Prefix) → new_ones (insert m x t) ps ≤ new_ones m ps
+new_ones-insert m x t [] = omega arith
+new_ones-insert m x t (p ∷ ps) =
+    let rest = new_ones-insert m x t ps in
+    let first = subst (λ o. missing o ≤ missing (get m p)) (sym (get-insert prefixes_total m x t p)) (missing_less (eq_by_cmp prefix_cmp p x) t (get m p)) in
+    omega (arith, rest, first)
+
+-- one prefix more is given the tag
+pub given_more : (t : Tag) (ps : List Prefix) (i : ℕ) (x d : Prefix) (m n : FinMap prefix_cmp Tag) → i < length ps → x ≡ get_or ps i d → n ≡ insert m x t
+    → (given t (drop i ps) m ≡ given t (drop (i + 1) ps) n) × (missing (get m x) + new_ones n (drop (i + 1) ps) ≤ new_ones m (drop i ps))
+given_more t ps i x d m n within is next =
+    let split : drop i ps ≡ x ∷ drop (i + 1) ps = drop-cons ps i d within ∙ (let one_on : suc i ≡ i + 1 = omega arith in λ j. sym is j ∷ drop (one_on j) ps) in (
+      ap (λ xs. given t xs m) split ∙ ap (given t (drop (i + 1) ps)) (sym next),
+      let less = new_ones-insert m x t (drop (i + 1) ps) in let all = ap (new_ones m) split in let later = ap (λ k. new_ones k (drop (i + 1) ps)) next in omega (arith, less, all, later),
+    )

@@ -1,0 +1,168 @@
+//! The classes of prefixes.
+
+ghost use Rattle.std.specs.Prelude.{◌≡◌, ◌≤◌, ◌<◌, ◌+◌, None, IsOk, IsTrue, OnOk, length, option_copied, is_some};
+ghost use Rattle.std.specs.FinMap as map;
+ghost use Rattle.prefix_classes.specs.Classes.{given, members, missing, new_ones};
+
+use crate::members::{Kept, lower, move_member, raise};
+use net_types::{Memory, Prefix, Sig, Tag};
+use prefix_map::PrefixMap;
+use sorted_map::{put_reserved, take_out, value_at};
+use std::alloc::Global;
+use std::marker::Model;
+
+/// The tag of each prefix that has one, and the signature of each tag that is kept. The prefixes of a tag are its
+/// members. Beside this there is room for a number of new prefixes and of new tags.
+#[derive(Drop)]
+pub struct ClassMap {
+    tags: PrefixMap<Tag>,
+    kept: Vec<(Tag, Kept)>,
+}
+
+impl Model for ClassMap {
+    ghost use Rattle.std.specs.Prelude.{◌-◌};
+    ghost use Rattle.std.specs.Vec.{vec_len, vec_capacity};
+    ghost use Rattle.std.specs.Coded.{codes};
+    ghost use Rattle.std.specs.FinMap as map;
+    ghost use Rattle.prefix_classes.specs.Classes.{Classes};
+    ghost use Rattle.prefix_classes.specs.Counts.{IsCounted, classes_of};
+
+    ghost Value = { Classes };
+
+    ghost coded = { Prim.hlevel (codes, map.code) };
+
+    ghost view = { λ a. classes_of a.tags a.kept.items (vec_capacity a.kept - vec_len a.kept) };
+
+    ghost invariant = { λ a. IsCounted a.tags.map a.kept.items };
+}
+
+impl ClassMap {
+    /// No prefix has a tag, and no tag is kept.
+    pub fn new(alloc: Global) -> ClassMap
+        ensures tag { result.tag ≡ map.empty }
+        ensures kept { result.kept ≡ map.empty }
+    {
+        ClassMap {
+            tags: PrefixMap::new(alloc),
+            kept: Vec::new(alloc),
+        }
+    }
+
+    /// Makes room for so many new prefixes and tags. It takes memory only where there is less.
+    pub fn reserve(&mut self, prefixes: usize, tags: usize) -> Result<(), Memory>
+        ensures tag { self.new.tag ≡ self.old.tag }
+        ensures kept { self.new.kept ≡ self.old.kept }
+        ensures prefixes { OnOk result (prefixes ≤ self.new.prefixes) }
+        ensures tags { OnOk result (tags ≤ self.new.tags) }
+        ensures prefixes_stay { self.old.prefixes ≤ self.new.prefixes }
+        ensures tags_stay { self.old.tags ≤ self.new.tags }
+    {
+        self.tags.reserve(prefixes)?;
+        self.kept.reserve(tags)?;
+        Ok(())
+    }
+
+    /// The tag of a prefix, where it has one.
+    pub fn tag_of(&self, prefix: Prefix) -> Option<Tag>
+        ensures { result ≡ map.get self.now.tag prefix }
+    {
+        self.tags.get(prefix).copied()
+    }
+
+    /// The signature of a tag, where it is kept.
+    pub fn sig_of(&self, tag: Tag) -> Option<&Sig>
+        ensures { option_copied result ≡ map.get self.now.kept tag }
+    {
+        match value_at(&self.kept, &tag) {
+            Some(kept) => Some(&kept.sig),
+            None => None,
+        }
+    }
+
+    /// How many prefixes have the tag.
+    pub fn members(&self, tag: Tag) -> usize
+        ensures { result ≡ members self.now.tag tag }
+    {
+        match value_at(&self.kept, &tag) {
+            Some(kept) => kept.members,
+            None => 0,
+        }
+    }
+
+    /// How many tags are kept.
+    pub fn tagged(&self) -> usize
+        ensures { result ≡ length (map.entries self.now.kept) }
+    {
+        self.kept.as_slice().len()
+    }
+
+    /// Keeps a tag with its signature. It takes no memory.
+    pub fn keep(&mut self, tag: Tag, sig: Sig)
+        requires new { map.get self.old.kept tag ≡ None }
+        requires room { 0 < self.old.tags }
+        ensures tag { self.new.tag ≡ self.old.tag }
+        ensures kept { self.new.kept ≡ map.insert self.old.kept tag sig }
+        ensures tags { self.old.tags ≤ self.new.tags + 1 }
+        ensures prefixes { self.new.prefixes ≡ self.old.prefixes }
+    {
+        put_reserved(&mut self.kept, tag, Kept { sig, members: 0 });
+    }
+
+    /// Gives a prefix a tag that is kept, in the place of the one it had. It takes no memory.
+    pub fn put(&mut self, prefix: Prefix, tag: Tag)
+        requires kept { IsTrue (is_some (map.get self.old.kept tag)) }
+        requires room { map.get self.old.tag prefix ≡ None → 0 < self.old.prefixes }
+        ensures tag { self.new.tag ≡ map.insert self.old.tag prefix tag }
+        ensures kept { self.new.kept ≡ self.old.kept }
+        ensures prefixes { self.old.prefixes ≤ self.new.prefixes + missing (map.get self.old.tag prefix) }
+        ensures tags { self.new.tags ≡ self.old.tags }
+    {
+        let before = self.tags.put(prefix, tag);
+        // No tag has more members than there are prefixes.
+        let _ = self.tags.len();
+        match before {
+            Some(before) => move_member(&mut self.kept, before, tag),
+            None => raise(&mut self.kept, tag),
+        }
+    }
+
+    /// Keeps a tag with its signature, and gives it to each of the prefixes, whatever tag they had. It takes no memory.
+    pub fn give(&mut self, tag: Tag, sig: Sig, members: &[Prefix])
+        requires new { map.get self.old.kept tag ≡ None }
+        requires tags { 0 < self.old.tags }
+        requires prefixes { new_ones self.old.tag members.now ≤ self.old.prefixes }
+        ensures tag { self.new.tag ≡ given tag members.now self.old.tag }
+        ensures kept { self.new.kept ≡ map.insert self.old.kept tag sig }
+        ensures tags { self.old.tags ≤ self.new.tags + 1 }
+        ensures prefixes { self.old.prefixes ≤ self.new.prefixes + new_ones self.old.tag members.now }
+    {
+        self.keep(tag, sig);
+        for &prefix in members {
+            self.put(prefix, tag);
+        }
+    }
+
+    /// Takes a prefix's tag away, where it has one.
+    pub fn drop_prefix(&mut self, prefix: Prefix)
+        ensures tag { self.new.tag ≡ map.remove self.old.tag prefix }
+        ensures kept { self.new.kept ≡ self.old.kept }
+        ensures prefixes { self.old.prefixes ≤ self.new.prefixes }
+        ensures tags { self.new.tags ≡ self.old.tags }
+    {
+        match self.tags.remove(prefix) {
+            Some(before) => lower(&mut self.kept, before),
+            None => {}
+        }
+    }
+
+    /// Forgets a tag without members, where it is kept.
+    pub fn forget(&mut self, tag: Tag)
+        requires { members self.old.tag tag ≡ 0 }
+        ensures tag { self.new.tag ≡ self.old.tag }
+        ensures kept { self.new.kept ≡ map.remove self.old.kept tag }
+        ensures prefixes { self.new.prefixes ≡ self.old.prefixes }
+        ensures tags { self.old.tags ≤ self.new.tags }
+    {
+        take_out(&mut self.kept, &tag);
+    }
+}

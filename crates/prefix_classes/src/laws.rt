@@ -1,0 +1,38 @@
+//! Laws of counting members. The functions have empty bodies, and their contracts are the laws.
+
+ghost use Rattle.prefix_classes.specs.Laws.{MembersAfterInsert, MembersAfterRemove, NoMembersNoPrefix, ChangesAreCounted, TagsAfterChanges, ChangedHaveNewTags, OthersKeepTheirs};
+
+/// A prefix that is given a tag counts for it, and no more for the one it had.
+pub fn members_after_insert()
+    ensures { MembersAfterInsert }
+{}
+
+/// A prefix whose tag is taken away counts no more for it.
+pub fn members_after_remove()
+    ensures { MembersAfterRemove }
+{}
+
+/// A tag has no members where no prefix has the tag, and only there.
+pub fn no_members_no_prefix()
+    ensures { NoMembersNoPrefix }
+{}
+
+/// After changes at different prefixes, a tag has the members it had, less those that leave, and those that join.
+pub fn changes_are_counted()
+    ensures { ChangesAreCounted }
+{}
+
+/// After changes at different prefixes, a prefix has the tag of its change, or else the one it had.
+pub fn tags_after_changes()
+    ensures { TagsAfterChanges }
+{}
+
+/// After changes at different prefixes, each of these has its new tag, or none.
+pub fn changed_prefixes_have_new_tags()
+    ensures { ChangedHaveNewTags }
+{}
+
+/// After changes, all other prefixes have the tags they had.
+pub fn other_prefixes_keep_their_tags()
+    ensures { OthersKeepTheirs }
+{}
