@@ -1,0 +1,3 @@
+pub mod SortedLists
+pub mod EntryLists
+pub mod PendingLemmas

@@ -1,0 +1,61 @@
+//! What is pending for a participant: what it was told, beside what is present.
+
+ghost use Rattle.std.specs.Prelude.{◌≡◌, ◌++◌, IfOk, OnOk, map, filter, option_copied};
+ghost use Rattle.std.specs.FinMap as map;
+ghost use Rattle.events.specs.Fits.{same_entry};
+ghost use Rattle.net_types.specs.Attributes.{same_option};
+ghost use Rattle.advert_queue.specs.Telling.{entry_key, is_new_in, is_other_in, pending};
+
+use crate::ascending::ascending_prefixes;
+use crate::told::Told;
+use events::Entry;
+use net_types::{Memory, Prefix, same_attrs};
+use std::alloc::Global;
+
+/// The prefixes at which what was told and what is present differ, ascending by address, and then by length. Memory is
+/// the only refusal.
+pub fn pending(alloc: Global, told: &Told, present: &Told) -> Result<Vec<Prefix>, Memory>
+    ensures { IfOk result (λ prefixes. prefixes.items ≡ pending told.now present.now) }
+{
+    let mut prefixes = Vec::new(alloc);
+    push_changed(told, present, &mut prefixes)?;
+    push_new(told, present, &mut prefixes)?;
+    Ok(ascending_prefixes(prefixes))
+}
+
+/// The prefixes that were told and of which something else is present, or nothing.
+fn push_changed(told: &Told, present: &Told, prefixes: &mut Vec<Prefix>) -> Result<(), Memory>
+    ensures { OnOk result (prefixes.new.items ≡ prefixes.old.items ++ map entry_key (filter (is_other_in present.now) (map.entries told.now))) }
+{
+    for (prefix, entry) in told.iter() {
+        if !is_same(entry, present.get(prefix)) {
+            prefixes.push(prefix)?;
+        }
+    }
+    Ok(())
+}
+
+/// The prefixes of which nothing was told.
+fn push_new(told: &Told, present: &Told, prefixes: &mut Vec<Prefix>) -> Result<(), Memory>
+    ensures { OnOk result (prefixes.new.items ≡ prefixes.old.items ++ map entry_key (filter (is_new_in told.now) (map.entries present.now))) }
+{
+    for (prefix, _) in present.iter() {
+        if told.get(prefix).is_none() {
+            prefixes.push(prefix)?;
+        }
+    }
+    Ok(())
+}
+
+/// Whether the other entry is there, with the same tag and the same attributes.
+fn is_same(entry: &Entry, other: Option<&Entry>) -> bool
+    ensures { result ≡ same_option same_entry (Some entry.now) (option_copied other.entry) }
+{
+    match other {
+        None => false,
+        Some(other) => {
+            let attrs = same_attrs(&entry.attrs, &other.attrs);
+            entry.tag.0 == other.tag.0 && attrs
+        }
+    }
+}
