@@ -1,6 +1,6 @@
 //! The pool of tags.
 
-ghost use Rattle.std.specs.Prelude.{◌≡◌, ◌≢◌, ◌≤◌, ◌<◌, ◌+◌, Bool, true, false, None, IsTrue, IfOk, IfSome, IfNone, MatchOption, length, find, slice_get};
+ghost use Rattle.std.specs.Prelude.{◌≡◌, ◌≢◌, [], ◌≤◌, ◌<◌, ◌+◌, Bool, true, false, None, IsTrue, IfOk, IfSome, IfNone, MatchOption, length, find, slice_get};
 ghost use Rattle.net_types.specs.declared.address.Tag.{Tag};
 ghost use Rattle.next_hop_pool.specs.Free.{free_tags, is_above, IsTag, is_taken, marked, all_free, address_of};
 
@@ -31,6 +31,18 @@ impl Model for Pool {
 }
 
 impl Pool {
+    /// A pool without tags. It takes no memory.
+    pub fn none(alloc: Global) -> Pool
+        ensures { result ≡ record { base = record { 0 = 0 }; taken = [] } }
+    {
+        Pool {
+            base: 0,
+            taken: Vec::new(alloc),
+            least: 0,
+            free: 0,
+        }
+    }
+
     /// The pool of the tags from 1 to `size`, all free, with the addresses after `base`.
     pub fn new(alloc: Global, base: Ip, size: u32) -> Result<Pool, Memory>
         requires some { 0 < size }

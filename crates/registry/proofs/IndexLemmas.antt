@@ -64,6 +64,11 @@ find_alike : {A : Type 0} (f g : A → Bool) → ((x : A) → f x ≡ g x) → (
 find_alike f g same [] = refl
 find_alike f g same (x ∷ xs) = ap (λ b. cond b (Some x) (find f xs)) (same x) ∙ ap (cond (g x) (Some x)) (find_alike f g same xs)
 
+-- the place of the one of a number is its place among the numbers
+pub number_place : {A : Type 0} (q : ℕ) (number : A → ℕ) (ks : List ℕ) (xs : List A) → ks ≡ map number xs → position (nat_eq q) ks ≡ position_from (λ x. nat_eq (number x) q) 0 xs
+number_place q number ks xs same =
+    position_from-zero (nat_eq q) ks ∙ ap (position_from (nat_eq q) 0) same ∙ position_map (nat_eq q) number 0 xs ∙ position_alike _ _ (λ x. nat_eq_equiv.symm q (number x)) 0 xs
+
 -- the one of a number, by its place among the numbers
 pub numbered_is : {A : Type 0} (q : ℕ) (number : A → ℕ) (ks : List ℕ) (xs : List A) → ks ≡ map number xs → option_and_then (slice_get xs) (position (nat_eq q) ks) ≡ find (λ x. nat_eq (number x) q) xs
 numbered_is q number ks xs same =

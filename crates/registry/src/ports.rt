@@ -1,7 +1,7 @@
 //! Ports by their places, numbers, addresses, hardware addresses and owners.
 
-ghost use Rattle.std.specs.Prelude.{◌≡◌, ◌&&◌, ◌||◌, ◌++◌, ◌∷◌, [], List, map, filter, find, nat_eq, OnOk, OnErr, false};
-ghost use Rattle.std.specs.List.{list_any};
+ghost use Rattle.std.specs.Prelude.{◌≡◌, ◌&&◌, ◌||◌, ◌++◌, ◌∷◌, [], List, map, filter, find, nat_eq, OnOk, OnErr, false, length, IfSome, ◌<◌};
+ghost use Rattle.std.specs.List.{list_any, position_from};
 ghost use Rattle.std.specs.Option.{option_copied, option_map_or};
 ghost use Rattle.net_types.specs.Octets.{same_octets};
 
@@ -51,6 +51,14 @@ impl Ports {
         ensures { result.now ≡ self.now }
     {
         self.list.as_slice()
+    }
+
+    /// The place of the port of a number.
+    pub fn place(&self, number: PortNo) -> Option<usize>
+        ensures place { result ≡ position_from (λ q. nat_eq q.number.0 number.0) 0 self.now }
+        ensures within { IfSome result (λ place. place < length self.now) }
+    {
+        self.numbers.get_index_of(&number.0)
     }
 
     /// The port of a number.

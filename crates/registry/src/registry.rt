@@ -1,6 +1,7 @@
 //! What is declared.
 
-ghost use Rattle.std.specs.Prelude.{◌≡◌, ◌≤◌, ◌<◌, ◌++◌, ◌∷◌, [], ◌↔◌, true, false, is_some, length, slice_get, IsTrue, IfOk, OnOk, OnErr, None, IfSome};
+ghost use Rattle.std.specs.Prelude.{◌≡◌, ◌≤◌, ◌<◌, ◌++◌, ◌∷◌, [], ◌↔◌, true, false, is_some, length, slice_get, IsTrue, IfOk, OnOk, OnErr, None, IfSome, nat_eq};
+ghost use Rattle.std.specs.List.{position_from};
 ghost use Rattle.std.specs.Option.{option_copied};
 ghost use Rattle.registry.specs.Registered.{Registered, named, port_of, port_with, first_port, ports_of, has_address, is_taken, with_participant, with_port};
 
@@ -52,14 +53,25 @@ impl Registry {
         ensures declared { OnOk result (self.new ≡ with_participant self.old (record { name = name.now; asn = asn; id = id })) }
         ensures unchanged { OnErr result (self.new ≡ self.old) }
     {
-        if self.find(name).is_some() {
+        self.add_octets(name.as_bytes(), asn, id)
+    }
+
+    /// Declares a participant whose name has these octets, as `add_participant` does.
+    pub fn add_octets(&mut self, name: &[u8], asn: u32, id: Ip) -> Result<Pid, RegFault>
+        ensures taken { (result ≡ Err RegFault.Taken) ↔ (is_some (named self.old name.now) ≡ true) }
+        ensures full { (result ≡ Err RegFault.Full) ↔ ((is_some (named self.old name.now) ≡ false) × (256 ≤ length self.old.participants)) }
+        ensures place { IfOk result (λ who. who.0 ≡ length self.old.participants) }
+        ensures declared { OnOk result (self.new ≡ with_participant self.old (record { name = name.now; asn = asn; id = id })) }
+        ensures unchanged { OnErr result (self.new ≡ self.old) }
+    {
+        if self.find_octets(name).is_some() {
             return Err(RegFault::Taken);
         }
         let place = self.participants().len();
         if place >= MOST_PARTICIPANTS {
             return Err(RegFault::Full);
         }
-        match self.participants.add(name.as_bytes(), asn, id) {
+        match self.participants.add(name, asn, id) {
             Ok(()) => Ok(Pid(place as u32)),
             Err(_) => Err(RegFault::Memory),
         }
@@ -133,6 +145,14 @@ impl Registry {
         ensures { option_copied result ≡ port_of self.now number }
     {
         self.ports.numbered(number)
+    }
+
+    /// The place of a port in the order of declaration, by its number.
+    pub fn port_place(&self, number: PortNo) -> Option<usize>
+        ensures place { result ≡ position_from (λ q. nat_eq q.number.0 number.0) 0 self.now.ports }
+        ensures within { IfSome result (λ place. place < length self.now.ports) }
+    {
+        self.ports.place(number)
     }
 
     /// The port that has an address.

@@ -15,9 +15,6 @@ use Rattle.net_types.specs.declared.address.Ip.{Ip}
 use Rattle.net_types.specs.declared.address.Mac.{Mac}
 use Rattle.net_types.specs.declared.address.Tag.{Tag}
 use Rattle.net_types.specs.declared.route.PortInfo.{PortInfo}
-use Rattle.sdx_core.specs.Given.{given_to}
-use Rattle.sdx_core.specs.declared.announcement.Announcement.{Announcement}
-use Rattle.sdx_core.specs.declared.given.Given.{Given}
 
 -- by number
 abbrev pub is_before : Ip → Ip → Bool
@@ -45,22 +42,6 @@ reply_to base r = arp_reply r.mac r.ip r.target (mac_at base r.target)
 -- the router at a port asks for an address of the pool, and the responder replies
 abbrev pub exchange_for : Ip → PortInfo → Ip → Exchange
 exchange_for base q ip = record { request = Some (arp_request q.mac q.ip ip); reply = arp_reply q.mac q.ip ip (mac_at base ip) }
-
--- the address of a tag
-abbrev pub address_of : Ip → Tag → Ip
-address_of base t = record { 0 = base.0 + t.0 }
-
--- an address, where it isn't among those
-abbrev pub if_missing : List Ip → Ip → Option Ip
-if_missing known ip = if list_any (same_ip ip) known then None else Some ip
-
--- the next hop of an announcement that a participant of this AS is given, where it isn't among those
-abbrev pub missing_hop : Ip → ℕ → List Ip → Announcement → Option Ip
-missing_hop base asn known a = option_and_then (λ (g : Given). if_missing known (address_of base g.tag)) (given_to asn a)
-
--- the next hops that aren't among those, in the order of the announcements
-abbrev pub missing_hops : Ip → ℕ → List Ip → List Announcement → List Ip
-missing_hops base asn known anns = filter_map (missing_hop base asn known) anns
 
 -- what a router has resolved after a request: the address asked for too, where it asked with its own MAC
 abbrev pub learned : List Ip → Mac → ArpRequest → List Ip

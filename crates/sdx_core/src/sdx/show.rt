@@ -6,10 +6,9 @@ ghost use Rattle.events.specs.declared.Event.TheVariants as lines;
 
 use super::Sdx;
 use crate::line_order::is_declared;
-use crate::match_switch::listing::all_flows;
 use crate::replies::{bare_reply, refused};
 use events::{Head, Phase, Refusal, Reply};
-use net_types::{Items, Memory};
+use net_types::Memory;
 
 impl Sdx {
     /// All rules of the table.
@@ -19,15 +18,10 @@ impl Sdx {
         if !is_declared(self.phase) {
             return Ok(refused(self.alloc, Refusal::Misplaced));
         }
-        let flows = all_flows(
-            self.alloc,
-            self.participants.items(),
-            self.ports.items(),
-            self.announcements.as_slice(),
-        )?;
+        let flows = self.switch.flows(self.alloc)?;
         self.phase = Phase::Running;
         let mut reply = bare_reply(self.alloc, Head::Fine);
-        reply.adds = Items::from_vec(flows);
+        reply.adds = flows;
         Ok(reply)
     }
 }
