@@ -5,4 +5,7 @@ pub mod Forwards
 pub mod NewPairs
 pub mod DeadTags
 pub mod SortedLists
+pub mod EmptiedTags
 pub mod Loops
+pub mod CountedTags
+pub mod EmptiedLoop

@@ -1,8 +1,14 @@
 //! The pairs that come and go with a change of routes.
 #![tactic(auto)]
 
+mod ascending;
+pub mod emptied;
 mod forward;
+mod pairs;
 mod theorem;
 
 pub use forward::{Forward, Fresh};
-pub use theorem::{dead_tags_are_live_only, gone_pairs_are_live_only, new_pairs_are_live_only};
+pub use pairs::{gone_pairs, new_flows, untold};
+pub use theorem::{
+    dead_tags_are_live_only, emptied_tags_are_those, gone_pairs_are_live_only, new_pairs_are_live_only,
+};

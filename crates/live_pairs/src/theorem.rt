@@ -1,6 +1,7 @@
 //! Laws of the pairs and tags that a change of routes brings and takes. The functions have empty bodies, and their contracts
 //! are the laws.
 
+ghost use Rattle.live_pairs.specs.Emptied.{EmptiedAreThose};
 ghost use Rattle.live_pairs.specs.LiveOnly.{GonePairsAreThose, GonePairsAreDropped, NewFlowsAreAdded, NewPairsAreThose, UntoldAreDead};
 
 /// The pairs of the emptied tags are those that are live no more, and those that are dropped.
@@ -20,3 +21,7 @@ pub fn dead_tags_are_live_only()
     ensures { UntoldAreDead }
 {}
 
+/// The tags of changed prefixes that no other prefix has are those that no prefix has once the changes are made.
+pub fn emptied_tags_are_those()
+    ensures { EmptiedAreThose }
+{}
