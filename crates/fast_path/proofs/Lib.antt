@@ -1,3 +1,7 @@
 pub mod GroupLemmas
 pub mod FreeLemmas
 pub mod TagsPlanned
+pub mod CommittedFresh
+pub mod CommittedMaps
+pub mod CommittedSignatures
+pub mod CommittedTags

@@ -19,6 +19,12 @@ use Rattle.prefix_classes.specs.Laws.{changed}
 abbrev pub Kept : Type 0
 Kept = Tag × List Part
 
+-- each tag with the signature at its place
+abbrev pub kept_of : List Tag → List (List Part) → List Kept
+kept_of [] sigs = []
+kept_of (t ∷ ts) [] = []
+kept_of (t ∷ ts) (sig ∷ sigs) = (t, sig) ∷ kept_of ts sigs
+
 -- the signatures with those of fresh tags
 abbrev pub kept_with : FinMap tag_cmp (List Part) → List Kept → FinMap tag_cmp (List Part)
 kept_with m [] = m

@@ -1,3 +1,4 @@
 pub mod Grouping
 pub mod Shown
 pub mod Committing
+pub mod Planned

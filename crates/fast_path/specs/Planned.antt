@@ -1,0 +1,44 @@
+-- What a plan of a change of routes says: the fresh tags with their signatures, and the tags and pairs that come and go.
+use Rattle.std.specs.Prelude.{◌≡◌, Bool, true, false, nat_lt, List, [], ◌∷◌, length, map, take, Some}
+use Rattle.std.specs.Option.{option_map}
+use Rattle.events.specs.Sound.{owners_part}
+use Rattle.events.specs.State.{State}
+use Rattle.events.specs.Tags.{Group, free_tags, groups, is_live}
+use Rattle.events.specs.declared.Flow.{Flow}
+use Rattle.exchange_laws.specs.Listed.{AreLiveOnly}
+use Rattle.exchange_laws.specs.Rules.{default_rules}
+use Rattle.net_types.specs.Exports.{Routing}
+use Rattle.net_types.specs.Sets.{Member}
+use Rattle.net_types.specs.declared.address.Tag.{Tag}
+use Rattle.net_types.specs.declared.route.Part.{Part}
+use Rattle.fast_path.specs.Committing.{Block, Kept, kept_of}
+
+-- the fresh tags, in the order of the groups
+abbrev pub group_tags : State → Routing → List Tag
+group_tags s r = take (length (groups s r)) (free_tags s)
+
+-- the signatures of the groups
+abbrev pub group_signatures : State → Routing → List (List Part)
+group_signatures s r = map (λ (g : Group). g.after) (groups s r)
+
+-- the fresh tags with their signatures
+abbrev pub group_kept : State → Routing → List Kept
+group_kept s r = kept_of (group_tags s r) (group_signatures s r)
+
+-- exactly the tags that are live in the one state and not in the other
+pub record AreDead (s s1 : State) (ts : List Tag) : Type 0 where
+  pub each : (t : Tag) → Member t ts → (is_live s t ≡ true) × (is_live s1 t ≡ false)
+  pub all : (t : Tag) → is_live s t ≡ true → is_live s1 t ≡ false → Member t ts
+
+-- one tag is a smaller number than another
+abbrev pub is_tag_below : Tag → Tag → Bool
+is_tag_below t u = nat_lt t.0 u.0
+
+-- a flow for each pair that is live in the second state alone, with the default rule of its port's owner
+pub record AreNewFlows (s s1 : State) (adds : List Flow) : Type 0 where
+  pub live : AreLiveOnly s1 s (map (λ (f : Flow). f.pair) adds)
+  pub rules : (f : Flow) → Member f adds → option_map default_rules (owners_part s1 f.pair) ≡ Some (f.rule ∷ [])
+
+-- each flow's rule, alone, for its pair
+abbrev pub blocks_of : List Flow → List Block
+blocks_of fs = map (λ (f : Flow). let b : Block = (f.pair, f.rule ∷ []) in b) fs
