@@ -42,7 +42,8 @@ without_is : (m : KeptOf) (ts : List Tag) → kept_without m ts ≡ without_all 
 without_is m [] = refl
 without_is m (t ∷ ts) = without_is (remove m t) ts
 
-nothing : {A : Type 0} (o : Option A) → (is_some o ≡ true → ⊥) → o ≡ None
+-- what is not there is nothing
+pub nothing : {A : Type 0} (o : Option A) → (is_some o ≡ true → ⊥) → o ≡ None
 nothing None none = refl
 nothing (Some x) none = absurd (none refl)
 

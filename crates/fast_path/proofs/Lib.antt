@@ -5,3 +5,5 @@ pub mod CommittedFresh
 pub mod CommittedMaps
 pub mod CommittedSignatures
 pub mod CommittedTags
+pub mod CommittedPool
+pub mod CommittedTable

@@ -11,6 +11,8 @@ use Rattle.net_types.specs.Exports.{Routing}
 use Rattle.net_types.specs.Sets.{Member}
 use Rattle.net_types.specs.declared.address.Tag.{Tag}
 use Rattle.net_types.specs.declared.route.Part.{Part}
+use Rattle.next_hop_pool.specs.Free.{Tags}
+use Rattle.next_hop_pool.specs.Free as pool
 use Rattle.fast_path.specs.Committing.{Block, Kept, kept_of}
 
 -- the fresh tags, in the order of the groups
@@ -33,6 +35,12 @@ pub record AreDead (s s1 : State) (ts : List Tag) : Type 0 where
 -- one tag is a smaller number than another
 abbrev pub is_tag_below : Tag → Tag → Bool
 is_tag_below t u = nat_lt t.0 u.0
+
+-- the pool has the tags of the state, and the same ones are free
+pub record IsPoolOf (s : State) (p : Tags) : Type 0 where
+  pub free : pool.free_tags p ≡ free_tags s
+  pub size : length p.taken ≡ s.size
+  pub base : p.base ≡ s.base
 
 -- a flow for each pair that is live in the second state alone, with the default rule of its port's owner
 pub record AreNewFlows (s s1 : State) (adds : List Flow) : Type 0 where
