@@ -1,6 +1,6 @@
 -- The fresh tags: each stands beside its group, and is live afterwards with its group's signature.
-use Rattle.std.proofs.Common.{◌≡◌, ℕ, zero, suc, ◌<◌, ◌≤◌, ◌⊎◌, Bool, true, false, cond, List, [], ◌∷◌, filter, length, map, not, take, sym, ap, subst, ◌∙◌, refl, arith, inl, inr, min}
-use Rattle.std.specs.Prelude.{Option, Some, None, slice_get}
+use Rattle.std.proofs.Common.{◌≡◌, ℕ, zero, suc, ◌<◌, ◌⊎◌, Bool, true, false, cond, List, [], ◌∷◌, filter, length, map, not, sym, ap, ◌∙◌, refl, arith, inl, inr}
+use Rattle.std.specs.Prelude.{Some, None, slice_get}
 use Rattle.std.specs.FinMap.{get, values}
 use Rattle.std.specs.List.{list_any}
 use Rattle.std.specs.Option.{option_map}
@@ -10,12 +10,11 @@ use Rattle.std.proofs.lemmas.Option.{slice_get-map, slice_get_within}
 use Rattle.events.specs.State.{State}
 use Rattle.events.specs.Tags.{Group, each_once, carried, free_tags, fresh_tag, group_of, groups, is_carried, is_changed, is_live, retagged, same_group, same_tag, tags, tells}
 use Rattle.exchange_laws.proofs.FreshTags.{by_place, fresh_free, group_listed, tags_rise}
-use Rattle.exchange_laws.proofs.Lists.{clash, place_of, some_of}
+use Rattle.exchange_laws.proofs.Lists.{place_of, some_of}
 use Rattle.exchange_laws.proofs.TagsAfter.{live_cases, live_of, signatures_are_kept, tags_are}
 use Rattle.exchange_laws.specs.Fresh.{HasEnoughTags, IsFree}
 use Rattle.exchange_laws.specs.Retagging.{TagsArePooled}
 use Rattle.net_types.proofs.FindLemmas.{slice_get-Member, slice_get_some}
-use Rattle.net_types.proofs.OrderLemmas.{prefix_tie}
 use Rattle.net_types.proofs.RisingLemmas.{filter-IsRising, filter-Member}
 use Rattle.net_types.proofs.SetLemmas.{map-Member}
 use Rattle.net_types.specs.Exports.{Routing}

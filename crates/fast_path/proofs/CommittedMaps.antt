@@ -1,5 +1,5 @@
 -- Maps after several values are put in or taken out, members with their places, and lists that rise.
-use Rattle.std.proofs.Common.{◌≡◌, ℕ, zero, suc, ◌<◌, ◌≤◌, ◌⊎◌, Bool, true, false, cond, ◌||◌, List, [], ◌∷◌, filter, length, map, take, sym, ap, subst, ◌∙◌, refl, arith, inl, inr}
+use Rattle.std.proofs.Common.{◌≡◌, ℕ, zero, suc, ◌<◌, ◌≤◌, ◌⊎◌, Bool, true, false, cond, ◌||◌, List, [], ◌∷◌, filter, length, take, sym, ap, ◌∙◌, refl, arith, inl, inr}
 use Rattle.std.specs.Prelude.{Option, Some, None, slice_get}
 use Rattle.std.specs.Cmp.{IsTotalOrder}
 use Rattle.std.specs.FinMap.{FinMap, get, get-insert, get-remove, insert, remove}
@@ -8,7 +8,7 @@ use Rattle.std.specs.Ordering.{eq_by_cmp}
 use Rattle.std.specs.declared.cmp.Ordering.{Ordering}
 use Rattle.std.proofs.lemmas.Bool.{false_from_ne_true}
 use Rattle.events.proofs.OrderedLemmas.{any_member, member_any}
-use Rattle.exchange_laws.proofs.Lists.{clash, some_of}
+use Rattle.exchange_laws.proofs.Lists.{clash}
 use Rattle.net_types.proofs.FindLemmas.{Member-take}
 use Rattle.net_types.proofs.TieLemmas.{ties_itself}
 use Rattle.net_types.specs.Sets.{IsRising, Member}

@@ -1,6 +1,6 @@
 -- With the fresh tags taken and the dead ones given back, the free tags of the pool are those of the state afterwards.
-use Rattle.std.proofs.Common.{◌≡◌, ℕ, ◌+◌, ◌-◌, ◌<◌, ◌≤◌, ◌≢◌, ◌⊎◌, Bool, true, false, cond, eq-eqb, filter, get_or-set_other, get_or-set_same, length-set, List, [], ◌∷◌, length, map, not, sym, ap, subst, ◌∙◌, refl, arith, inl, inr, take}
-use Rattle.std.proofs.lemmas.Bool.{false_from_ne_true, ltb-true}
+use Rattle.std.proofs.Common.{◌≡◌, ◌-◌, ◌<◌, ◌≤◌, Bool, true, false, eq-eqb, filter, get_or-set_other, get_or-set_same, length-set, List, [], ◌∷◌, length, map, not, sym, ap, subst, ◌∙◌, refl, arith, inl, inr, take}
+use Rattle.std.proofs.lemmas.Bool.{ltb-true}
 use Rattle.events.specs.State.{State}
 use Rattle.events.specs.Tags.{groups, is_live, retagged, same_tag, tags}
 use Rattle.events.specs.Tags as events
@@ -8,12 +8,10 @@ use Rattle.exchange_laws.proofs.Lists.{clash, not_true, numbers_range}
 use Rattle.exchange_laws.proofs.Sames.{tag_same}
 use Rattle.exchange_laws.specs.Retagging.{TagsArePooled}
 use Rattle.exchange_laws.specs.Rules.{with_rules}
-use Rattle.net_types.proofs.OrderLemmas.{tags_total}
 use Rattle.net_types.proofs.RisingLemmas.{Member-filter, filter-Member}
 use Rattle.net_types.specs.Exports.{Routing}
 use Rattle.net_types.specs.Routes.{numbers}
 use Rattle.net_types.specs.Sets.{IsRising, Member}
-use Rattle.net_types.specs.declared.address.Ip.{Ip}
 use Rattle.net_types.specs.declared.address.Tag.{Tag}
 use Rattle.fast_path.proofs.CommittedFresh.{fresh_listed, fresh_live, listed_fresh, live_from_before, was_free}
 use Rattle.fast_path.proofs.CommittedMaps.{filter_alike}

@@ -1,31 +1,23 @@
 -- With the signatures of the fresh tags kept, and those of the dead ones forgotten, the signatures are those of the state afterwards.
-use Rattle.std.proofs.Common.{◌≡◌, ◌⊎◌, Bool, true, false, cond, List, [], ◌∷◌, not, sym, ap, subst, ◌∙◌, refl, inl, inr}
+use Rattle.std.proofs.Common.{◌≡◌, Bool, true, false, cond, List, [], ◌∷◌, sym, ap, ◌∙◌, refl, inl, inr}
 use Rattle.std.specs.Prelude.{Option, Some, None, is_some}
-use Rattle.std.specs.FinMap.{FinMap, get, get-insert, insert, remove, same_map}
+use Rattle.std.specs.FinMap.{FinMap, get, insert, remove, same_map}
 use Rattle.std.specs.Ordering.{eq_by_cmp}
-use Rattle.std.proofs.lemmas.Bool.{false_from_ne_true, ltb-true}
-use Rattle.events.specs.Fits.{tag_changes}
 use Rattle.events.specs.State.{State}
-use Rattle.events.specs.Tags.{is_live, kept_signature, retagged, same_tag}
-use Rattle.events.specs.declared.TagChange.{TagChange}
-use Rattle.exchange_laws.proofs.Lists.{clash, is_some_of}
-use Rattle.exchange_laws.proofs.Sames.{tags_test}
-use Rattle.exchange_laws.proofs.TagsAfter.{kept_is, live_of, live_tags_stay}
+use Rattle.events.specs.Tags.{is_live, kept_signature, retagged}
+use Rattle.exchange_laws.proofs.Lists.{clash}
+use Rattle.exchange_laws.proofs.TagsAfter.{kept_is, live_tags_stay}
 use Rattle.exchange_laws.specs.Retagging.{KeptAreLive, TagsArePooled}
 use Rattle.net_types.proofs.OrderLemmas.{tags_total}
 use Rattle.net_types.proofs.TieLemmas.{same_from_tie, tag_cmp-IsAntisymmetric}
-use Rattle.net_types.specs.Attributes.{same_option}
 use Rattle.net_types.specs.Exports.{Routing}
 use Rattle.net_types.specs.Keys.{tag_cmp}
-use Rattle.net_types.specs.Sets.{IsRising, Member}
 use Rattle.net_types.specs.declared.address.Tag.{Tag}
-use Rattle.net_types.specs.declared.prefix.Prefix.{Prefix}
 use Rattle.net_types.specs.declared.route.Part.{Part}
-use Rattle.fast_path.proofs.CommittedFresh.{IsFresh, each_kept, fresh_listed, fresh_live, fresh_with_signature, group_tags_rise, listed_fresh, live_from_before, tag_from, was_free}
-use Rattle.fast_path.proofs.CommittedMaps.{get_with_all, get_without_others, get_without_those, stands_or_not, with_all, without_all}
-use Rattle.fast_path.proofs.CommittedTags.{each_made}
-use Rattle.fast_path.specs.Committing.{AreUnkept, HaveKept, Kept, kept_of, kept_with, kept_without}
-use Rattle.fast_path.specs.Planned.{AreDead, group_kept, group_tags, group_signatures, is_tag_below}
+use Rattle.fast_path.proofs.CommittedFresh.{each_kept, fresh_with_signature, live_from_before}
+use Rattle.fast_path.proofs.CommittedMaps.{get_with_all, get_without_others, get_without_those, with_all, without_all}
+use Rattle.fast_path.specs.Committing.{Kept, kept_with, kept_without}
+use Rattle.fast_path.specs.Planned.{AreDead, group_kept}
 
 -- the signatures that are kept
 abbrev KeptOf : Type 0

@@ -1,7 +1,7 @@
 -- With the rules of the dropped pairs taken out, and those of the new pairs put in, the table is the one afterwards.
-use Rattle.std.proofs.Common.{◌≡◌, ◌⊎◌, Bool, true, false, cond, List, [], ◌∷◌, map, sym, ap, subst, ◌∙◌, refl, inl, inr}
-use Rattle.std.specs.Prelude.{Option, Some, None, is_some}
-use Rattle.std.specs.FinMap.{FinMap, get, insert, remove, same_map}
+use Rattle.std.proofs.Common.{◌≡◌, ◌⊎◌, Bool, true, false, cond, List, [], ◌∷◌, sym, ap, subst, ◌∙◌, refl, inl, inr}
+use Rattle.std.specs.Prelude.{Some, None}
+use Rattle.std.specs.FinMap.{get, insert, remove, same_map}
 use Rattle.std.specs.Option.{option_map}
 use Rattle.std.specs.Ordering.{eq_by_cmp}
 use Rattle.events.specs.After.{without_pairs}
@@ -21,7 +21,6 @@ use Rattle.net_types.specs.Exports.{Routing}
 use Rattle.net_types.specs.Keys.{pair_cmp}
 use Rattle.net_types.specs.Sets.{Member}
 use Rattle.net_types.specs.declared.rule.Pair.{Pair}
-use Rattle.net_types.specs.declared.rule.Rule.{Rule}
 use Rattle.fast_path.proofs.CommittedMaps.{IsPut, get_with_all, get_without_others, get_without_those, with_all, without_all}
 use Rattle.fast_path.proofs.CommittedSignatures.{nothing}
 use Rattle.fast_path.specs.Committing.{Block, with_blocks}

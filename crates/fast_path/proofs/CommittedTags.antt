@@ -1,6 +1,6 @@
 -- With all changes of tags made, the prefixes have the tags that they are to have.
 use Rattle.std.proofs.Common.{◌≡◌, ◌≤◌, Bool, true, false, not, List, [], ◌∷◌, ◌++◌, filter, length, map, sym, ap, subst, ◌∙◌, refl, arith}
-use Rattle.std.specs.Prelude.{Option, Some, None, is_some}
+use Rattle.std.specs.Prelude.{Option, Some, None}
 use Rattle.std.specs.FinMap.{FinMap, get, keys, same_map}
 use Rattle.std.proofs.lemmas.List.{length-map}
 use Rattle.events.proofs.OrderedLemmas.{ordered_rises, ordered_same}

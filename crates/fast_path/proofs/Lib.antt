@@ -7,3 +7,5 @@ pub mod CommittedSignatures
 pub mod CommittedTags
 pub mod CommittedPool
 pub mod CommittedTable
+pub mod CommittedReplies
+pub mod CommittedSteps
