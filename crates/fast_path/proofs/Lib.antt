@@ -2,3 +2,11 @@ pub mod GroupLemmas
 pub mod FreeLemmas
 pub mod TagsPlanned
 pub mod CommitLemmas
+pub mod CommittedFresh
+pub mod CommittedMaps
+pub mod CommittedSignatures
+pub mod CommittedTags
+pub mod CommittedPool
+pub mod CommittedTable
+pub mod CommittedReplies
+pub mod CommittedSteps

@@ -2,3 +2,4 @@ pub mod Grouping
 pub mod Shown
 pub mod Committing
 pub mod Plans
+pub mod Planned
