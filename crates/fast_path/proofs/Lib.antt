@@ -10,3 +10,4 @@ pub mod CommittedPool
 pub mod CommittedTable
 pub mod CommittedReplies
 pub mod CommittedSteps
+pub mod PlanFound

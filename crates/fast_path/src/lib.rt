@@ -10,7 +10,5 @@ mod planning;
 mod tagging;
 
 pub use committing::{commit, reserve};
-pub use grouping::groups;
 pub use planned::{FastFault, Plan};
 pub use planning::plan;
-pub use tagging::{fresh_tags, tag_changes};

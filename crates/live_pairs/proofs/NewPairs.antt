@@ -20,7 +20,7 @@ use Rattle.exchange_laws.proofs.Sames.{signatures_test}
 use Rattle.exchange_laws.proofs.TagsAfter.{signatures_are_kept, tags_are}
 use Rattle.exchange_laws.specs.Steady.{PortsDiffer}
 use Rattle.exchange_laws.specs.Listed.{AreLiveOnly}
-use Rattle.exchange_laws.specs.Rules.{IsChange, default_rules, with_rules}
+use Rattle.exchange_laws.specs.Rules.{IsChange, default_rules, rule_to, with_rules}
 use Rattle.live_pairs.proofs.Forwards.{IsBy, IsForwardOf, forward_listed, forward_of, forwards_tie, forwards_total, get_mapped, get_taken, mapped_at, one_each, pairs_rise, rules_of, taken_at}
 use Rattle.live_pairs.proofs.GonePairs.{has_live}
 use Rattle.live_pairs.proofs.PortsAndTags.{IsPortOf, found_number, number_listed, port_listed, present_from}
@@ -188,7 +188,7 @@ module _ (s : State) (r : Routing) (change : IsChange s r) (own : PortsDiffer s.
 
   -- ---- in order
 
-  abbrev listed : List Forward
+  abbrev pub listed : List Forward
   listed = ordered forward_cmp (forwards names (group_signatures s r) (group_tags s r))
 
   new_of : (f : Forward) → Member f listed → IsNew f
@@ -209,6 +209,10 @@ module _ (s : State) (r : Routing) (change : IsChange s r) (own : PortsDiffer s.
         subst (λ x. Member x (map (λ (g : Forward). g.pair) listed)) f.1
         (Member-map (λ (g : Forward). g.pair) listed f.0 ((ordered_same forward_cmp forwards_total forwards_tie (forwards names (group_signatures s r) (group_tags s r))).back f.0 f.2));
   }
+
+  -- the rule of each is that of its owner's part
+  pub new_flow_rules : (f : Forward) → Member f listed → option_map default_rules (owners_part s1 f.pair) ≡ Some (rule_to f.to ∷ [])
+  new_flow_rules f m = let is = new_of f m in ap (option_map default_rules) is.owns ∙ ap (λ n. Some (rule_to n ∷ [])) (sym is.to)
 
   -- the rule of each
   new_rules : (pair : Pair) → Member pair (map (λ (f : Forward). f.pair) listed) → get (with_rules s s1).table pair ≡ Some (rules_of (owner_port s1) pair)

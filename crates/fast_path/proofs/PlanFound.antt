@@ -1,0 +1,136 @@
+-- What is found by the parts of an exchange is the plan of its state.
+use Rattle.std.proofs.Common.{◌≡◌, ℕ, ◌+◌, ◌<◌, ◌≤◌, List, [], ◌∷◌, length, map, take, not, sym, ap, subst, ◌∙◌, refl, arith}
+use Rattle.std.specs.Prelude.{Some}
+use Rattle.std.specs.FinMap.{FinMap}
+use Rattle.std.specs.List.{list_any}
+use Rattle.std.specs.Option.{option_map}
+use Rattle.net_types.specs.Exports.{Routing}
+use Rattle.net_types.specs.Keys.{prefix_cmp}
+use Rattle.net_types.specs.Sets.{IsRising, Member}
+use Rattle.net_types.specs.declared.address.Tag.{Tag}
+use Rattle.net_types.specs.declared.route.Part.{Part}
+use Rattle.net_types.proofs.RisingLemmas.{filter-IsRising}
+use Rattle.net_types.proofs.SetLemmas.{map-Member}
+use Rattle.events.specs.Fits.{tag_changes}
+use Rattle.events.specs.Sound.{owners_part, rule_count}
+use Rattle.events.specs.State.{State}
+use Rattle.events.specs.Tags as events
+use Rattle.events.specs.Tags.{Group, groups, retagged, tells}
+use Rattle.events.specs.declared.Entry.{Entry}
+use Rattle.events.specs.declared.Flow.{Flow}
+use Rattle.events.specs.declared.TagChange.{TagChange}
+use Rattle.exchange_laws.specs.Fresh.{HasEnoughTags}
+use Rattle.exchange_laws.specs.Listed.{AreLiveOnly}
+use Rattle.exchange_laws.specs.Rules.{IsChange, default_rules, rule_to, with_rules}
+use Rattle.exchange_laws.specs.Touched.{IsTouching}
+use Rattle.exchange_laws.proofs.OneRuleEach.{steady_have_one_each}
+use Rattle.live_pairs.specs.Emptied.{emptied}
+use Rattle.live_pairs.specs.LiveOnly.{AreDead, AreEmptied, PortsDiffer, group_signatures, group_tags, registered}
+use Rattle.live_pairs.specs.Pairs.{flow_of, gone_pairs, new_flows, untold}
+use Rattle.live_pairs.specs.declared.forward.Forward.{Forward}
+use Rattle.live_pairs.specs.declared.forward.Fresh.{Fresh}
+use Rattle.live_pairs.proofs.DeadTags.{untold_are_dead}
+use Rattle.live_pairs.proofs.EmptiedTags.{emptied_are_those}
+use Rattle.live_pairs.proofs.GonePairs.{gone_pairs_are_those}
+use Rattle.live_pairs.proofs.NewPairs.{listed, new_flow_rules, new_live_only}
+use Rattle.match_switch.specs.Installed.{Installed}
+use Rattle.next_hop_pool.specs.Free.{Tags, free_tags}
+use Rattle.prefix_classes.specs.Classes.{Classes}
+use Rattle.registry.specs.Registered.{Registered}
+use Rattle.route_server.specs.Proposed.{Proposed}
+use Rattle.fast_path.specs.Grouping.{changes_of, groups_of, known, more_groups, moved_groups}
+use Rattle.fast_path.specs.Planned.{AreNewFlows, is_tag_below}
+use Rattle.fast_path.specs.Plans.{IsAsked}
+use Rattle.fast_path.proofs.CommittedReplies.{rules_then_counted}
+use Rattle.fast_path.proofs.TagsPlanned.{changes_found, groups_found, known_of}
+
+class_signatures : (fs : List Fresh) → map (λ (f : Fresh). f.sig) fs ≡ map (λ (g : Group). g.after) (groups_of fs)
+class_signatures [] = refl
+class_signatures (f ∷ fs) = ap (λ sigs. f.sig ∷ sigs) (class_signatures fs)
+
+class_count : (fs : List Fresh) → length (groups_of fs) ≡ length fs
+class_count [] = refl
+class_count (f ∷ fs) = ap (λ n. n + 1) (class_count fs)
+
+flows_pairs : (fs : List Forward) → map (λ (f : Flow). f.pair) (map flow_of fs) ≡ map (λ (f : Forward). f.pair) fs
+flows_pairs [] = refl
+flows_pairs (f ∷ fs) = ap (λ ps. f.pair ∷ ps) (flows_pairs fs)
+
+-- the flows of forwards that become live, with the rules of their owners' parts
+listed_are : {s s1 : State} (fs : List Forward) → ((f : Forward) → Member f fs → option_map default_rules (owners_part s1 f.pair) ≡ Some (rule_to f.to ∷ [])) → AreLiveOnly s1 s (map (λ (f : Forward). f.pair) fs) → AreNewFlows s s1 (map flow_of fs)
+listed_are {s} {s1} fs rules live = record {
+  live = subst (AreLiveOnly s1 s) (sym (flows_pairs fs)) live;
+  rules = λ f m.
+      let image = map-Member flow_of fs f m in
+      subst (λ (g : Flow). option_map default_rules (owners_part s1 g.pair) ≡ Some (g.rule ∷ [])) (sym image.is) (rules image.of image.stands);
+}
+
+module _ (s : State) (r : Routing) (names : Registered) (classes : Classes) (pool : Tags) (was_told : List (FinMap prefix_cmp Entry)) (switch : Installed) (p : Proposed) (asked : IsAsked s r names classes pool was_told switch p) where
+  abbrev s1 : State
+  s1 = retagged s r
+
+  pub touching : IsTouching s r p.touched
+  touching = record { sound = asked.steady.sound; owners = asked.steady.owners; alike = asked.alike; touched = asked.proposes.touched }
+
+  known_is : known classes ≡ known_of s
+  known_is = λ i. record { tag = sym asked.shown.tag i; kept = sym asked.shown.kept i }
+
+  module _ (fs : List Fresh) (are : groups_of fs ≡ more_groups [] (moved_groups (known classes) p.touched p.sigs)) where
+    pub groups_are : groups_of fs ≡ groups s r
+    groups_are = are ∙ ap (λ k. more_groups [] (moved_groups k p.touched p.sigs)) known_is ∙ ap (λ sigs. more_groups [] (moved_groups (known_of s) p.touched sigs)) asked.proposes.sigs ∙ groups_found s r p.touched touching
+
+    pub need_is : length fs ≡ length (groups s r)
+    need_is = sym (class_count fs) ∙ ap length groups_are
+
+    pub free_is : length (free_tags pool) ≡ length (events.free_tags s)
+    free_is = ap length (sym asked.shown.free)
+
+    pub signatures_are : map (λ (f : Fresh). f.sig) fs ≡ group_signatures s r
+    signatures_are = class_signatures fs ∙ ap (map (λ (g : Group). g.after)) groups_are
+
+    module _ (room : length fs ≤ length (free_tags pool)) (ts : List Tag) (given : ts ≡ take (length fs) (free_tags pool)) where
+      pub enough : HasEnoughTags s r
+      enough = let need : length fs ≡ length (groups s r) = need_is in let free : length (free_tags pool) ≡ length (events.free_tags s) = free_is in omega arith
+
+      pub tags_are : ts ≡ group_tags s r
+      tags_are = given ∙ ap (λ n. take n (free_tags pool)) need_is ∙ ap (take (length (groups s r))) (sym asked.shown.free)
+
+      change : IsChange s r
+      change = record { sound = asked.steady.sound; pooled = asked.steady.pooled; owners = asked.steady.owners; alike = asked.alike; enough = enough }
+
+      module _ (cs : List TagChange) (found : cs ≡ changes_of (known classes) fs ts p.touched p.sigs) where
+        pub changes_are : cs ≡ tag_changes s.tag s1.tag
+        changes_are =
+            found ∙ ap (λ k. changes_of k fs ts p.touched p.sigs) known_is ∙ ap (changes_of (known_of s) fs ts p.touched) asked.proposes.sigs
+            ∙ changes_found s r fs ts groups_are tags_are p.touched touching
+
+        module _ (es : List Tag) (left : es ≡ emptied classes.tag cs) where
+          pub emptied_are : AreEmptied s s1 es
+          emptied_are = subst (AreEmptied s s1) (sym (left ∙ ap (λ m. emptied m cs) (sym asked.shown.tag) ∙ ap (emptied s.tag) changes_are)) (emptied_are_those s r)
+
+          names_are : names ≡ registered s
+          names_are = λ i. record { participants = sym asked.shown.participants i; ports = sym asked.shown.ports i }
+
+          pub dead_are : (ds : List Tag) → ds ≡ untold was_told es → AreDead s s1 ds
+          dead_are ds is = subst (AreDead s s1) (sym (is ∙ ap (λ m. untold m es) (sym asked.shown.told))) (untold_are_dead s r es emptied_are)
+
+          pub rising_dead : (ds : List Tag) → ds ≡ untold was_told es → IsRising is_tag_below es → IsRising is_tag_below ds
+          rising_dead ds is rises = subst (IsRising is_tag_below) (sym is) (filter-IsRising is_tag_below (λ t. not (list_any (λ entries. tells entries t) was_told)) es rises)
+
+          module _ (differ : PortsDiffer s) where
+            pub gone_are : AreLiveOnly s s1 (gone_pairs names classes.kept was_told es)
+            gone_are =
+                subst (AreLiveOnly s s1) (sym (ap (λ n. gone_pairs n classes.kept was_told es) names_are ∙ ap (λ m. gone_pairs (registered s) m was_told es) (sym asked.shown.kept)
+                ∙ ap (λ m. gone_pairs (registered s) s.kept m es) (sym asked.shown.told))) (gone_pairs_are_those s r es change differ emptied_are)
+
+            adds_from : new_flows names (map (λ (f : Fresh). f.sig) fs) ts ≡ new_flows (registered s) (group_signatures s r) (group_tags s r)
+            adds_from =
+                ap (λ n. new_flows n (map (λ (f : Fresh). f.sig) fs) ts) names_are ∙ ap (λ sigs. new_flows (registered s) sigs ts) signatures_are
+                ∙ ap (new_flows (registered s) (group_signatures s r)) tags_are
+
+            pub new_are : AreNewFlows s s1 (new_flows names (map (λ (f : Fresh). f.sig) fs) ts)
+            new_are = subst (AreNewFlows s s1) (sym adds_from) (listed_are (listed s r change differ) (λ f m. new_flow_rules s r change differ f m) (new_live_only s r change differ))
+
+            -- the rules of the table then
+            pub rules_are : rule_count (with_rules s s1) + length (gone_pairs names classes.kept was_told es) ≡ rule_count s + length (new_flows names (map (λ (f : Fresh). f.sig) fs) ts)
+            rules_are = rules_then_counted s r change (gone_pairs names classes.kept was_told es) (new_flows names (map (λ (f : Fresh). f.sig) fs) ts) gone_are new_are (steady_have_one_each s asked.steady)
