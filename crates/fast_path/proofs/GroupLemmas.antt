@@ -1,7 +1,7 @@
 -- Groups, each once, and the tags of their prefixes.
 use Rattle.std.proofs.Common.{◌≡◌, ℕ, zero, suc, ◌+◌, ◌<◌, Bool, true, false, cond, ◌&&◌, ◌||◌, not, List, [], ◌∷◌, ◌++◌, map, length, filter, drop, sym, ap, subst, ◌∙◌, refl, arith}
 use Rattle.std.specs.Prelude.{Option, Some, None, ◌≤◌, slice_get, slice_index_or, unwrap_or}
-use Rattle.std.proofs.lemmas.List.{append_assoc, map-append, drop_all}
+use Rattle.std.proofs.lemmas.List.{append_assoc, append-nil, map-append, drop_all}
 use Rattle.std.specs.FinMap.{get}
 use Rattle.std.specs.List.{list_any, position_from}
 use Rattle.net_types.specs.Attributes.{same_option}
@@ -10,6 +10,7 @@ use Rattle.events.specs.Tags.{Group, each_once, same_group, same_tag}
 use Rattle.net_types.specs.declared.address.Tag.{Tag}
 use Rattle.net_types.specs.declared.prefix.Prefix.{Prefix}
 use Rattle.net_types.specs.declared.route.Part.{Part}
+use Rattle.fast_path.specs.Committing.{Kept, kept_of}
 use Rattle.fast_path.specs.Grouping.{Known, group_at, group_before, group_of_class, groups_of, is_moved, more_groups, moved_groups, one_more, same_class, change_before, changes_of, tag_after}
 use Rattle.live_pairs.specs.declared.forward.Fresh.{Fresh}
 
@@ -83,3 +84,33 @@ changes_step k fs ts ps sigs at p sig cs here there =
 
 pub changes_end : (k : Known) (fs : List Fresh) (ts : List Tag) (ps : List Prefix) (sigs : List (List Part)) (at : ℕ) → length ps ≤ at → changes_of k fs ts (drop at ps) (drop at sigs) ≡ []
 changes_end k fs ts ps sigs at past = ap (λ xs. changes_of k fs ts xs (drop at sigs)) (drop_all at ps past)
+
+-- ---- fresh tags with their signatures
+
+get_mapped : (fs : List Fresh) (n : ℕ) (f : Fresh) → slice_get fs n ≡ Some f → slice_get (map (λ (x : Fresh). x.sig) fs) n ≡ Some f.sig
+get_mapped [] zero f e = cc
+get_mapped [] (suc n) f e = cc
+get_mapped (x ∷ fs) zero f e = let same : x ≡ f = ap (λ o. unwrap_or o f) e in ap (λ (y : Fresh). Some y.sig) same
+get_mapped (x ∷ fs) (suc n) f e = get_mapped fs n f e
+
+past_all : (fs : List Fresh) (n : ℕ) → slice_get fs n ≡ None → drop n (map (λ (x : Fresh). x.sig) fs) ≡ []
+past_all [] zero e = refl
+past_all [] (suc n) e = refl
+past_all (x ∷ fs) zero e = cc
+past_all (x ∷ fs) (suc n) e = past_all fs n e
+
+none_kept : (ts : List Tag) → kept_of ts [] ≡ []
+none_kept [] = refl
+none_kept (t ∷ ts) = refl
+
+-- the next tag, with the signature of the group at its place
+pub kept_step : (fs : List Fresh) (ts : List Tag) (at : ℕ) (t : Tag) (f : Fresh) (ks : List Kept) → slice_get ts at ≡ Some t → slice_get fs at ≡ Some f
+    → ks ++ kept_of (drop at ts) (drop at (map (λ (x : Fresh). x.sig) fs)) ≡ (ks ++ (t, f.sig) ∷ []) ++ kept_of (drop (at + 1) ts) (drop (at + 1) (map (λ (x : Fresh). x.sig) fs))
+kept_step fs ts at t f ks here there =
+    ap (λ xs. ks ++ kept_of xs (drop at (map (λ (x : Fresh). x.sig) fs))) (drop_at ts at t here)
+    ∙ ap (λ xs. ks ++ kept_of (t ∷ drop (at + 1) ts) xs) (drop_at (map (λ (x : Fresh). x.sig) fs) at f.sig (get_mapped fs at f there))
+    ∙ sym (append_assoc ks ((t, f.sig) ∷ []) (kept_of (drop (at + 1) ts) (drop (at + 1) (map (λ (x : Fresh). x.sig) fs))))
+
+-- no more where there is no group
+pub kept_end : (fs : List Fresh) (ts : List Tag) (at : ℕ) (ks : List Kept) → slice_get fs at ≡ None → ks ≡ ks ++ kept_of (drop at ts) (drop at (map (λ (x : Fresh). x.sig) fs))
+kept_end fs ts at ks none = sym (ap (λ xs. ks ++ kept_of (drop at ts) xs) (past_all fs at none) ∙ ap (λ xs. ks ++ xs) (none_kept (drop at ts)) ∙ append-nil ks)

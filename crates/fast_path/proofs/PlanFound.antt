@@ -1,5 +1,5 @@
 -- What is found by the parts of an exchange is the plan of its state.
-use Rattle.std.proofs.Common.{◌≡◌, ℕ, ◌+◌, ◌<◌, ◌≤◌, List, [], ◌∷◌, length, map, take, not, sym, ap, subst, ◌∙◌, refl, arith}
+use Rattle.std.proofs.Common.{◌≡◌, ℕ, suc, ◌+◌, ◌<◌, ◌≤◌, List, [], ◌∷◌, length, map, take, not, sym, ap, subst, ◌∙◌, refl, arith}
 use Rattle.std.specs.Prelude.{Some}
 use Rattle.std.specs.FinMap.{FinMap}
 use Rattle.std.specs.List.{list_any}
@@ -25,7 +25,7 @@ use Rattle.exchange_laws.specs.Rules.{IsChange, default_rules, rule_to, with_rul
 use Rattle.exchange_laws.specs.Touched.{IsTouching}
 use Rattle.exchange_laws.proofs.OneRuleEach.{steady_have_one_each}
 use Rattle.live_pairs.specs.Emptied.{emptied}
-use Rattle.live_pairs.specs.LiveOnly.{AreDead, AreEmptied, PortsDiffer, group_signatures, group_tags, registered}
+use Rattle.live_pairs.specs.LiveOnly.{AreDead, AreEmptied, group_signatures, group_tags, registered}
 use Rattle.live_pairs.specs.Pairs.{flow_of, gone_pairs, new_flows, untold}
 use Rattle.live_pairs.specs.declared.forward.Forward.{Forward}
 use Rattle.live_pairs.specs.declared.forward.Fresh.{Fresh}
@@ -50,7 +50,7 @@ class_signatures (f ∷ fs) = ap (λ sigs. f.sig ∷ sigs) (class_signatures fs)
 
 class_count : (fs : List Fresh) → length (groups_of fs) ≡ length fs
 class_count [] = refl
-class_count (f ∷ fs) = ap (λ n. n + 1) (class_count fs)
+class_count (f ∷ fs) = ap suc (class_count fs)
 
 flows_pairs : (fs : List Forward) → map (λ (f : Flow). f.pair) (map flow_of fs) ≡ map (λ (f : Forward). f.pair) fs
 flows_pairs [] = refl
@@ -117,20 +117,19 @@ module _ (s : State) (r : Routing) (names : Registered) (classes : Classes) (poo
           pub rising_dead : (ds : List Tag) → ds ≡ untold was_told es → IsRising is_tag_below es → IsRising is_tag_below ds
           rising_dead ds is rises = subst (IsRising is_tag_below) (sym is) (filter-IsRising is_tag_below (λ t. not (list_any (λ entries. tells entries t) was_told)) es rises)
 
-          module _ (differ : PortsDiffer s) where
-            pub gone_are : AreLiveOnly s s1 (gone_pairs names classes.kept was_told es)
-            gone_are =
-                subst (AreLiveOnly s s1) (sym (ap (λ n. gone_pairs n classes.kept was_told es) names_are ∙ ap (λ m. gone_pairs (registered s) m was_told es) (sym asked.shown.kept)
-                ∙ ap (λ m. gone_pairs (registered s) s.kept m es) (sym asked.shown.told))) (gone_pairs_are_those s r es change differ emptied_are)
+          pub gone_are : AreLiveOnly s s1 (gone_pairs names classes.kept was_told es)
+          gone_are =
+              subst (AreLiveOnly s s1) (sym (ap (λ n. gone_pairs n classes.kept was_told es) names_are ∙ ap (λ m. gone_pairs (registered s) m was_told es) (sym asked.shown.kept)
+              ∙ ap (λ m. gone_pairs (registered s) s.kept m es) (sym asked.shown.told))) (gone_pairs_are_those s r es change asked.steady.apart emptied_are)
 
-            adds_from : new_flows names (map (λ (f : Fresh). f.sig) fs) ts ≡ new_flows (registered s) (group_signatures s r) (group_tags s r)
-            adds_from =
-                ap (λ n. new_flows n (map (λ (f : Fresh). f.sig) fs) ts) names_are ∙ ap (λ sigs. new_flows (registered s) sigs ts) signatures_are
-                ∙ ap (new_flows (registered s) (group_signatures s r)) tags_are
+          adds_from : new_flows names (map (λ (f : Fresh). f.sig) fs) ts ≡ new_flows (registered s) (group_signatures s r) (group_tags s r)
+          adds_from =
+              ap (λ n. new_flows n (map (λ (f : Fresh). f.sig) fs) ts) names_are ∙ ap (λ sigs. new_flows (registered s) sigs ts) signatures_are
+              ∙ ap (new_flows (registered s) (group_signatures s r)) tags_are
 
-            pub new_are : AreNewFlows s s1 (new_flows names (map (λ (f : Fresh). f.sig) fs) ts)
-            new_are = subst (AreNewFlows s s1) (sym adds_from) (listed_are (listed s r change differ) (λ f m. new_flow_rules s r change differ f m) (new_live_only s r change differ))
+          pub new_are : AreNewFlows s s1 (new_flows names (map (λ (f : Fresh). f.sig) fs) ts)
+          new_are = subst (AreNewFlows s s1) (sym adds_from) (listed_are (listed s r change asked.steady.apart) (λ f m. new_flow_rules s r change asked.steady.apart f m) (new_live_only s r change asked.steady.apart))
 
-            -- the rules of the table then
-            pub rules_are : rule_count (with_rules s s1) + length (gone_pairs names classes.kept was_told es) ≡ rule_count s + length (new_flows names (map (λ (f : Fresh). f.sig) fs) ts)
-            rules_are = rules_then_counted s r change (gone_pairs names classes.kept was_told es) (new_flows names (map (λ (f : Fresh). f.sig) fs) ts) gone_are new_are (steady_have_one_each s asked.steady)
+          -- the rules of the table then
+          pub rules_are : rule_count (with_rules s s1) + length (gone_pairs names classes.kept was_told es) ≡ rule_count s + length (new_flows names (map (λ (f : Fresh). f.sig) fs) ts)
+          rules_are = rules_then_counted s r change (gone_pairs names classes.kept was_told es) (new_flows names (map (λ (f : Fresh). f.sig) fs) ts) gone_are new_are (steady_have_one_each s asked.steady)

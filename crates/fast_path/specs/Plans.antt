@@ -1,5 +1,5 @@
 -- What a plan says, and why there is none (this exchange's own rule).
-use Rattle.std.specs.Prelude.{◌≡◌, ◌≤◌, ◌<◌, List, length}
+use Rattle.std.specs.Prelude.{◌≡◌, ℕ, ◌+◌, ◌-◌, ◌%◌, ◌^◌, ◌≤◌, ◌<◌, nat_le, List, length, map, take, Option, Some, None, if◌then◌else◌}
 use Rattle.std.specs.FinMap.{FinMap}
 use Rattle.net_types.specs.Exports.{Routing}
 use Rattle.net_types.specs.Keys.{prefix_cmp}
@@ -7,13 +7,19 @@ use Rattle.net_types.specs.Sets.{IsRising}
 use Rattle.events.specs.Fits.{tag_changes}
 use Rattle.events.specs.Sound.{rule_count}
 use Rattle.events.specs.State.{State}
-use Rattle.events.specs.Tags.{free_tags, groups, retagged}
+use Rattle.events.specs.Tags as events
+use Rattle.events.specs.Tags.{groups, retagged}
 use Rattle.events.specs.declared.Entry.{Entry}
 use Rattle.exchange_laws.specs.Fresh.{HasEnoughTags}
 use Rattle.exchange_laws.specs.Rules.{IsDeclaredAlike, with_rules}
 use Rattle.exchange_laws.specs.Steady.{IsSteady}
 use Rattle.match_switch.specs.Installed.{Installed}
-use Rattle.next_hop_pool.specs.Free.{Tags}
+use Rattle.next_hop_pool.specs.Free.{Tags, free_tags}
+use Rattle.live_pairs.specs.Emptied.{emptied}
+use Rattle.live_pairs.specs.Pairs.{gone_pairs, new_flows, untold}
+use Rattle.live_pairs.specs.declared.forward.Fresh.{Fresh}
+use Rattle.fast_path.specs.Committing.{kept_of}
+use Rattle.fast_path.specs.Grouping.{changes_of, known}
 use Rattle.prefix_classes.specs.Classes.{Classes}
 use Rattle.registry.specs.Registered.{Registered}
 use Rattle.route_server.specs.Proposed.{IsProposal, Proposed}
@@ -34,6 +40,19 @@ pub record IsAsked (s : State) (r : Routing) (names : Registered) (classes : Cla
   pub alike : IsDeclaredAlike s.routing r
   pub proposes : IsProposal s.routing r proposal
 
+-- what the parts give for a proposal, by the groups that get fresh tags
+pub record IsDraft (names : Registered) (classes : Classes) (pool : Tags) (was_told : List (FinMap prefix_cmp Entry)) (proposal : Proposed) (fs : List Fresh) (plan : Plan) : Type 0 where
+  pub tags : plan.tags ≡ changes_of (known classes) fs (take (length fs) (free_tags pool)) proposal.touched proposal.sigs
+  pub drops : plan.drops ≡ gone_pairs names classes.kept was_told (emptied classes.tag plan.tags)
+  pub adds : plan.adds ≡ new_flows names (map (λ (f : Fresh). f.sig) fs) (take (length fs) (free_tags pool))
+  pub blocks : plan.blocks.items ≡ blocks_of plan.adds
+  pub fresh : plan.fresh.items ≡ kept_of (take (length fs) (free_tags pool)) (map (λ (f : Fresh). f.sig) fs)
+  pub dead : plan.dead.items ≡ untold was_told (emptied classes.tag plan.tags)
+
+-- the rules that there would be, where they are more than there is room for
+abbrev pub too_many : ℕ → ℕ → ℕ → ℕ → Option ℕ
+too_many rules capacity drops adds = if nat_le (rules + adds) (capacity + drops) then None else Some ((rules + adds - drops) % 2 ^ 64)
+
 -- The plan has what becomes of tags and rules, the fresh tags with their signatures, and the tags that are live no more.
 pub record IsPlan (s : State) (r : Routing) (plan : Plan) : Type 0 where
   pub tags : plan.tags ≡ tag_changes s.tag (retagged s r).tag
@@ -48,6 +67,6 @@ pub record IsPlan (s : State) (r : Routing) (plan : Plan) : Type 0 where
 
 -- More fresh tags are needed than are free; or there are enough, and the rules are more than the table has room for.
 abbrev pub IsFault : State → Routing → FastFault → Type 0
-IsFault s r (NoNextHop need free) = (need ≡ length (groups s r)) × (free ≡ length (free_tags s)) × (free < need)
+IsFault s r (NoNextHop need free) = (need ≡ length (groups s r)) × (free ≡ length (events.free_tags s)) × (free < need)
 IsFault s r (TableFull rules capacity) = HasEnoughTags s r × (rules ≡ rule_count (with_rules s (retagged s r))) × (capacity ≡ s.capacity) × (capacity < rules)
 IsFault s r Memory = Unit {0}

@@ -1,12 +1,14 @@
 //! Planning a change of routes: the tags that touched prefixes get, the pairs of the table that go, and the rules of those
 //! that come.
 
-ghost use Rattle.std.specs.Prelude.{◌≡◌, ◌∷◌, [], map, IfOk, MatchResult};
+ghost use Rattle.std.specs.Prelude.{◌≡◌, ◌≤◌, ◌∷◌, [], length, map, IfOk, MatchResult};
 ghost use Rattle.net_types.specs.Exports.{Routing};
 ghost use Rattle.events.specs.State.{State};
 ghost use Rattle.fast_path.specs.Committing.{kept_of};
 ghost use Rattle.fast_path.specs.Planned.{blocks_of};
-ghost use Rattle.fast_path.specs.Plans.{IsAsked, IsFault, IsPlan};
+ghost use Rattle.fast_path.specs.Plans.{IsAsked, IsDraft, IsFault, IsPlan, too_many};
+ghost use Rattle.match_switch.specs.Installed.{rule_count};
+ghost use Rattle.next_hop_pool.specs.Free.{free_tags};
 ghost use Rattle.live_pairs.specs.declared.forward.Fresh.{Fresh};
 
 use crate::grouping::groups;
@@ -14,7 +16,8 @@ use crate::planned::{FastFault, Plan};
 use crate::tagging::{fresh_tags, tag_changes};
 use advert_queue::Told;
 use events::{Flow, Flows, TagChanges};
-use live_pairs::{Fresh, emptied, gone_pairs, new_flows, untold};
+use live_pairs::emptied::emptied;
+use live_pairs::{Fresh, gone_pairs, new_flows, untold};
 use match_switch::Switch;
 use net_types::{Items, Memory, Pair, Pairs, Rule, Sig, Tag, TryCopy};
 use next_hop_pool::Pool;
@@ -61,6 +64,49 @@ fn blocks_of(alloc: Global, adds: &[Flow]) -> Result<Vec<(Pair, Items<Rule>)>, M
     Ok(blocks)
 }
 
+/// What a proposal does, by the groups that get fresh tags.
+fn drafted(
+    alloc: Global,
+    names: &Registry,
+    classes: &ClassMap,
+    pool: &Pool,
+    told: &[Told],
+    proposal: &Proposal,
+    groups: &[Fresh],
+) -> Result<Plan, Memory>
+    requires { length groups.now ≤ length (free_tags pool.now) }
+    ensures { IfOk result (IsDraft names.now classes.now pool.now told.now proposal.now groups.now) }
+{
+    let given = fresh_tags(alloc, pool, groups.len())?;
+    let tags = tag_changes(alloc, classes, proposal, groups, &given)?;
+    let left = emptied(alloc, classes, tags.items())?;
+    let drops = gone_pairs(alloc, names, classes, told, &left)?;
+    let adds = new_flows(alloc, names, groups, &given)?;
+    let blocks = blocks_of(alloc, adds.items())?;
+    let fresh = with_tags(alloc, groups, &given)?;
+    let dead = untold(alloc, told, &left)?;
+    Ok(Plan {
+        tags,
+        drops,
+        adds,
+        blocks,
+        fresh,
+        dead,
+    })
+}
+
+/// How many rules there are too many for the table once a plan is carried out, by the number of all of them.
+fn too_many(switch: &Switch, plan: &Plan) -> Option<usize>
+    ensures { result ≡ too_many (rule_count switch.now.table) switch.now.capacity (length plan.now.drops) (length plan.now.adds) }
+{
+    let rules = switch.rules() as u128 + plan.adds.len() as u128;
+    let drops = plan.drops.len() as u128;
+    if rules <= switch.capacity() as u128 + drops {
+        return None;
+    }
+    Some((rules - drops) as usize)
+}
+
 /// What a proposal does. More fresh tags than are free are refused first, and then more rules than the table has room for.
 pub fn plan(
     alloc: Global,
@@ -73,34 +119,20 @@ pub fn plan(
 ) -> Result<Plan, FastFault>
     ensures { (s : State) (r : Routing) → IsAsked s r names.now classes.now pool.now told.now switch.now proposal.now → MatchResult result (IsPlan s r) (IsFault s r) }
 {
-    let groups = groups(alloc, classes, proposal)?;
-    let need = groups.len();
+    let Ok(groups) = groups(alloc, classes, proposal) else {
+        return Err(FastFault::Memory);
+    };
+    let need = groups.len() as u64;
     let free = pool.free();
-    if need as u64 > free as u64 {
-        return Err(FastFault::NoNextHop {
-            need: need as u64,
-            free,
-        });
+    if need > u64::from(free) {
+        return Err(FastFault::NoNextHop { need, free });
     }
-    let given = fresh_tags(alloc, pool, need)?;
-    let tags = tag_changes(alloc, classes, proposal, &groups, &given)?;
-    let emptied = emptied(alloc, classes, tags.items())?;
-    let drops = gone_pairs(alloc, names, classes, told, &emptied)?;
-    let adds = new_flows(alloc, names, &groups, &given)?;
-    let rules = (switch.rules() + adds.len()).saturating_sub(drops.len());
-    let capacity = switch.capacity() as usize;
-    if rules > capacity {
+    let Ok(plan) = drafted(alloc, names, classes, pool, told, proposal, &groups) else {
+        return Err(FastFault::Memory);
+    };
+    if let Some(rules) = too_many(switch, &plan) {
+        let capacity = switch.capacity() as usize;
         return Err(FastFault::TableFull { rules, capacity });
     }
-    let blocks = blocks_of(alloc, adds.items())?;
-    let fresh = with_tags(alloc, &groups, &given)?;
-    let dead = untold(alloc, told, &emptied)?;
-    Ok(Plan {
-        tags,
-        drops,
-        adds,
-        blocks,
-        fresh,
-        dead,
-    })
+    Ok(plan)
 }
