@@ -1,6 +1,7 @@
 -- Groups, each once, and the tags of their prefixes.
 use Rattle.std.proofs.Common.{◌≡◌, ℕ, zero, suc, ◌+◌, ◌<◌, Bool, true, false, cond, ◌&&◌, ◌||◌, not, List, [], ◌∷◌, ◌++◌, map, length, filter, drop, sym, ap, subst, ◌∙◌, refl, arith}
-use Rattle.std.specs.Prelude.{Option, Some, None, ◌≤◌, slice_get, slice_index_or, unwrap_or}
+use Rattle.std.specs.Prelude.{Option, Some, None, ◌≤◌, nat_lt, slice_get, slice_index_or, unwrap_or}
+use Rattle.std.proofs.lemmas.Bool.Decides.{nat_tests}
 use Rattle.std.proofs.lemmas.List.{append_assoc, append-nil, map-append, drop_all}
 use Rattle.std.specs.FinMap.{get}
 use Rattle.std.specs.List.{list_any, position_from}
@@ -93,11 +94,23 @@ get_mapped [] (suc n) f e = cc
 get_mapped (x ∷ fs) zero f e = let same : x ≡ f = ap (λ o. unwrap_or o f) e in ap (λ (y : Fresh). Some y.sig) same
 get_mapped (x ∷ fs) (suc n) f e = get_mapped fs n f e
 
-past_all : (fs : List Fresh) (n : ℕ) → slice_get fs n ≡ None → drop n (map (λ (x : Fresh). x.sig) fs) ≡ []
+past_all : (fs : List Fresh) (n : ℕ) → length fs ≤ n → drop n (map (λ (x : Fresh). x.sig) fs) ≡ []
 past_all [] zero e = refl
 past_all [] (suc n) e = refl
-past_all (x ∷ fs) zero e = cc
-past_all (x ∷ fs) (suc n) e = past_all fs n e
+past_all (x ∷ fs) zero e = absurd (omega arith)
+past_all (x ∷ fs) (suc n) e = past_all fs n (omega arith)
+
+not_within : (n m : ℕ) → nat_lt n m ≡ false → m ≤ n
+not_within n m e = grind (arith, nat_tests, e)
+
+pub within : (n m : ℕ) → nat_lt n m ≡ true → n < m
+within n m e = grind (arith, nat_tests, e)
+
+-- what stands at a place within a list
+pub at_place : {A : Type 0} (xs : List A) (n : ℕ) (d : A) → n < length xs → slice_get xs n ≡ Some (slice_index_or xs n d)
+at_place [] n d below = absurd (omega arith)
+at_place (x ∷ xs) zero d below = refl
+at_place (x ∷ xs) (suc n) d below = at_place xs n d (omega arith)
 
 none_kept : (ts : List Tag) → kept_of ts [] ≡ []
 none_kept [] = refl
@@ -112,5 +125,5 @@ kept_step fs ts at t f ks here there =
     ∙ sym (append_assoc ks ((t, f.sig) ∷ []) (kept_of (drop (at + 1) ts) (drop (at + 1) (map (λ (x : Fresh). x.sig) fs))))
 
 -- no more where there is no group
-pub kept_end : (fs : List Fresh) (ts : List Tag) (at : ℕ) (ks : List Kept) → slice_get fs at ≡ None → ks ≡ ks ++ kept_of (drop at ts) (drop at (map (λ (x : Fresh). x.sig) fs))
-kept_end fs ts at ks none = sym (ap (λ xs. ks ++ kept_of (drop at ts) xs) (past_all fs at none) ∙ ap (λ xs. ks ++ xs) (none_kept (drop at ts)) ∙ append-nil ks)
+pub kept_end : (fs : List Fresh) (ts : List Tag) (at : ℕ) (ks : List Kept) → nat_lt at (length fs) ≡ false → ks ≡ ks ++ kept_of (drop at ts) (drop at (map (λ (x : Fresh). x.sig) fs))
+kept_end fs ts at ks none = sym (ap (λ xs. ks ++ kept_of (drop at ts) xs) (past_all fs at (not_within at (length fs) none)) ∙ ap (λ xs. ks ++ xs) (none_kept (drop at ts)) ∙ append-nil ks)

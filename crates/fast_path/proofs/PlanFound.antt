@@ -1,15 +1,24 @@
 -- What is found by the parts of an exchange is the plan of its state.
-use Rattle.std.proofs.Common.{◌≡◌, ℕ, suc, ◌+◌, ◌<◌, ◌≤◌, List, [], ◌∷◌, length, map, take, not, sym, ap, subst, ◌∙◌, refl, arith}
-use Rattle.std.specs.Prelude.{Some}
-use Rattle.std.specs.FinMap.{FinMap}
+use Rattle.std.proofs.Common.{◌≡◌, ℕ, suc, ◌+◌, ◌-◌, ◌^◌, ◌<◌, ◌≤◌, Bool, true, false, cond, min, nat_le, nat_lt, ⊎_elim, inl, inr, List, [], ◌∷◌, length, map, take, not, sym, ap, subst, ◌∙◌, refl, arith}
+use Rattle.std.specs.Prelude.{◌⊎◌, Some, None, unwrap_or}
+use Rattle.std.specs.Cmp.{nat_cmp_is}
+use Rattle.std.specs.Ordering.{eq_by_cmp, is_lt, nat_cmp}
+use Rattle.std.specs.declared.cmp.Ordering.TheVariants.{Equal, Greater}
+use Rattle.std.proofs.lemmas.Bool.{cases_lt, false≢true, lt-ltb}
+use Rattle.std.proofs.lemmas.Bool.Decides.{nat_tests}
+use Rattle.std.specs.FinMap.{FinMap, nat_cmp-IsAntisymmetric}
 use Rattle.std.specs.List.{list_any}
 use Rattle.std.specs.Option.{option_map}
 use Rattle.net_types.specs.Exports.{Routing}
-use Rattle.net_types.specs.Keys.{prefix_cmp}
+use Rattle.net_types.specs.Keys.{prefix_cmp, tag_cmp}
+use Rattle.net_types.specs.Maps.{ordered}
 use Rattle.net_types.specs.Sets.{IsRising, Member}
 use Rattle.net_types.specs.declared.address.Tag.{Tag}
 use Rattle.net_types.specs.declared.route.Part.{Part}
-use Rattle.net_types.proofs.RisingLemmas.{filter-IsRising}
+use Rattle.net_types.proofs.OrderLemmas.{tags_total}
+use Rattle.net_types.proofs.RisingLemmas.{before, filter-IsRising}
+use Rattle.net_types.proofs.TieLemmas.{tie_Equal}
+use Rattle.events.proofs.OrderedLemmas.{ordered_rises}
 use Rattle.net_types.proofs.SetLemmas.{map-Member}
 use Rattle.events.specs.Fits.{tag_changes}
 use Rattle.events.specs.Sound.{owners_part, rule_count}
@@ -24,7 +33,7 @@ use Rattle.exchange_laws.specs.Listed.{AreLiveOnly}
 use Rattle.exchange_laws.specs.Rules.{IsChange, default_rules, rule_to, with_rules}
 use Rattle.exchange_laws.specs.Touched.{IsTouching}
 use Rattle.exchange_laws.proofs.OneRuleEach.{steady_have_one_each}
-use Rattle.live_pairs.specs.Emptied.{emptied}
+use Rattle.live_pairs.specs.Emptied.{emptied, is_left, old_tags}
 use Rattle.live_pairs.specs.LiveOnly.{AreDead, AreEmptied, group_signatures, group_tags, registered}
 use Rattle.live_pairs.specs.Pairs.{flow_of, gone_pairs, new_flows, untold}
 use Rattle.live_pairs.specs.declared.forward.Forward.{Forward}
@@ -34,13 +43,17 @@ use Rattle.live_pairs.proofs.EmptiedTags.{emptied_are_those}
 use Rattle.live_pairs.proofs.GonePairs.{gone_pairs_are_those}
 use Rattle.live_pairs.proofs.NewPairs.{listed, new_flow_rules, new_live_only}
 use Rattle.match_switch.specs.Installed.{Installed}
+use Rattle.match_switch.specs.Installed as installed
 use Rattle.next_hop_pool.specs.Free.{Tags, free_tags}
 use Rattle.prefix_classes.specs.Classes.{Classes}
 use Rattle.registry.specs.Registered.{Registered}
 use Rattle.route_server.specs.Proposed.{Proposed}
+use Rattle.fast_path.specs.Committing.{kept_of}
 use Rattle.fast_path.specs.Grouping.{changes_of, groups_of, known, more_groups, moved_groups}
 use Rattle.fast_path.specs.Planned.{AreNewFlows, is_tag_below}
-use Rattle.fast_path.specs.Plans.{IsAsked}
+use Rattle.fast_path.specs.Plans.{IsAsked, IsDraft, IsFault, IsPlan, too_many}
+use Rattle.fast_path.specs.declared.planned.FastFault.TheVariants.{TableFull}
+use Rattle.fast_path.specs.declared.planned.Plan.{Plan}
 use Rattle.fast_path.proofs.CommittedReplies.{rules_then_counted}
 use Rattle.fast_path.proofs.TagsPlanned.{changes_found, groups_found, known_of}
 
@@ -51,6 +64,44 @@ class_signatures (f ∷ fs) = ap (λ sigs. f.sig ∷ sigs) (class_signatures fs)
 class_count : (fs : List Fresh) → length (groups_of fs) ≡ length fs
 class_count [] = refl
 class_count (f ∷ fs) = ap suc (class_count fs)
+
+more_than : (a b m rules : ℕ) → cond (nat_le a b) None (Some m) ≡ Some rules → (b < a) × (m ≡ rules)
+more_than a b m rules e = by (nat_le a b) refl e
+  where
+    by : (t : Bool) → nat_le a b ≡ t → cond t None (Some m) ≡ Some rules → (b < a) × (m ≡ rules)
+    by true is e = cc
+    by false is e = (grind (arith, nat_tests, is), ap (λ o. unwrap_or o 0) e)
+
+no_more_than : (a b m : ℕ) → cond (nat_le a b) None (Some m) ≡ None → a ≤ b
+no_more_than a b m e = by (nat_le a b) refl e
+  where
+    by : (t : Bool) → nat_le a b ≡ t → cond t None (Some m) ≡ None → a ≤ b
+    by true is e = grind (arith, nat_tests, is)
+    by false is e = cc
+
+min_is : (a b : ℕ) → a ≤ b → min a b ≡ a
+min_is a b h = omega (arith, h)
+
+-- ---- emptied tags ascend
+
+lesser : (a b : ℕ) → is_lt (nat_cmp a b) ≡ true → nat_lt a b ≡ true
+lesser a b e = ⊎_elim (λ lt. lt-ltb a b lt) (λ ge. absurd (not_less (cases_lt b a) ge)) (cases_lt a b)
+  where
+    not_less : (b < a) ⊎ (a ≤ b) → b ≤ a → ⊥
+    not_less (inl gt) ge = let is : Greater ≡ nat_cmp a b = nat_cmp_is a b Greater gt in false≢true (ap is_lt is ∙ e)
+    not_less (inr le) ge = let is : Equal ≡ nat_cmp a b = nat_cmp_is a b Equal (omega arith) in false≢true (ap is_lt is ∙ e)
+
+rising_tags : (ts : List Tag) → IsRising (before tag_cmp) ts → IsRising is_tag_below ts
+rising_tags [] rises = tt
+rising_tags (t ∷ ts) rises = (λ u m. lesser t.0 u.0 (rises.0 u m), rising_tags ts rises.1)
+
+tag_tie : (t u : Tag) → eq_by_cmp tag_cmp t u ≡ true → t ≡ u
+tag_tie t u e = λ i. record { 0 = nat_cmp-IsAntisymmetric t.0 u.0 (tie_Equal (nat_cmp t.0 u.0) e) i }
+
+emptied_rise : (m : FinMap prefix_cmp Tag) (cs : List TagChange) → IsRising is_tag_below (emptied m cs)
+emptied_rise m cs = filter-IsRising is_tag_below (is_left m cs) (ordered tag_cmp (old_tags m cs)) (rising_tags (ordered tag_cmp (old_tags m cs)) (ordered_rises tag_cmp tags_total tag_tie (old_tags m cs)))
+
+-- ---- flows
 
 flows_pairs : (fs : List Forward) → map (λ (f : Flow). f.pair) (map flow_of fs) ≡ map (λ (f : Forward). f.pair) fs
 flows_pairs [] = refl
@@ -133,3 +184,57 @@ module _ (s : State) (r : Routing) (names : Registered) (classes : Classes) (poo
           -- the rules of the table then
           pub rules_are : rule_count (with_rules s s1) + length (gone_pairs names classes.kept was_told es) ≡ rule_count s + length (new_flows names (map (λ (f : Fresh). f.sig) fs) ts)
           rules_are = rules_then_counted s r change (gone_pairs names classes.kept was_told es) (new_flows names (map (λ (f : Fresh). f.sig) fs) ts) gone_are new_are (steady_have_one_each s asked.steady)
+
+    -- a draft, where there are tags enough
+    module _ (room : length fs ≤ length (free_tags pool)) (plan : Plan) (draft : IsDraft names classes pool was_told p fs plan) where
+      ts : List Tag
+      ts = take (length fs) (free_tags pool)
+
+      es : List Tag
+      es = emptied classes.tag plan.tags
+
+      counted : rule_count (with_rules s s1) + length plan.drops ≡ rule_count s + length plan.adds
+      unfolding ts es
+      counted =
+          ap (λ ds. rule_count (with_rules s s1) + length ds) draft.drops ∙ rules_are room ts refl plan.tags draft.tags es refl
+          ∙ sym (ap (λ fs2. rule_count s + length fs2) draft.adds)
+
+      table_count : rule_count s ≡ installed.rule_count switch.table
+      table_count = ap installed.rule_count asked.table
+
+      -- the rules that there would be, where they are too many
+      pub draft_full : (rules : ℕ) → length plan.adds < 2 ^ 63 → too_many (installed.rule_count switch.table) switch.capacity (length plan.drops) (length plan.adds) ≡ Some rules
+          → IsFault s r (TableFull rules switch.capacity)
+      unfolding ts
+      draft_full rules few many =
+          let over = more_than (installed.rule_count switch.table + length plan.adds) (switch.capacity + length plan.drops) (min (installed.rule_count switch.table + length plan.adds - length plan.drops) (2 ^ 64 - 1)) rules many in
+          let small : s.capacity ≤ 1000000 = asked.steady.sized.room in
+          let fits : rule_count s ≤ s.capacity = asked.steady.sound.few in
+          let same = table_count in
+          let capacity : s.capacity ≡ switch.capacity = asked.capacity in
+          let all = counted in
+          let least = min_is (installed.rule_count switch.table + length plan.adds - length plan.drops) (2 ^ 64 - 1) (omega (arith, over.0, few, small, fits, same)) in (
+            enough room ts refl,
+            (let it = sym over.1 ∙ least in omega (arith, it, all, same, over.0)),
+            sym capacity,
+            (let it = sym over.1 ∙ least in omega (arith, it, all, same, over.0)),
+          )
+
+      -- the plan, where they aren't
+      pub draft_planned : too_many (installed.rule_count switch.table) switch.capacity (length plan.drops) (length plan.adds) ≡ None → IsPlan s r plan
+      unfolding ts es
+      draft_planned few =
+          let under = no_more_than (installed.rule_count switch.table + length plan.adds) (switch.capacity + length plan.drops) _ few in
+          let same = table_count in
+          let capacity : s.capacity ≡ switch.capacity = asked.capacity in
+          let all = counted in record {
+            tags = changes_are room ts refl plan.tags draft.tags;
+            gone = subst (AreLiveOnly s s1) (sym draft.drops) (gone_are room ts refl plan.tags draft.tags es refl);
+            new = subst (AreNewFlows s s1) (sym draft.adds) (new_are room ts refl plan.tags draft.tags es refl);
+            blocks = draft.blocks;
+            fresh = draft.fresh ∙ ap (λ sigs. kept_of ts sigs) signatures_are ∙ ap (λ us. kept_of us (group_signatures s r)) (tags_are room ts refl);
+            dead = dead_are room ts refl plan.tags draft.tags es refl plan.dead.items draft.dead;
+            rising = rising_dead room ts refl plan.tags draft.tags es refl plan.dead.items draft.dead (emptied_rise classes.tag plan.tags);
+            enough = enough room ts refl;
+            fits = omega (arith, under, same, capacity, all);
+          }

@@ -1,5 +1,5 @@
 -- What a plan says, and why there is none (this exchange's own rule).
-use Rattle.std.specs.Prelude.{◌≡◌, ℕ, ◌+◌, ◌-◌, ◌%◌, ◌^◌, ◌≤◌, ◌<◌, nat_le, List, length, map, take, Option, Some, None, if◌then◌else◌}
+use Rattle.std.specs.Prelude.{◌≡◌, ℕ, ◌+◌, ◌-◌, ◌^◌, min, ◌≤◌, ◌<◌, nat_le, List, length, map, take, Option, Some, None, if◌then◌else◌}
 use Rattle.std.specs.FinMap.{FinMap}
 use Rattle.net_types.specs.Exports.{Routing}
 use Rattle.net_types.specs.Keys.{prefix_cmp}
@@ -51,7 +51,7 @@ pub record IsDraft (names : Registered) (classes : Classes) (pool : Tags) (was_t
 
 -- the rules that there would be, where they are more than there is room for
 abbrev pub too_many : ℕ → ℕ → ℕ → ℕ → Option ℕ
-too_many rules capacity drops adds = if nat_le (rules + adds) (capacity + drops) then None else Some ((rules + adds - drops) % 2 ^ 64)
+too_many rules capacity drops adds = if nat_le (rules + adds) (capacity + drops) then None else Some (min (rules + adds - drops) (2 ^ 64 - 1))
 
 -- The plan has what becomes of tags and rules, the fresh tags with their signatures, and the tags that are live no more.
 pub record IsPlan (s : State) (r : Routing) (plan : Plan) : Type 0 where

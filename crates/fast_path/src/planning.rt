@@ -1,7 +1,7 @@
 //! Planning a change of routes: the tags that touched prefixes get, the pairs of the table that go, and the rules of those
 //! that come.
 
-ghost use Rattle.std.specs.Prelude.{◌≡◌, ◌≤◌, ◌∷◌, [], length, map, IfOk, MatchResult};
+ghost use Rattle.std.specs.Prelude.{◌≡◌, ◌≤◌, ◌<◌, ◌^◌, ◌∷◌, [], length, map, IfOk, IfNone, IfSome, MatchResult};
 ghost use Rattle.net_types.specs.Exports.{Routing};
 ghost use Rattle.events.specs.State.{State};
 ghost use Rattle.fast_path.specs.Committing.{kept_of};
@@ -95,16 +95,31 @@ fn drafted(
     })
 }
 
-/// How many rules there are too many for the table once a plan is carried out, by the number of all of them.
-fn too_many(switch: &Switch, plan: &Plan) -> Option<usize>
-    ensures { result ≡ too_many (rule_count switch.now.table) switch.now.capacity (length plan.now.drops) (length plan.now.adds) }
+/// How many fresh tags are needed and how many are free, where these are fewer.
+fn shortage(pool: &Pool, groups: &[Fresh]) -> Option<(u64, u32)>
+    ensures short { IfSome result (λ x. (x.0 ≡ length groups.now) × (x.1 ≡ length (free_tags pool.now)) × (x.1 < x.0)) }
+    ensures enough { IfNone result (length groups.now ≤ length (free_tags pool.now)) }
 {
-    let rules = switch.rules() as u128 + plan.adds.len() as u128;
-    let drops = plan.drops.len() as u128;
-    if rules <= switch.capacity() as u128 + drops {
+    let need = groups.len() as u64;
+    let free = pool.free();
+    if need > free as u64 {
+        Some((need, free))
+    } else {
+        None
+    }
+}
+
+/// All rules that there would be, where they are more than the table has room for.
+fn too_many(switch: &Switch, drops: &[Pair], adds: &[Flow]) -> Option<usize>
+    ensures many { result ≡ too_many (rule_count switch.now.table) switch.now.capacity (length drops.now) (length adds.now) }
+    ensures few { length adds.now < 2 ^ 63 }
+{
+    let rules = switch.rules() as u128 + adds.len() as u128;
+    if rules <= switch.capacity() as u128 + drops.len() as u128 {
         return None;
     }
-    Some((rules - drops) as usize)
+    let all = rules - drops.len() as u128;
+    Some(all.min(usize::MAX as u128) as usize)
 }
 
 /// What a proposal does. More fresh tags than are free are refused first, and then more rules than the table has room for.
@@ -122,15 +137,13 @@ pub fn plan(
     let Ok(groups) = groups(alloc, classes, proposal) else {
         return Err(FastFault::Memory);
     };
-    let need = groups.len() as u64;
-    let free = pool.free();
-    if need > u64::from(free) {
+    if let Some((need, free)) = shortage(pool, &groups) {
         return Err(FastFault::NoNextHop { need, free });
     }
     let Ok(plan) = drafted(alloc, names, classes, pool, told, proposal, &groups) else {
         return Err(FastFault::Memory);
     };
-    if let Some(rules) = too_many(switch, &plan) {
+    if let Some(rules) = too_many(switch, plan.drops.items(), plan.adds.items()) {
         let capacity = switch.capacity() as usize;
         return Err(FastFault::TableFull { rules, capacity });
     }
