@@ -1,5 +1,5 @@
 -- The fresh tags: each stands beside its group, and is live afterwards with its group's signature.
-use Rattle.std.proofs.Common.{◌≡◌, ℕ, zero, suc, ◌<◌, ◌⊎◌, Bool, true, false, cond, List, [], ◌∷◌, filter, length, map, not, sym, ap, ◌∙◌, refl, arith, inl, inr}
+use Rattle.std.proofs.Common.{◌≡◌, ◌≤◌, ℕ, zero, suc, ◌<◌, ◌⊎◌, Bool, true, false, cond, List, [], ◌∷◌, filter, length, map, not, sym, ap, ◌∙◌, refl, arith, inl, inr}
 use Rattle.std.specs.Prelude.{Some, None, slice_get}
 use Rattle.std.specs.FinMap.{get, values}
 use Rattle.std.specs.List.{list_any}
@@ -27,7 +27,7 @@ use Rattle.net_types.specs.declared.address.Tag.{Tag}
 use Rattle.net_types.specs.declared.prefix.Prefix.{Prefix}
 use Rattle.net_types.specs.declared.route.Part.{Part}
 use Rattle.fast_path.proofs.CommittedMaps.{get_front, get_taken, take-IsRising}
-use Rattle.fast_path.specs.Committing.{Kept, kept_of}
+use Rattle.fast_path.specs.Committing.{Kept, kept_of, tags_of}
 use Rattle.fast_path.specs.Planned.{group_kept, is_tag_below}
 use Rattle.live_pairs.specs.LiveOnly.{group_signatures, group_tags}
 
@@ -56,6 +56,12 @@ kept_length [] [] same = refl
 kept_length [] (sig ∷ sigs) same = absurd (omega arith)
 kept_length (t ∷ ts) [] same = absurd (omega arith)
 kept_length (t ∷ ts) (sig ∷ sigs) same = ap suc (kept_length ts sigs (omega arith))
+
+-- the tags are those, where there is a signature for each
+pub tags_back : (ts : List Tag) (sigs : List (List Part)) → length ts ≤ length sigs → tags_of (kept_of ts sigs) ≡ ts
+tags_back [] sigs few = refl
+tags_back (t ∷ ts) [] few = absurd (omega arith)
+tags_back (t ∷ ts) (sig ∷ sigs) few = ap (λ us. t ∷ us) (tags_back ts sigs (omega arith))
 
 -- a member that is left once was there
 once_back : {A : Type 0} (same : A → A → Bool) (xs : List A) (x : A) → Member x (each_once same xs) → Member x xs
@@ -173,3 +179,10 @@ module _ (s : State) (r : Routing) where
       let tags_are : length (group_tags s r) ≡ length (groups s r) = length-take-le (length (groups s r)) (free_tags s) enough in
       let signatures_are : length (group_signatures s r) ≡ length (groups s r) = length-map (groups s r) (λ (g : Group). g.after) in
       kept_length (group_tags s r) (group_signatures s r) (tags_are ∙ sym signatures_are) ∙ signatures_are
+
+  -- their tags are the fresh ones
+  pub tags_kept : HasEnoughTags s r → tags_of (group_kept s r) ≡ group_tags s r
+  tags_kept enough =
+      let tags_are : length (group_tags s r) ≡ length (groups s r) = length-take-le (length (groups s r)) (free_tags s) enough in
+      let signatures_are : length (group_signatures s r) ≡ length (groups s r) = length-map (groups s r) (λ (g : Group). g.after) in
+      tags_back (group_tags s r) (group_signatures s r) (omega arith)

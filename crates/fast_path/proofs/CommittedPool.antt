@@ -13,9 +13,9 @@ use Rattle.net_types.specs.Exports.{Routing}
 use Rattle.net_types.specs.Routes.{numbers}
 use Rattle.net_types.specs.Sets.{IsRising, Member}
 use Rattle.net_types.specs.declared.address.Tag.{Tag}
-use Rattle.fast_path.proofs.CommittedFresh.{fresh_listed, fresh_live, listed_fresh, live_from_before, was_free}
+use Rattle.fast_path.proofs.CommittedFresh.{fresh_listed, fresh_live, group_tags_rise, listed_fresh, live_from_before, was_free}
 use Rattle.fast_path.proofs.CommittedMaps.{filter_alike}
-use Rattle.fast_path.specs.Committing.{AreTaken, marked_all}
+use Rattle.fast_path.specs.Committing.{AreFree, AreTaken, marked_all}
 use Rattle.next_hop_pool.specs.Free.{IsTag, Tags, free_tags, is_taken, marked, tag}
 use Rattle.fast_path.specs.Planned.{IsPoolOf, is_tag_below}
 use Rattle.live_pairs.specs.LiveOnly.{AreDead, group_tags}
@@ -93,6 +93,18 @@ taken_in_turn p (t ∷ ts) rises are taken = (
       marked_other p t u false (are t (inl refl)) (are u (inr m)) (λ e. omega arith) ∙ taken u (inr m)),
 )
 
+-- free tags that rise are free when their turn comes
+pub free_in_turn : (p : Tags) (ts : List Tag) → IsRising is_tag_below ts → AreTags p ts → ((t : Tag) → Member t ts → is_taken p t ≡ false) → AreFree p ts
+free_in_turn p [] rises are free = tt
+free_in_turn p (t ∷ ts) rises are free = (
+  are t (inl refl),
+  free t (inl refl),
+  free_in_turn (marked p t true) ts rises.1 (λ u m. still_tag p t u true (are u (inr m)))
+  (λ u m.
+      let less : t.0 < u.0 = ltb-true t.0 u.0 (rises.0 u m) in
+      marked_other p t u true (are t (inl refl)) (are u (inr m)) (λ e. omega arith) ∙ free u (inr m)),
+)
+
 -- ---- a pool and a state
 
 module _ (s : State) where
@@ -140,6 +152,10 @@ module _ (s : State) (r : Routing) (pooled : TagsArePooled s) (p : Tags) (pool :
 
   fresh_tags : AreTags p (group_tags s r)
   fresh_tags t m = is_tag s p pool t (was_free s r t (listed_fresh s r t m)).pooled
+
+  -- the fresh tags, in order, can be taken
+  pub fresh_in_turn : AreFree p (group_tags s r)
+  fresh_in_turn = free_in_turn p (group_tags s r) (group_tags_rise s r) fresh_tags (λ t m. let was = was_free s r t (listed_fresh s r t m) in taken_is_live s p pool t was.pooled ∙ was.unused)
 
   module _ (dead : List Tag) (are : AreDead s s1 dead) where
     dead_pooled : (t : Tag) → Member t dead → Member t (tags s)

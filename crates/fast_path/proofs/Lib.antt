@@ -11,3 +11,4 @@ pub mod CommittedTable
 pub mod CommittedReplies
 pub mod CommittedSteps
 pub mod PlanFound
+pub mod CommittedPlans
