@@ -7,7 +7,7 @@ ghost use Rattle.fast_path.specs.Committing.{CanCommit, kept_with, kept_without,
 use crate::parts::{
     forget_all, give_all, keep_all, put_all, remove_all, retag_all, take_all,
 };
-use crate::planned::Plan;
+use crate::planned::{Changes, Plan};
 use match_switch::Switch;
 use net_types::Memory;
 use next_hop_pool::Pool;
@@ -27,19 +27,25 @@ pub fn reserve(plan: &Plan, classes: &mut ClassMap, switch: &mut Switch) -> Resu
     switch.reserve(plan.blocks.len())
 }
 
-/// The classes, the pool and the table become those that were planned.
-pub fn commit(plan: Plan, classes: &mut ClassMap, pool: &mut Pool, switch: &mut Switch)
+/// The classes, the pool and the table become those that were planned. What the plan says of tags and rules is given back.
+pub fn commit(
+    plan: Plan,
+    classes: &mut ClassMap,
+    pool: &mut Pool,
+    switch: &mut Switch,
+) -> Changes
     requires { CanCommit plan classes.old pool.old switch.old }
     ensures tag { classes.new.tag ≡ tags_with classes.old.tag plan.tags }
     ensures kept { classes.new.kept ≡ kept_without (kept_with classes.old.kept plan.fresh.items) plan.dead.items }
     ensures pool { pool.new ≡ marked_all (marked_all pool.old (tags_of plan.fresh.items) true) plan.dead.items false }
     ensures table { switch.new.table ≡ with_blocks (without_pairs switch.old.table plan.drops) plan.blocks.items }
     ensures capacity { switch.new.capacity ≡ switch.old.capacity }
+    ensures changes { result ≡ record { tags = plan.tags; drops = plan.drops; adds = plan.adds } }
 {
     let Plan {
         tags,
         drops,
-        adds: _,
+        adds,
         blocks,
         fresh,
         dead,
@@ -51,4 +57,5 @@ pub fn commit(plan: Plan, classes: &mut ClassMap, pool: &mut Pool, switch: &mut 
     forget_all(classes, &dead);
     remove_all(switch, drops.items());
     put_all(switch, blocks);
+    Changes { tags, drops, adds }
 }

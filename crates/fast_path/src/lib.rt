@@ -10,5 +10,5 @@ mod planning;
 mod tagging;
 
 pub use committing::{commit, reserve};
-pub use planned::{FastFault, Plan};
+pub use planned::{Changes, FastFault, Plan};
 pub use planning::plan;

@@ -20,6 +20,14 @@ pub struct Plan {
     pub dead: Vec<Tag>,
 }
 
+/// What a reply says of a change of routes that was committed.
+#[derive(Drop)]
+pub struct Changes {
+    pub tags: TagChanges,
+    pub drops: Pairs,
+    pub adds: Flows,
+}
+
 /// Why there is no plan.
 #[derive(Clone, Copy, Debug, PartialEq, Eq)]
 pub enum FastFault {
