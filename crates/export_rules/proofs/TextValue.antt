@@ -1,5 +1,5 @@
 -- A text of rules has one value.
-use Rattle.std.proofs.Common.{◌≡◌, ℕ, List, Result, Ok, Err, refl, ap, subst, arith}
+use Rattle.std.proofs.Common.{◌≡◌, ℕ, List, Result, Ok, Err, ap, subst, arith}
 use Rattle.grammar.specs.TextReading.{Fault, Wrong, Deep}
 use Rattle.grammar.specs.Texts.{SaysPlain, read_whole}
 use Rattle.grammar.proofs.PlainTexts.{plain_said}

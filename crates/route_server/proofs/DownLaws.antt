@@ -1,11 +1,10 @@
 -- The routes without a participant's.
-use Rattle.std.proofs.Common.{◌≡◌, ℕ, ◌+◌, ◌<◌, Bool, true, false, cond, ◌||◌, not, eqb, List, [], ◌∷◌, ◌++◌, map, filter, take, get_or, length, sym, ap, subst, ◌∙◌, refl, inl, inr, true≢false}
+use Rattle.std.proofs.Common.{◌≡◌, ℕ, ◌+◌, ◌<◌, Bool, true, false, cond, ◌||◌, not, eqb, List, [], ◌∷◌, ◌++◌, map, filter, take, get_or, length, sym, ap, subst, ◌∙◌, refl}
 use Rattle.std.specs.Prelude.{Option, Some, None, is_some, IfSome}
 use Rattle.std.specs.List.{list_any}
 use Rattle.std.specs.Option.{option_and_then}
-use Rattle.std.specs.FinMap.{FinMap, get, keys, entries, find, get-entries, retain_keys, get-retain_keys}
+use Rattle.std.specs.FinMap.{FinMap, get, keys, entries, find, get-entries, get-retain_keys}
 use Rattle.std.specs.Ordering.{eq_by_cmp}
-use Rattle.std.specs.declared.cmp.Ordering.TheVariants.{Equal}
 use Rattle.std.specs.Cmp.{nat_eq_equiv}
 use Rattle.std.proofs.lemmas.Bool.{eqb-true}
 use Rattle.std.proofs.lemmas.List.{take_more}
@@ -20,10 +19,10 @@ use Rattle.net_types.specs.declared.address.Pid.{Pid}
 use Rattle.net_types.specs.declared.prefix.Prefix.{Prefix}
 use Rattle.net_types.specs.declared.route.Attrs.{Attrs}
 use Rattle.registry.specs.Registered.{Registered}
-use Rattle.route_server.specs.Edits.{IsEdit, prefixes_of}
+use Rattle.route_server.specs.Edits.{IsEdit}
 use Rattle.route_server.specs.Effects.{AreRowsOf}
 use Rattle.route_server.specs.Rows.{look}
-use Rattle.route_server.specs.Served.{AreAll, AreDeclared, Carries, route_in, routes_of}
+use Rattle.route_server.specs.Served.{AreAll, AreDeclared, Carries, routes_of}
 use Rattle.route_server.specs.declared.change.Change.{Change}
 use Rattle.route_server.specs.declared.held.Held.{Held}
 use Rattle.route_server.proofs.ServedLaws.{get-routes_of}

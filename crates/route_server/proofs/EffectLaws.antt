@@ -1,11 +1,11 @@
 -- One effect more, and what the effects say of the routes.
 use Rattle.std.proofs.Common.{◌≡◌, ℕ, suc, ◌+◌, ◌-◌, ◌<◌, ◌≤◌, Bool, true, false, cond, ◌&&◌, not, List, [], ◌∷◌, ◌++◌, map, filter, take, length, get_or, sym, ap, subst, ◌∙◌, refl, arith, append_assoc, append-nil, inl, inr, true≢false}
-use Rattle.std.specs.Prelude.{Option, Some, None, slice_get, option_to_list, ◌⊎◌, ◌≢◌}
+use Rattle.std.specs.Prelude.{Option, Some, None, slice_get, option_to_list, unwrap_or, ◌⊎◌}
 use Rattle.std.specs.List.{list_all, list_any}
 use Rattle.std.specs.Ordering.{eq_by_cmp}
 use Rattle.std.specs.Option.{option_map, option_map_or, option_and_then}
 use Rattle.std.specs.FinMap.{FinMap, get}
-use Rattle.std.proofs.lemmas.Bool.{and_parts, and_from, false_from_ne_true}
+use Rattle.std.proofs.lemmas.Bool.{and_parts}
 use Rattle.std.proofs.lemmas.List.{take_more, take_all}
 use Rattle.std.proofs.lemmas.List.Elements.{filter-append}
 use Rattle.std.proofs.lemmas.Option.{slice_get-get_or}
@@ -14,7 +14,7 @@ use Rattle.net_types.specs.Attributes.{same_option, same_attrs, same_signature}
 use Rattle.net_types.specs.Changes.{best_attrs, Differs, AreTouched}
 use Rattle.net_types.specs.Exports.{Routing}
 use Rattle.net_types.specs.Keys.{RouteKey, route_cmp, prefix_cmp}
-use Rattle.net_types.specs.Routes.{Candidate, best_of, pids, numbers}
+use Rattle.net_types.specs.Routes.{Candidate, pids, numbers}
 use Rattle.net_types.specs.Sets.{Member, IsRising}
 use Rattle.net_types.specs.Signatures.{signature}
 use Rattle.net_types.specs.UpdateSpelling.{is_before}
@@ -25,7 +25,7 @@ use Rattle.net_types.specs.declared.route.Attrs.{Attrs}
 use Rattle.net_types.proofs.LongestLemmas.{any-member, member-any}
 use Rattle.net_types.proofs.RisingLemmas.{filter-Member, Member-filter, filter-IsRising}
 use Rattle.registry.specs.Registered.{Registered}
-use Rattle.route_server.specs.Rows.{ruled, offered, held_at, held_by, look, Rising, signature_of}
+use Rattle.route_server.specs.Rows.{ruled, held_at, held_by, look, Rising, signature_of}
 use Rattle.route_server.specs.Served.{Served, routing, AreDeclared}
 use Rattle.route_server.specs.Effects.{place_attrs, row_at, effect_bests, best_by_row, same_by_rows, is_same, IsEffect, IsEffectOf, routing_after, AreRowsOf, AreEffects}
 use Rattle.route_server.specs.Proposed.{IsProposal}
@@ -34,6 +34,7 @@ use Rattle.route_server.specs.declared.effect.Effect.{Effect}
 use Rattle.route_server.specs.declared.held.Held.{Held}
 use Rattle.net_types.proofs.EqualLemmas.{signature_test, optional_test}
 use Rattle.route_server.proofs.ServedLaws.{best_of_row, signature_of_row}
+use Rattle.route_server.proofs.ProposalLaws.{changes_reach}
 
 -- ---- participants one after another
 
@@ -239,10 +240,11 @@ touched_are r s cs es f rising elsewhere = subst (AreTouched r s) (sym now) (rec
     kept p d false e = among p d (member_or t own p (ap not e))
 
 -- the effects of all changes make a proposal
-pub proposal_is : (names : Registered) (v : Served) (rules held : List (List ExportRule)) (m : FinMap route_cmp Attrs) (o : Option (List (List ExportRule))) (cs ds : List Change) (es fs : List Effect) (ps : List Prefix) → held ≡ rules → ds ≡ cs → fs ≡ es → ps ≡ map (λ (e : Effect). e.prefix) fs
-    → AreEffects (routing names v) (routing_after names held m) ds (length ds) es → IsRising is_before (map (λ (c : Change). c.prefix) cs) → ((p : Prefix) → (Member p (map (λ (c : Change). c.prefix) cs) → ⊥) → Differs (routing names v) (routing_after names rules m) p → ⊥)
+pub proposal_is : (names : Registered) (v : Served) (rules held : List (List ExportRule)) (m : FinMap route_cmp Attrs) (o : Option (List (List ExportRule))) (cs ds : List Change) (es fs : List Effect) (ps : List Prefix) → held ≡ rules → ds ≡ cs → fs ≡ es → ps ≡ map (λ (e : Effect). e.prefix) fs → unwrap_or o v.rules ≡ rules → AreRowsOf cs m
+    → AreEffects (routing names v) (routing_after names held m) ds (length ds) es → IsRising is_before (map (λ (c : Change). c.prefix) cs)
+    → ((q : RouteKey) → (Member q.prefix (map (λ (c : Change). c.prefix) cs) → ⊥) → get m q ≡ get v.routes q) → ((p : Prefix) → (Member p (map (λ (c : Change). c.prefix) cs) → ⊥) → Differs (routing names v) (routing_after names rules m) p → ⊥)
     → IsProposal (routing names v) (routing_after names rules m) (record { changes = cs; rules = o; touched = ps; sigs = map (λ (e : Effect). e.sig) es; bests = map (effect_bests cs) es })
-proposal_is names v rules held m o cs ds es fs ps same_rules same_changes same_effects at f rising elsewhere =
+proposal_is names v rules held m o cs ds es fs ps same_rules same_changes same_effects at own rows f rising kept elsewhere =
     let r = routing names v in
     let s = routing_after names rules m in
     let k : AreEffects r s cs (length cs) es = subst (λ xs. AreEffects r s xs (length xs) es) same_changes (subst (λ rs. AreEffects r (routing_after names rs m) ds (length ds) es) same_rules f) in
@@ -251,4 +253,6 @@ proposal_is names v rules held m o cs ds es fs ps same_rules same_changes same_e
       touched = subst (AreTouched r s) (sym is) (touched_are r s cs es k rising elsewhere);
       sigs = k.sigs ∙ ap (map (signature s)) (sym is);
       bests = k.bests ∙ ap (map (λ q. map (λ to. best_attrs s to q) (pids s))) (sym is);
+      routes = changes_reach m v.routes cs cs refl rows kept;
+      rules = own;
     }

@@ -1,12 +1,12 @@
 -- Other rules of one participant.
-use Rattle.std.proofs.Common.{◌≡◌, ℕ, zero, suc, ◌<◌, Bool, true, false, cond, ◌&&◌, not, eqb, List, [], ◌∷◌, length, set, arith, sym, ap, subst, ◌∙◌, refl}
-use Rattle.std.specs.Prelude.{Option, Some, None, is_some, unwrap_or}
-use Rattle.std.specs.Option.{option_and_then, option_map}
+use Rattle.std.proofs.Common.{◌≡◌, ℕ, zero, suc, ◌<◌, Bool, true, false, cond, ◌&&◌, not, eqb, List, [], ◌∷◌, length, set, arith, sym, ap, ◌∙◌, refl}
+use Rattle.std.specs.Prelude.{Option, Some, None, is_some}
+use Rattle.std.specs.Option.{option_and_then}
 use Rattle.std.specs.FinMap.{FinMap, get}
 use Rattle.std.proofs.lemmas.Bool.{eqb-true, eqb-false, eq-eqb, ne_eqb}
 use Rattle.net_types.specs.Changes.{Differs}
-use Rattle.net_types.specs.Exports.{Routing, allows, is_in_path, asn_of, is_given}
-use Rattle.net_types.specs.Keys.{RouteKey, route_cmp}
+use Rattle.net_types.specs.Exports.{allows, is_in_path, asn_of, is_given}
+use Rattle.net_types.specs.Keys.{route_cmp}
 use Rattle.net_types.specs.Routes.{candidate, given}
 use Rattle.net_types.specs.Sets.{Member}
 use Rattle.net_types.specs.declared.address.Pid.{Pid}
@@ -23,9 +23,6 @@ use Rattle.route_server.proofs.ProposalLaws.{no_other}
 
 pub kept_rows : (m : FinMap route_cmp Attrs) (cs : List Change) → ((c : Change) → Member c cs → IsKept m c) → AreRowsOf cs m
 kept_rows m cs rows = record { each = λ c k f. (rows c k).looks f }
-
-pub rules_now : (o : Option (List (List ExportRule))) (after d : List (List ExportRule)) → o ≡ Some after → unwrap_or o d ≡ after
-rules_now o after d e = ap (λ x. unwrap_or x d) e
 
 -- where the participant has no route, nothing is another
 module _ (names : Registered) (v : Served) (after : List (List ExportRule)) (from : Pid) (own : List ExportRule) (now : (n : ℕ) → rules_at after n ≡ cond (eqb from.0 n) own (rules_at v.rules n)) where

@@ -8,3 +8,4 @@ mod UpdateLaws
 mod ProposalLaws
 mod DownLaws
 mod ExportLaws
+mod BestLaws

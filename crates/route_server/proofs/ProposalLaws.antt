@@ -1,24 +1,26 @@
 -- What changes reach, and where nothing is another.
-use Rattle.std.proofs.Common.{◌≡◌, ℕ, Bool, true, false, cond, ◌&&◌, eqb, List, [], ◌∷◌, ◌++◌, map, sym, ap, subst, ◌∙◌, refl, inl, inr, true≢false}
+use Rattle.std.proofs.Common.{◌≡◌, Bool, true, false, cond, eqb, List, [], ◌∷◌, map, sym, ap, subst, ◌∙◌, refl, inl, inr, true≢false}
 use Rattle.std.specs.Prelude.{Option, Some, None, unwrap_or}
 use Rattle.std.specs.List.{filter_map, cons_option}
 use Rattle.std.specs.Option.{option_map, option_map_or, option_and_then}
 use Rattle.std.specs.FinMap.{FinMap, get}
 use Rattle.std.proofs.lemmas.Bool.{and_parts, and_from, eqb-true, eq-eqb}
 use Rattle.net_types.proofs.PrefixLemmas.{prefix_ext}
-use Rattle.net_types.specs.Changes.{best_attrs, Differs}
+use Rattle.net_types.specs.Changes.{Differs}
 use Rattle.net_types.specs.Exports.{Routing, same_prefix, is_given}
 use Rattle.net_types.specs.Keys.{RouteKey, route_cmp}
 use Rattle.net_types.specs.Routes.{Candidate, given, candidates, candidate, best_of, pids}
 use Rattle.net_types.specs.Sets.{Member}
-use Rattle.net_types.specs.Signatures.{signature, part, offer}
+use Rattle.net_types.specs.Signatures.{part, offer}
 use Rattle.net_types.specs.declared.address.Pid.{Pid}
+use Rattle.net_types.specs.declared.export.ExportRule.{ExportRule}
 use Rattle.net_types.specs.declared.prefix.Prefix.{Prefix}
 use Rattle.net_types.specs.declared.route.Attrs.{Attrs}
 use Rattle.net_types.specs.declared.route.Part.{Part}
 use Rattle.registry.specs.Registered.{Registered}
 use Rattle.route_server.specs.Edits.{prefixes_of}
 use Rattle.route_server.specs.Effects.{AreRowsOf}
+use Rattle.route_server.specs.Proposed.{Proposed, IsProposal}
 use Rattle.route_server.specs.Rows.{look}
 use Rattle.route_server.specs.Served.{Served, routing, one_after, route_after, Reaches}
 use Rattle.route_server.specs.declared.change.Change.{Change}
@@ -77,3 +79,11 @@ same_routes names v w p rules same = no_other names v w p (λ to from.
 pub rules_are : {A B : Type 0} (f : A → B) (o : Option A) (q : Option B) (d : B) → option_map f o ≡ q → option_map_or f o d ≡ unwrap_or q d
 rules_are f None q d e = ap (λ x. unwrap_or x d) e
 rules_are f (Some x) q d e = ap (λ y. unwrap_or y d) e
+
+-- what a commit does leads to what was proposed
+pub reached_by : (p : Proposed) (old now : FinMap route_cmp Attrs) (rules after : List (List ExportRule)) → ((m : FinMap route_cmp Attrs) → Reaches p.changes old m → now ≡ m) → after ≡ unwrap_or p.rules rules
+    → (r s : Routing) → r.routes ≡ old → r.rules ≡ rules → IsProposal r s p → (now ≡ s.routes) × (after ≡ s.rules)
+reached_by p old now rules after h e r s same_routes same_rules k = (
+  h s.routes (subst (λ m. Reaches p.changes m s.routes) same_routes k.routes),
+  e ∙ ap (unwrap_or p.rules) (sym same_rules) ∙ k.rules,
+)

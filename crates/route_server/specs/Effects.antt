@@ -16,7 +16,7 @@ use Rattle.net_types.specs.declared.prefix.Prefix.{Prefix}
 use Rattle.net_types.specs.declared.route.Attrs.{Attrs}
 use Rattle.registry.specs.Registered.{Registered}
 use Rattle.route_server.specs.Rows.{offered, look, signature_of}
-use Rattle.route_server.specs.Served.{Served, routing}
+use Rattle.route_server.specs.Served.{routing}
 use Rattle.route_server.specs.declared.change.Change.{Change}
 use Rattle.route_server.specs.declared.effect.Effect.{Effect}
 use Rattle.route_server.specs.declared.held.Held.{Held}

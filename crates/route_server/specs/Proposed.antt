@@ -1,5 +1,5 @@
 -- What a proposal says.
-use Rattle.std.specs.Prelude.{◌≡◌, List, map, Option}
+use Rattle.std.specs.Prelude.{◌≡◌, List, map, Option, unwrap_or}
 use Rattle.net_types.specs.Changes.{best_attrs, AreTouched}
 use Rattle.net_types.specs.Exports.{Routing}
 use Rattle.net_types.specs.Routes.{pids}
@@ -8,6 +8,7 @@ use Rattle.net_types.specs.declared.export.ExportRule.{ExportRule}
 use Rattle.net_types.specs.declared.prefix.Prefix.{Prefix}
 use Rattle.net_types.specs.declared.route.Attrs.{Attrs}
 use Rattle.net_types.specs.declared.route.Part.{Part}
+use Rattle.route_server.specs.Served.{Reaches}
 use Rattle.route_server.specs.declared.change.Change.{Change}
 
 -- the rows that prefixes get, the rules where they become others, and the touched prefixes, each with its signature and
@@ -19,8 +20,11 @@ pub record Proposed : Type 0 where
   pub sigs : List (List Part)
   pub bests : List (List (Option Attrs))
 
--- a proposal has exactly what is another in the second routing than in the first, as it is there
+-- a proposal has exactly what is another in the second routing than in the first, as it is there, and its changes and
+-- rules make the second of the first
 pub record IsProposal (r s : Routing) (p : Proposed) : Type 0 where
   pub touched : AreTouched r s p.touched
   pub sigs : p.sigs ≡ map (signature s) p.touched
   pub bests : p.bests ≡ map (λ q. map (λ to. best_attrs s to q) (pids s)) p.touched
+  pub routes : Reaches p.changes r.routes s.routes
+  pub rules : unwrap_or p.rules r.rules ≡ s.rules

@@ -1,9 +1,10 @@
 -- What a route server holds.
-use Rattle.std.specs.Prelude.{◌≡◌, ◌<◌, length, ℕ, true, is_some, List, [], ◌∷◌, map, flat_map, Option, IfSome, if◌then◌else◌}
+use Rattle.std.specs.Prelude.{◌≡◌, ◌<◌, length, ℕ, true, is_some, List, [], ◌∷◌, map, flat_map, Option, Some, IfSome, if◌then◌else◌}
 use Rattle.std.specs.Option.{option_and_then}
 use Rattle.std.specs.FinMap.{FinMap, get, entries}
 use Rattle.net_types.specs.Keys.{RouteKey, prefix_cmp, route_cmp}
 use Rattle.net_types.specs.Maps.{tabulate}
+use Rattle.net_types.specs.Changes.{best_attrs}
 use Rattle.net_types.specs.Exports.{Routing, same_prefix}
 use Rattle.net_types.specs.Sets.{IsRising, Member}
 use Rattle.net_types.specs.UpdateSpelling.{is_before}
@@ -63,6 +64,12 @@ pub record AreDeclared (names : Registered) (routes : FinMap route_cmp Attrs) : 
 pub record AreAll (routes : FinMap route_cmp Attrs) (ps : List Prefix) : Type 0 where
   pub rising : IsRising is_before ps
   pub all : (k : RouteKey) → is_some (get routes k) ≡ true → Member k.prefix ps
+
+-- exactly the prefixes for which a participant has a best route, ascending, each with the route's attributes
+pub record AreBests (r : Routing) (who : Pid) (es : List (Prefix × Attrs)) : Type 0 where
+  pub rising : IsRising is_before (map (λ (e : Prefix × Attrs). e.0) es)
+  pub each : (p : Prefix) (a : Attrs) → Member (p, a) es → best_attrs r who p ≡ Some a
+  pub all : (p : Prefix) (a : Attrs) → best_attrs r who p ≡ Some a → Member (p, a) es
 
 -- the prefixes of a participant's routes, ascending
 pub record Carries (routes : FinMap route_cmp Attrs) (from : Pid) (ps : List Prefix) : Type 0 where

@@ -5,7 +5,7 @@ ghost use Rattle.net_types.specs.Changes.{without_routes};
 ghost use Rattle.route_server.specs.Effects.{routing_after};
 ghost use Rattle.route_server.specs.Proposed.{IsProposal};
 ghost use Rattle.route_server.specs.Rows.{look};
-ghost use Rattle.route_server.specs.Served.{routing, AreDeclared, Reaches, Carries};
+ghost use Rattle.route_server.specs.Served.{routing, AreDeclared, Carries};
 
 use crate::held::Held;
 use crate::proposal::Proposal;
@@ -44,9 +44,9 @@ impl RouteServer {
     /// What it does that all of a participant's routes go.
     pub fn propose_down(&self, names: &Registry, from: Pid) -> Result<Proposal, Memory>
         requires { AreDeclared names.now self.now.routes }
-        ensures reaches { IfOk result (λ p. Reaches p.changes self.now.routes (without_routes from self.now.routes)) }
         ensures rules { IfOk result (λ p. p.rules ≡ None) }
         ensures proposal { IfOk result (λ p. IsProposal (routing names.now self.now) (routing_after names.now self.now.rules (without_routes from self.now.routes)) p) }
+        ensures declared { AreDeclared names.now (without_routes from self.now.routes) }
     {
         let prefixes = prefixes_from(self, from)?;
         let changes = withdrawals(self, from, prefixes.as_slice())?;

@@ -1,12 +1,12 @@
 //! What other export rules of a participant do.
 
-ghost use Rattle.std.specs.Prelude.{◌≡◌, ℕ, ◌<◌, ◌^◌, nat_eq, unwrap_or, vec_len, length, map, IfOk, OnOk, if◌then◌else◌};
+ghost use Rattle.std.specs.Prelude.{◌≡◌, ◌<◌, Some, length, slice_set, IfOk};
 ghost use Rattle.net_types.specs.Sets.{Member};
 ghost use Rattle.route_server.specs.Edits.{IsKept, prefixes_of};
 ghost use Rattle.route_server.specs.Effects.{routing_after};
 ghost use Rattle.route_server.specs.Proposed.{IsProposal};
-ghost use Rattle.route_server.specs.Rows.{rules_at, look, Rising};
-ghost use Rattle.route_server.specs.Served.{routing, AreDeclared, Reaches};
+ghost use Rattle.route_server.specs.Rows.{look, Rising};
+ghost use Rattle.route_server.specs.Served.{routing, AreDeclared};
 ghost use Rattle.route_server.specs.declared.change.Change.{Change};
 
 use crate::change::Change;
@@ -30,18 +30,6 @@ fn copied(alloc: Global, rules: &[ExportRules]) -> Result<Vec<ExportRules>, Memo
     Ok(twins)
 }
 
-/// Makes a list for each place up to this one. Nobody has other rules by that.
-fn grow(alloc: Global, rules: &mut Vec<ExportRules>, place: usize) -> Result<(), Memory>
-    requires { place < 2 ^ 32 }
-    ensures same { (n : ℕ) → rules_at rules.new.items n ≡ rules_at rules.old.items n }
-    ensures within { OnOk result (place < vec_len rules.new) }
-{
-    while rules.len() <= place {
-        rules.push(Items::new(alloc))?;
-    }
-    Ok(())
-}
-
 /// The rules with a participant's own in place of its earlier ones.
 fn with_rules(
     alloc: Global,
@@ -49,11 +37,11 @@ fn with_rules(
     from: Pid,
     own: ExportRules,
 ) -> Result<Vec<ExportRules>, Memory>
-    ensures { IfOk result (λ after. (n : ℕ) → rules_at after.items n ≡ (if nat_eq from.0 n then own else rules_at rules.now n)) }
+    requires { from.0 < length rules.now }
+    ensures { IfOk result (λ after. after.items ≡ slice_set rules.now from.0 own) }
 {
     let mut after = copied(alloc, rules)?;
     let place = from.0 as usize;
-    grow(alloc, &mut after, place)?;
     after[place] = own;
     Ok(after)
 }
@@ -92,17 +80,18 @@ fn all_kept(server: &RouteServer, prefixes: &[Prefix]) -> Result<Vec<Change>, Me
 }
 
 impl RouteServer {
-    /// What it does that a participant has these export rules, in place of its earlier ones.
+    /// What it does that a participant has these export rules, in place of its earlier ones. The server keeps a list of
+    /// rules for the participant already.
     pub fn propose_rules(
         &self,
         names: &Registry,
         from: Pid,
         rules: ExportRules,
     ) -> Result<Proposal, Memory>
-        requires { AreDeclared names.now self.now.routes }
-        ensures reaches { IfOk result (λ p. Reaches p.changes self.now.routes self.now.routes) }
-        ensures rules { IfOk result (λ p. (n : ℕ) → rules_at (unwrap_or p.rules self.now.rules) n ≡ (if nat_eq from.0 n then rules else rules_at self.now.rules n)) }
-        ensures proposal { IfOk result (λ p. IsProposal (routing names.now self.now) (routing_after names.now (unwrap_or p.rules self.now.rules) self.now.routes) p) }
+        requires listed { from.0 < length self.now.rules }
+        requires declared { AreDeclared names.now self.now.routes }
+        ensures rules { IfOk result (λ p. p.rules ≡ Some (slice_set self.now.rules from.0 rules)) }
+        ensures proposal { IfOk result (λ p. IsProposal (routing names.now self.now) (routing_after names.now (slice_set self.now.rules from.0 rules) self.now.routes) p) }
     {
         let prefixes = prefixes_from(self, from)?;
         let changes = all_kept(self, prefixes.as_slice())?;

@@ -2,6 +2,7 @@
 #![tactic(auto)]
 
 mod admission;
+mod bests;
 mod change;
 mod down;
 mod edits;

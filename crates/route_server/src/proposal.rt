@@ -1,10 +1,10 @@
 //! What a line does to the routes and rules, before it is done.
 
 ghost use Rattle.std.specs.Prelude.{◌≡◌, ◌<◌, [], length, map, None, Some, slice_get, unwrap_or, IfOk};
-ghost use Rattle.std.specs.FinMap.{FinMap};
+ghost use Rattle.std.specs.FinMap.{FinMap, get};
 ghost use Rattle.std.specs.Option.{option_copied, option_and_then, option_map, option_map_or};
 ghost use Rattle.net_types.specs.Changes.{Differs};
-ghost use Rattle.net_types.specs.Keys.{route_cmp};
+ghost use Rattle.net_types.specs.Keys.{RouteKey, route_cmp};
 ghost use Rattle.net_types.specs.Sets.{Member, IsRising};
 ghost use Rattle.net_types.specs.UpdateSpelling.{is_before};
 ghost use Rattle.net_types.specs.declared.prefix.Prefix.{Prefix};
@@ -95,6 +95,7 @@ impl Proposal {
         ensures changes { IfOk result (λ p. p.changes ≡ changes.items) }
         ensures rules { IfOk result (λ p. p.rules ≡ option_map (λ r. r.items) rules) }
         ensures effects { IfOk result (λ p. (m : FinMap route_cmp Attrs) → let after = routing_after names.now (option_map_or (λ r. r.items) rules server.now.rules) m in AreDeclared names.now m → AreRowsOf changes.items m → IsRising is_before (prefixes_of changes.items)
+            → ((q : RouteKey) → (Member q.prefix (prefixes_of changes.items) → ⊥) → get m q ≡ get server.now.routes q)
             → ((q : Prefix) → (Member q (prefixes_of changes.items) → ⊥) → Differs (routing names.now server.now) after q → ⊥) → IsProposal (routing names.now server.now) after p) }
     {
         let after = rules_after(server, &rules);

@@ -3,6 +3,7 @@
 ghost use Rattle.std.specs.Prelude.{◌≡◌, ◌<◌, ◌≤◌, ◌^◌, ◌↔◌, length, sum_by, None, Some, IfOk, IfSome, OnOk, unwrap_or};
 ghost use Rattle.std.specs.FinMap.{FinMap};
 ghost use Rattle.net_types.specs.Changes.{updated};
+ghost use Rattle.net_types.specs.Exports.{Routing};
 ghost use Rattle.net_types.specs.Keys.{route_cmp};
 ghost use Rattle.net_types.specs.Routes.{hops_of};
 ghost use Rattle.net_types.specs.SoundUpdates.{IsSoundUpdate};
@@ -31,7 +32,6 @@ fn proposed_update(
     requires sound { IsSoundUpdate update.now }
     requires short { IfSome update.now.attrs (λ a. sum_by hops_of a.path < 2 ^ 32) }
     requires declared { AreDeclared names.now server.now.routes }
-    ensures reaches { IfOk result (λ p. Reaches p.changes server.now.routes (updated from update.now server.now.routes)) }
     ensures rules { IfOk result (λ p. p.rules ≡ None) }
     ensures proposal { IfOk result (λ p. IsProposal (routing names.now server.now) (routing_after names.now server.now.rules (updated from update.now server.now.routes)) p) }
 {
@@ -57,9 +57,9 @@ impl RouteServer {
         requires declared { AreDeclared names.now self.now.routes }
         ensures first_as { (result ≡ Err RouteFault.FirstAs) ↔ (refusal names.now from update.now ≡ Some RouteFault.FirstAs) }
         ensures next_hop { (result ≡ Err RouteFault.NextHop) ↔ (refusal names.now from update.now ≡ Some RouteFault.NextHop) }
-        ensures reaches { IfOk result (λ p. Reaches p.changes self.now.routes (updated from update.now self.now.routes)) }
         ensures rules { IfOk result (λ p. p.rules ≡ None) }
         ensures proposal { IfOk result (λ p. IsProposal (routing names.now self.now) (routing_after names.now self.now.rules (updated from update.now self.now.routes)) p) }
+        ensures declared { AreDeclared names.now (updated from update.now self.now.routes) }
     {
         match refusal(names, from, update) {
             Some(fault) => Err(fault),
@@ -84,6 +84,8 @@ impl RouteServer {
         requires room { length proposal.changes ≤ self.old.room }
         ensures routes { (m : FinMap route_cmp Attrs) → Reaches proposal.changes self.old.routes m → self.new.routes ≡ m }
         ensures rules { self.new.rules ≡ unwrap_or proposal.rules self.old.rules }
+        // After a proposal for the routes and rules as they are, these are those that were proposed.
+        ensures reached { (r s : Routing) → r.routes ≡ self.old.routes → r.rules ≡ self.old.rules → IsProposal r s proposal → (self.new.routes ≡ s.routes) × (self.new.rules ≡ s.rules) }
     {
         let (changes, rules) = proposal.open();
         self.set(changes, rules);

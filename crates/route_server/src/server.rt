@@ -1,6 +1,6 @@
 //! What a route server holds.
 
-ghost use Rattle.std.specs.Prelude.{◌≡◌, ℕ, ◌<◌, ◌≤◌, ◌+◌, [], length, Option, IfOk, OnOk};
+ghost use Rattle.std.specs.Prelude.{◌≡◌, ℕ, ◌<◌, ◌≤◌, ◌+◌, ◌++◌, ◌∷◌, [], length, Option, IfOk, OnOk, OnErr};
 ghost use Rattle.std.specs.FinMap.{FinMap, empty, get, keys};
 ghost use Rattle.std.specs.Option.{option_copied, option_map_or};
 ghost use Rattle.net_types.specs.Changes.{best_attrs};
@@ -91,6 +91,17 @@ impl RouteServer {
             rows,
             rules: Vec::new(alloc),
         }
+    }
+
+    /// A further participant, without rules. After want of memory nothing is another.
+    pub fn add_participant(&mut self) -> Result<(), Memory>
+        ensures rules { OnOk result (self.new.rules ≡ self.old.rules ++ [] ∷ []) }
+        ensures routes { self.new.routes ≡ self.old.routes }
+        ensures unchanged { OnErr result (self.new ≡ self.old) }
+    {
+        let alloc = self.allocator();
+        self.rules.push(Items::new(alloc))?;
+        Ok(())
     }
 
     /// Makes room for so many changes of rows.

@@ -1,4 +1,4 @@
-use Rattle.std.proofs.Common.{◌≡◌, sym, ap, ◌∙◌, filter, take, true, false, Bool, ◌++◌, ◌∷◌, [], append-nil}
+use Rattle.std.proofs.Common.{sym, ap, ◌∙◌, filter, take, true, false, Bool, ◌++◌, ◌∷◌, [], append-nil}
 use Rattle.std.specs.Prelude.{is_some}
 use Rattle.std.specs.FinMap.{get}
 use Rattle.std.proofs.lemmas.List.{take_all}

@@ -1,7 +1,7 @@
 use Rattle.std.proofs.Common.{◌<◌, length, subst}
 use Rattle.route_server.specs.Rows.{ruled}
 use Rattle.route_server.specs.Effects.{place_attrs, best_by_row}
-use Rattle.route_server.proofs.EffectLaws.{pids_from, pids_step, map_one_more, place_best}
+use Rattle.route_server.proofs.EffectLaws.{pids_step, map_one_more, place_best}
 use Rattle.route_server.proofs.effects.bests_in.Goals as goal
 
 pub loop-number-preserved : goal.loop-number-preserved

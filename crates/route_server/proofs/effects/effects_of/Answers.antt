@@ -1,4 +1,4 @@
-use Rattle.std.proofs.Common.{◌≡◌, ◌≤◌, ◌+◌, length, subst, sym, ap, ◌∙◌, arith, append-nil}
+use Rattle.std.proofs.Common.{subst, sym, ap, ◌∙◌, arith, append-nil}
 use Rattle.std.specs.Prelude.{Some, None}
 use Rattle.std.proofs.lemmas.Option.{slice_get-get_or}
 use Rattle.net_types.proofs.FindLemmas.{slice_get-Member}

@@ -1,19 +1,13 @@
-use Rattle.std.proofs.Common.{◌≡◌, sym, ap, ◌∙◌, refl}
+use Rattle.std.proofs.Common.{refl}
 use Rattle.net_types.specs.Changes.{updated}
-use Rattle.net_types.proofs.SetLemmas.{Member-append_left}
-use Rattle.route_server.specs.Served.{Served}
 use Rattle.route_server.proofs.UpdateLaws.{updated_out, updated_declared}
-use Rattle.route_server.proofs.ProposalLaws.{changes_reach, same_routes}
+use Rattle.route_server.proofs.ProposalLaws.{same_routes}
 use Rattle.route_server.proofs.propose.proposed_update.Goals as goal
-
-pub returns-clause-reaches : goal.returns-clause-reaches
-returns-clause-reaches c =
-    changes_reach (updated c.args.from c.args.update.now c.args.server.now.routes) c.args.server.now.routes c.in_ok-changes.changes.items _ c.in_ok-proposal.ensures.changes c.in_ok-changes.ensures.rows
-    (λ q away. updated_out c.args.from q c.args.update.now c.args.server.now.routes (λ k. away (c.in_ok-changes.ensures.all q.prefix k)))
 
 pub returns-clause-proposal : goal.returns-clause-proposal
 returns-clause-proposal c =
     let m = updated c.args.from c.args.update.now c.args.server.now.routes in
     c.in_ok-proposal.ensures.effects m (updated_declared c.args.names.now c.args.from c.args.update.now c.args.server.now.routes c.requires.known c.requires.declared) c.in_ok-changes.ensures.rows c.in_ok-changes.ensures.rising
+    (λ q away. updated_out c.args.from q c.args.update.now c.args.server.now.routes (λ k. away (c.in_ok-changes.ensures.all q.prefix k)))
     (λ q away. same_routes c.args.names.now c.args.server.now (record { routes = m; rules = c.args.server.now.rules; room = 0 }) q refl
     (λ f. updated_out c.args.from (record { from = f; prefix = q }) c.args.update.now c.args.server.now.routes (λ k. away (c.in_ok-changes.ensures.all q k))))

@@ -1,5 +1,4 @@
-use Rattle.std.proofs.Common.{sym, ap, ◌∙◌, inl, inr, subst}
-use Rattle.std.specs.Prelude.{Some, None, ◌⊎◌}
+use Rattle.std.proofs.Common.{sym, ◌∙◌, inl, inr, subst}
 use Rattle.route_server.specs.Edits.{IsEdit}
 use Rattle.route_server.proofs.UpdateLaws.{prefix_of_member}
 use Rattle.net_types.specs.Sets.{Member}
