@@ -19,3 +19,5 @@ pub mod LineSteps
 pub mod SteadySteps
 pub mod QuietLines
 pub mod ListedPairs
+pub mod OneRuleEach
+pub mod FullTables

@@ -10,3 +10,4 @@ pub mod Steady
 pub mod Listed
 pub mod Rerouting
 pub mod Quiet
+pub mod Fitting
