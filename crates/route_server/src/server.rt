@@ -1,6 +1,6 @@
 //! What a route server holds.
 
-ghost use Rattle.std.specs.Prelude.{◌≡◌, ℕ, ◌<◌, ◌≤◌, ◌+◌, ◌++◌, ◌∷◌, [], length, Option, IfOk, OnOk, OnErr};
+ghost use Rattle.std.specs.Prelude.{◌≡◌, ◌-◌, take, ℕ, ◌<◌, ◌≤◌, ◌+◌, ◌++◌, ◌∷◌, [], length, Option, IfOk, OnOk, OnErr};
 ghost use Rattle.std.specs.FinMap.{FinMap, empty, get, keys};
 ghost use Rattle.std.specs.Option.{option_copied, option_map_or};
 ghost use Rattle.net_types.specs.Changes.{best_attrs};
@@ -102,6 +102,14 @@ impl RouteServer {
         let alloc = self.allocator();
         self.rules.push(Items::new(alloc))?;
         Ok(())
+    }
+
+    /// The last participant goes, with its rules; its routes stay.
+    pub fn drop_last(&mut self)
+        ensures rules { self.new.rules ≡ take (length self.old.rules - 1) self.old.rules }
+        ensures routes { self.new.routes ≡ self.old.routes }
+    {
+        self.rules.pop();
     }
 
     /// Makes room for so many changes of rows.

@@ -1,21 +1,33 @@
 -- When a reply and a state are a step, and what holds after it.
-use Rattle.std.proofs.Common.{◌≡◌, true, ap, subst, sym, ◌∙◌}
-use Rattle.std.specs.Prelude.{Some, None, length}
-use Rattle.events.specs.After.{after, next}
+use Rattle.std.proofs.Common.{◌≡◌, ℕ, true, cond, List, [], ap, refl, subst, sym, ◌∙◌}
+use Rattle.std.specs.Prelude.{Some, None, codes, length, map}
+use Rattle.std.specs.FinMap.{FinMap, empty}
+use Rattle.events.specs.After.{after, next, running}
 use Rattle.events.specs.Fits.{FitsBy, IsAnswer, IsStep, IsWellFormed, bare}
-use Rattle.events.specs.Refusals.{refusal}
-use Rattle.events.specs.State.{State}
+use Rattle.events.specs.Refusals.{is_placed, refusal, refusal_in_place}
+use Rattle.events.specs.State.{State, first}
 use Rattle.events.specs.Tags as events
+use Rattle.events.specs.declared.Entry.{Entry}
 use Rattle.events.specs.declared.Event.{Event}
 use Rattle.events.specs.declared.Head.TheVariants.{Refused}
+use Rattle.events.specs.declared.Phase.{Phase}
+use Rattle.events.specs.declared.Phase.TheVariants.{Start, Declaring, Running}
 use Rattle.events.specs.declared.Refusal.{Refusal}
+use Rattle.events.specs.declared.Refusal.TheVariants.{Misplaced}
 use Rattle.events.specs.declared.Reply.{Reply}
 use Rattle.exchange_laws.proofs.QuietLines.{quiet_lines_are_accepted}
-use Rattle.exchange_laws.proofs.SteadySteps.{steps_stay_steady}
+use Rattle.exchange_laws.proofs.SteadySteps.{starts_steady, steps_stay_steady}
 use Rattle.exchange_laws.specs.Quiet.{is_quiet}
 use Rattle.exchange_laws.specs.Steady.{IsSteady}
+use Rattle.match_switch.specs.Installed.{Installed}
+use Rattle.net_types.specs.Keys.{prefix_cmp}
+use Rattle.net_types.specs.declared.address.Ip.{Ip}
 use Rattle.next_hop_pool.specs.Free.{Tags, free_tags}
-use Rattle.sdx_core.specs.View.{IsKept}
+use Rattle.prefix_classes.specs.Classes.{Classes}
+use Rattle.registry.specs.Registered.{Registered}
+use Rattle.route_server.specs.Served.{Served}
+use Rattle.sdx_core.specs.Placed.{is_declared}
+use Rattle.sdx_core.specs.View.{IsKept, state_of}
 
 -- a refusal, which leaves all as it was
 pub refused_step : (s : State) (e : Event) (r : Reply) (why : Refusal) → refusal s e ≡ Some why → r ≡ bare (Refused why) → IsStep s e r s
@@ -23,6 +35,23 @@ refused_step s e r why holds is = record {
   fits = subst (λ o. FitsBy o s e r) (sym holds) is;
   next = sym (ap (next s e) is);
 }
+
+-- a step from an equal state
+pub step_from : (s st : State) (e : Event) (r : Reply) (s' : State) → s ≡ st → IsStep s e r s' → IsStep st e r s'
+step_from s st e r s' is step = subst (λ x. IsStep x e r s') is step
+
+-- the line is in place once the pool is declared
+pub placed : (e : Event) → is_placed Declaring e ≡ true → is_placed Running e ≡ true → (phase : Phase) → is_declared phase ≡ true → is_placed phase e ≡ true
+placed e one two Start ready = absurd (cc)
+placed e one two Declaring ready = one
+placed e one two Running ready = two
+
+pub in_place : (s : State) (e : Event) → is_placed s.phase e ≡ true → refusal s e ≡ refusal_in_place s e
+in_place s e here = ap (λ b. cond b (refusal_in_place s e) (Some Misplaced)) here
+
+-- a line in place is refused
+pub refused_at : (s st : State) (e : Event) (r : Reply) (why : Refusal) → s ≡ st → is_placed s.phase e ≡ true → refusal_in_place s e ≡ Some why → r ≡ bare (Refused why) → IsStep st e r st
+refused_at s st e r why is here refuses reply = subst (λ x. IsStep x e r x) is (refused_step s e r why (in_place s e here ∙ refuses) reply)
 
 -- a line that changes no routes and by which nobody takes anything is a step with its answer
 pub quiet_step : (s : State) (e : Event) (r : Reply) → IsSteady s → IsWellFormed e → refusal s e ≡ None → is_quiet e ≡ true → IsAnswer s e r (next s e r) → IsStep s e r (after s e)
@@ -42,6 +71,27 @@ kept_after s e r s' pool kept formed step free base size = record {
   size = kept.size ∙ sym size;
 }
 
--- a step between equal states
-pub step_from : (s st : State) (e : Event) (r : Reply) (s' : State) → s ≡ st → IsStep s e r s' → IsStep st e r s'
-step_from s st e r s' is step = subst (λ x. IsStep x e r s') is step
+-- an exchange without lines
+pub starts_kept : (names : Registered) (served : Served) (resolved : List (List Ip)) (classes : Classes) (told : List (FinMap prefix_cmp Entry)) (installed : Installed) (pool : Tags)
+    → names ≡ record { participants = []; ports = [] } → served.routes ≡ empty → served.rules ≡ [] → resolved ≡ [] → classes.tag ≡ empty → classes.kept ≡ empty → told ≡ []
+    → installed.table ≡ empty → installed.capacity ≡ 0 → pool ≡ record { base = record { 0 = 0 }; taken = [] }
+    → IsKept (state_of Start (record { 0 = 0 }) 0 names served resolved classes told installed) pool
+starts_kept names served resolved classes told installed pool declared routes rules none tag kept nothing table capacity free =
+    let none_free : Tags = record { base = record { 0 = 0 }; taken = [] } in
+    let is : first ≡ state_of Start (record { 0 = 0 }) 0 names served resolved classes told installed = sym (λ i. record {
+      phase = Start;
+      base = record { 0 = 0 };
+      size = 0;
+      capacity = capacity i;
+      routing = record { participants = (declared i).participants; ports = (declared i).ports; rules = rules i; routes = routes i };
+      outbound = map (λ m. codes "drop") (declared i).participants;
+      inbound = map (λ m. codes "drop") (declared i).participants;
+      tag = tag i;
+      kept = kept i;
+      told = nothing i;
+      resolved = none i;
+      table = table i;
+      owed = None;
+    }) in
+    let at_first : IsKept first none_free = record { steady = starts_steady; free = refl; base = refl; size = refl } in
+    subst (λ s. IsKept s pool) is (subst (IsKept first) (sym free) at_first)

@@ -5,7 +5,9 @@ ghost use Rattle.events.specs.Fits.{IsStep, IsWellFormed};
 ghost use Rattle.events.specs.declared.Event.TheVariants as lines;
 
 use super::Sdx;
-use events::Reply;
+use crate::line_order::is_declared;
+use crate::replies::{bare_reply, refused};
+use events::{Head, Phase, Refusal, Reply};
 use net_types::{Bytes, Memory, PortNo};
 
 impl Sdx {
@@ -24,8 +26,19 @@ impl Sdx {
         requires { IsWellFormed (lines.Frame port bytes.now) }
         ensures { IfOk result (λ reply. IsStep self.old (lines.Frame port bytes.now) reply self.new) }
     {
-        let _ = port;
-        let _ = bytes;
-        Err(Memory)
+        if !is_declared(self.phase) {
+            return Ok(refused(self.alloc, Refusal::Misplaced));
+        }
+        let Some(source) = self.registry.port(port).copied() else {
+            return Ok(refused(self.alloc, Refusal::Unknown));
+        };
+        let ports = self.registry.ports();
+        let frames = self
+            .switch
+            .forward(self.alloc, ports, source.number, bytes.items())?;
+        self.phase = Phase::Running;
+        let mut reply = bare_reply(self.alloc, Head::Fine);
+        reply.frames = frames;
+        Ok(reply)
     }
 }
