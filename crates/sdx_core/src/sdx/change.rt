@@ -1,21 +1,21 @@
-//! The lines that change the routes: each makes a proposal, which is refused where it needs too many tags or rules, and is
-//! carried out otherwise.
+//! The lines that change the routes: each asks for a proposal, which is carried out where there are tags and rules enough.
 
-ghost use Rattle.std.specs.Prelude.{◌≡◌, ◌×◌, true, Some, None, Ok, IfOk, IfSome, IsTrue, sum_by, ◌<◌, ◌^◌};
-ghost use Rattle.net_types.specs.Exports.{Routing, pid_of};
+ghost use Rattle.std.specs.Prelude.{◌≡◌, IfOk, IsTrue};
+ghost use Rattle.net_types.specs.Exports.{Routing};
 ghost use Rattle.events.specs.Fits.{IsStep, IsWellFormed};
+ghost use Rattle.events.specs.Lines.{is_utf8};
 ghost use Rattle.events.specs.declared.Event.{Event};
 ghost use Rattle.events.specs.declared.Event.TheVariants as lines;
-ghost use Rattle.sdx_core.specs.Changing.{Leads};
+ghost use Rattle.sdx_core.specs.Changing.{Asks, Leads, rules_or_refusal, session};
 
 use super::Sdx;
 use crate::line_order::is_declared;
-use crate::replies::{bare_reply, refused};
+use crate::replies::{changes_reply, refused};
 use bgp_update::{UpdateFault, decode};
-use events::{Head, Phase, Refusal, Reply};
+use events::{Phase, Refusal, Reply};
 use export_rules::{BindFault, RulesFault, parse_rules};
-use fast_path::{FastFault, Plan, commit, plan, reserve};
-use net_types::{Bytes, ExportRules, Memory, Name, Pid, Text, Update};
+use fast_path::{FastFault, commit, plan, reserve};
+use net_types::{Bytes, ExportRules, Memory, Name, Pid, Text};
 use route_server::{Proposal, RouteFault};
 
 impl Sdx {
@@ -24,25 +24,8 @@ impl Sdx {
         requires { IsWellFormed (lines.Update name.now bytes.now) }
         ensures { IfOk result (λ reply. IsStep self.old (lines.Update name.now bytes.now) reply self.new) }
     {
-        if !is_declared(self.phase) {
-            return Ok(refused(self.alloc, Refusal::Misplaced));
-        }
-        let Some(who) = self.registry.find_octets(name.items()) else {
-            return Ok(refused(self.alloc, Refusal::Unknown));
-        };
-        let update = match decode(self.alloc, bytes.items()) {
-            Ok(update) => update,
-            Err(UpdateFault::Bad(fault)) => {
-                return Ok(refused(self.alloc, Refusal::BadUpdate(fault)));
-            }
-            Err(UpdateFault::Memory) => return Err(Memory),
-        };
-        match self.server.propose_update(&self.registry, who, &update) {
-            Ok(proposal) => self.reroute(proposal),
-            Err(RouteFault::FirstAs) => Ok(refused(self.alloc, Refusal::FirstAs)),
-            Err(RouteFault::NextHop) => Ok(refused(self.alloc, Refusal::NextHop)),
-            Err(RouteFault::Memory) => Err(Memory),
-        }
+        let asked = self.update_asked(name, bytes)?;
+        self.answer(asked)
     }
 
     /// All routes of a participant go.
@@ -50,14 +33,8 @@ impl Sdx {
         requires { IsWellFormed (lines.Down name.now) }
         ensures { IfOk result (λ reply. IsStep self.old (lines.Down name.now) reply self.new) }
     {
-        if !is_declared(self.phase) {
-            return Ok(refused(self.alloc, Refusal::Misplaced));
-        }
-        let Some(who) = self.registry.find_octets(name.items()) else {
-            return Ok(refused(self.alloc, Refusal::Unknown));
-        };
-        let proposal = self.server.propose_down(&self.registry, who)?;
-        self.reroute(proposal)
+        let asked = self.down_asked(name)?;
+        self.answer(asked)
     }
 
     /// The export rules of a participant become those of the text.
@@ -65,25 +42,86 @@ impl Sdx {
         requires { IsWellFormed (lines.Export name.now text.now) }
         ensures { IfOk result (λ reply. IsStep self.old (lines.Export name.now text.now) reply self.new) }
     {
+        let asked = self.export_asked(name, text)?;
+        self.answer(asked)
+    }
+
+    /// The participant that sends a line.
+    fn session(&self, name: &Name) -> Result<Pid, Refusal>
+        ensures { result ≡ session self.now name.now }
+    {
         if !is_declared(self.phase) {
-            return Ok(refused(self.alloc, Refusal::Misplaced));
+            return Err(Refusal::Misplaced);
         }
-        let Some(who) = self.registry.find_octets(name.items()) else {
-            return Ok(refused(self.alloc, Refusal::Unknown));
-        };
-        match self.bound_rules(text)? {
-            Ok(rules) => {
-                let proposal = self.server.propose_rules(&self.registry, who, rules)?;
-                self.reroute(proposal)
-            }
-            Err(refusal) => Ok(refused(self.alloc, refusal)),
+        match self.registry.find_octets(name.items()) {
+            Some(who) => Ok(who),
+            None => Err(Refusal::Unknown),
         }
     }
 
-    /// The rules of a text among the declared participants, or why it is refused.
+    /// What an UPDATE asks for.
+    fn update_asked(
+        &self,
+        name: &Name,
+        bytes: &Bytes,
+    ) -> Result<Result<Proposal, Refusal>, Memory>
+        ensures { IfOk result (Asks self.now (lines.Update name.now bytes.now)) }
+    {
+        let who = match self.session(name) {
+            Ok(who) => who,
+            Err(refusal) => return Ok(Err(refusal)),
+        };
+        let update = match decode(self.alloc, bytes.items()) {
+            Ok(update) => update,
+            Err(UpdateFault::Bad(fault)) => return Ok(Err(Refusal::BadUpdate(fault))),
+            Err(UpdateFault::Memory) => return Err(Memory),
+        };
+        match self.server.propose_update(&self.registry, who, &update) {
+            Ok(proposal) => Ok(Ok(proposal)),
+            Err(RouteFault::FirstAs) => Ok(Err(Refusal::FirstAs)),
+            Err(RouteFault::NextHop) => Ok(Err(Refusal::NextHop)),
+            Err(RouteFault::Memory) => Err(Memory),
+        }
+    }
+
+    /// What `down` asks for.
+    fn down_asked(&self, name: &Name) -> Result<Result<Proposal, Refusal>, Memory>
+        ensures { IfOk result (Asks self.now (lines.Down name.now)) }
+    {
+        match self.session(name) {
+            Ok(who) => {
+                let proposal = self.server.propose_down(&self.registry, who)?;
+                Ok(Ok(proposal))
+            }
+            Err(refusal) => Ok(Err(refusal)),
+        }
+    }
+
+    /// What `export` asks for.
+    fn export_asked(
+        &self,
+        name: &Name,
+        text: &Text,
+    ) -> Result<Result<Proposal, Refusal>, Memory>
+        requires { IsTrue (is_utf8 text.now) }
+        ensures { IfOk result (Asks self.now (lines.Export name.now text.now)) }
+    {
+        let who = match self.session(name) {
+            Ok(who) => who,
+            Err(refusal) => return Ok(Err(refusal)),
+        };
+        let rules = match self.bound_rules(text)? {
+            Ok(rules) => rules,
+            Err(refusal) => return Ok(Err(refusal)),
+        };
+        let proposal = self.server.propose_rules(&self.registry, who, rules)?;
+        Ok(Ok(proposal))
+    }
+
+    /// The rules of a text among the declared participants, or why the text is refused.
     fn bound_rules(&self, text: &Text) -> Result<Result<ExportRules, Refusal>, Memory>
         requires { IsTrue (is_utf8 text.now) }
-        ensures { IfOk result (λ read. read ≡ read_rules self.now.routing text.now) }
+        ensures { IfOk result (λ rules. rules ≡ rules_or_refusal self.now.routing text.now) }
     {
         let Ok(text) = std::str::from_utf8(text.items()) else {
             unreachable!()
@@ -91,7 +129,7 @@ impl Sdx {
         let named = match parse_rules(self.alloc, text) {
             Ok(named) => named,
             Err(RulesFault::TextLong) => return Ok(Err(Refusal::TextLong)),
-            Err(RulesFault::Syntax(at)) => return Ok(Err(Refusal::Syntax { at })),
+            Err(RulesFault::Syntax { at }) => return Ok(Err(Refusal::Syntax { at })),
             Err(RulesFault::Memory) => return Err(Memory),
         };
         match named.bind(&self.registry) {
@@ -101,10 +139,21 @@ impl Sdx {
         }
     }
 
+    /// Carries out what is asked for, or refuses it.
+    fn answer(&mut self, asked: Result<Proposal, Refusal>) -> Result<Reply, Memory>
+        requires { (e : Event) × IsWellFormed e × Asks self.old e asked }
+        ensures { IfOk result (λ reply. (e : Event) → IsWellFormed e → Asks self.old e asked → IsStep self.old e reply self.new) }
+    {
+        match asked {
+            Ok(proposal) => self.reroute(proposal),
+            Err(refusal) => Ok(refused(self.alloc, refusal)),
+        }
+    }
+
     /// Carries out a proposal, where there are tags and rules enough. All memory is taken before anything changes.
     fn reroute(&mut self, proposal: Proposal) -> Result<Reply, Memory>
-        requires { (e : Event) × (r : Routing) × Leads self.old e r proposal }
-        ensures { IfOk result (λ reply. (e : Event) (r : Routing) → Leads self.old e r proposal → IsStep self.old e reply self.new) }
+        requires { (e : Event) × IsWellFormed e × (r : Routing) × Leads self.old e r proposal }
+        ensures { IfOk result (λ reply. (e : Event) (r : Routing) → IsWellFormed e → Leads self.old e r proposal → IsStep self.old e reply self.new) }
     {
         let plan = match plan(
             self.alloc,
@@ -124,23 +173,11 @@ impl Sdx {
             }
             Err(FastFault::Memory) => return Err(Memory),
         };
-        let reply = changes_reply(self.alloc, &plan)?;
         self.server.reserve(&proposal)?;
         reserve(&plan, &mut self.classes, &mut self.switch)?;
         self.server.commit(proposal);
-        commit(plan, &mut self.classes, &mut self.pool, &mut self.switch);
+        let changes = commit(plan, &mut self.classes, &mut self.pool, &mut self.switch);
         self.phase = Phase::Running;
-        Ok(reply)
+        Ok(changes_reply(self.alloc, changes))
     }
-}
-
-/// What the plan says of tags and rules.
-fn changes_reply(alloc: Global, plan: &Plan) -> Result<Reply, Memory>
-    ensures { IfOk result (λ reply. reply ≡ record (bare Fine) { tags = plan.now.tags; drops = plan.now.drops; adds = plan.now.adds }) }
-{
-    let mut reply = bare_reply(alloc, Head::Fine);
-    reply.tags = plan.tags.copy()?;
-    reply.drops = plan.drops.copy()?;
-    reply.adds = plan.adds.copy()?;
-    Ok(reply)
 }
