@@ -12,14 +12,18 @@ use net_types::{Cube, Memory};
 use std::collections::HashSet;
 
 /// Whether a rule of this cube can never be reached behind those that were seen.
-fn is_hidden(seen: &HashSet<Cube>, cube: &Cube) -> bool
+pub fn is_hidden(seen: &HashSet<Cube>, cube: &Cube) -> bool
     ensures { result ≡ (contains cube_eq seen.now cube.now || contains cube_eq seen.now everything) }
 {
     seen.contains(cube) || seen.contains(&Cube::everything())
 }
 
 /// Puts a rule last that can be reached.
-fn push_reached(lines: &mut Vec<Line>, seen: &mut HashSet<Cube>, next: Line) -> Result<(), Memory>
+pub fn push_reached(
+    lines: &mut Vec<Line>,
+    seen: &mut HashSet<Cube>,
+    next: Line,
+) -> Result<(), Memory>
     requires agrees { Agrees lines.old.items seen.old }
     requires reached { (contains cube_eq seen.old next.cube || contains cube_eq seen.old everything) ≡ false }
     ensures lines { OnOk result (lines.new.items ≡ add_line lines.old.items next) }

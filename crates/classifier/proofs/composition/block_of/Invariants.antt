@@ -4,4 +4,4 @@ use Rattle.classifier.proofs.composition.block_of.Given as goal
 
 -- what is left makes the whole
 abbrev pub invariant-loop-pair : goal.invariant-loop-pair
-invariant-loop-pair l = block l.lines.items (drop l.pair-index l.pair-items) l.ys ≡ block (line [] l.x.cube ∷ []) l.x.results l.ys
+invariant-loop-pair l = block l.lines.items (drop l.pair-index l.results) l.ys ≡ block (line [] l.fn.cube ∷ []) l.results l.ys

@@ -6,12 +6,10 @@ use Rattle.classifier.proofs.composition.composition_of.Goals as goal
 pub loop-x-preserved : goal.loop-x-preserved
 loop-x-preserved c =
     let ys = c.args.ys.now in
-    let rest = composed (drop (c.loop-x.x-index + 1) c.args.xs.now) ys in
     record {
       whole =
-          ap (λ kept. add_lines kept rest) c.in_ok-push_lines.ensures.lines
-          ∙ ap (λ made. add_lines (add_lines c.loop-x.lines.items made) rest) c.in_ok-within_x.ensures
+          ap (λ kept. add_lines kept (composed (drop (c.loop-x.x-index + 1) c.args.xs.now) ys)) c.in_ok-push_block.ensures.lines
           ∙ sym (add_lines_more (λ xs. composed xs ys) (λ x. block (line [] x.cube ∷ []) x.results ys) (λ _ _. refl) c.loop-x.lines.items c.args.xs.now c.loop-x.x-index c.x-item.result c.loop-x-test.true c.x-item.is)
           ∙ c.loop-x.invariant.whole;
-      agrees = c.in_ok-push_lines.ensures.agrees;
+      agrees = c.in_ok-push_block.ensures.agrees;
     }
