@@ -14,6 +14,7 @@ pub record IsTag (p : Tags) (t : Tag) : Type 0 where
   pub above : 0 < t.0
   pub within : t.0 ≤ length p.taken
 
+-- whether the place of a tag is marked, where there is one
 abbrev pub is_taken_in : List Bool → Tag → Bool
 is_taken_in taken t = slice_index_or taken (t.0 - 1) true
 
@@ -25,6 +26,7 @@ is_taken p t = is_taken_in p.taken t
 abbrev pub tag : ℕ → Tag
 tag n = record { 0 = n }
 
+-- the tags 1, 2, .. whose places aren't marked, ascending
 abbrev pub free_in : List Bool → List Tag
 free_in taken = filter (λ t. not (is_taken_in taken t)) (map tag (numbers 1 (length taken)))
 

@@ -78,8 +78,7 @@ impl Pool {
 
     /// The least free tag that is greater than `after`, or the least of all; it stays free.
     pub fn next_free(&self, after: Option<Tag>) -> Option<Tag>
-        ensures value { result ≡ find (is_above after) (free_tags self.now) }
-        ensures within { IfSome result (IsTag self.now) }
+        ensures { result ≡ find (is_above after) (free_tags self.now) }
     {
         match after {
             None => self.free_above(0),
@@ -150,8 +149,7 @@ impl Pool {
 
     // The least free tag with a greater number.
     fn free_above(&self, number: usize) -> Option<Tag>
-        ensures value { (p : Tag → Bool) → ((t : Tag) → 0 < t.0 → t.0 ≤ number → p t ≡ false) → ((t : Tag) → number < t.0 → p t ≡ true) → result ≡ find p (free_tags self.now) }
-        ensures within { IfSome result (IsTag self.now) }
+        ensures { (p : Tag → Bool) → ((t : Tag) → 0 < t.0 → t.0 ≤ number → p t ≡ false) → ((t : Tag) → number < t.0 → p t ≡ true) → result ≡ find p (free_tags self.now) }
     {
         let from = self.least.max(number);
         let at = first_free(self.taken.as_slice(), from);

@@ -1,12 +1,12 @@
 -- The numbers of members that are kept of tags, against the tags of prefixes.
-use Rattle.std.proofs.Common.{◌≡◌, ℕ, suc, ◌+◌, ◌-◌, ◌<◌, ◌≤◌, ◌^◌, Bool, true, false, cond, ◌&&◌, List, [], ◌∷◌, map, length, get_or, set, sym, ap, subst, ◌∙◌, refl, arith}
+use Rattle.std.proofs.Common.{◌≡◌, ℕ, ◌+◌, ◌-◌, ◌<◌, ◌^◌, Bool, true, false, cond, ◌&&◌, List, [], ◌∷◌, map, length, get_or, set, sym, ap, subst, ◌∙◌, refl, arith}
 use Rattle.std.specs.Prelude.{Option, Some, None, is_some}
 use Rattle.std.specs.Option.{option_map}
-use Rattle.std.specs.Ordering.{eq_by_cmp, is_eq, is_lt}
-use Rattle.std.specs.FinMap.{FinMap, get, insert, remove, entries, from_sorted, same_map}
+use Rattle.std.specs.Ordering.{eq_by_cmp, is_lt}
+use Rattle.std.specs.FinMap.{FinMap, get, insert, remove, entries, same_map}
 use Rattle.std.specs.FinMap.Entries.{find, put, is_sorted, below_all, find-put, find_tied}
 use Rattle.net_types.proofs.OrderLemmas.{tags_total}
-use Rattle.net_types.proofs.PlaceLemmas.{IsFoundAt, IsMissedAt, get_sorted, put_sorted}
+use Rattle.net_types.proofs.PlaceLemmas.{get_sorted, put_sorted}
 use Rattle.net_types.proofs.TieLemmas.{tag_cmp-IsAntisymmetric, tie_Equal}
 use Rattle.net_types.specs.Keys.{prefix_cmp, tag_cmp}
 use Rattle.net_types.specs.declared.address.Tag.{Tag}
@@ -15,7 +15,7 @@ use Rattle.net_types.specs.declared.route.Part.{Part}
 use Rattle.sorted_map.proofs.SearchLemmas.{found, missed}
 use Rattle.sorted_map.specs.Places.{IsAt, IsGapFor}
 use Rattle.prefix_classes.proofs.MemberLemmas.{members-insert, members-remove, members-le, is_tag-itself, some_member}
-use Rattle.prefix_classes.specs.Classes.{is_tag, has_tag, members}
+use Rattle.prefix_classes.specs.Classes.{has_tag, members}
 use Rattle.prefix_classes.specs.Counts.{counted, members_of, sig_entry, sigs_of, IsCounted, IsRecounted}
 use Rattle.prefix_classes.specs.declared.members.Kept.{Kept}
 
@@ -44,15 +44,18 @@ is_some-sig : (o : Option Kept) → is_some (sig_in o) ≡ is_some o
 is_some-sig None = refl
 is_some-sig (Some k) = refl
 
--- a tag whose signature is kept has an entry
+-- a tag has an entry exactly where its signature is kept
+pub is_some-kept : (es : List (Tag × Kept)) (t : Tag) (kept : FinMap tag_cmp (List Part)) → is_sorted tag_cmp es ≡ true → sigs_of es ≡ kept → is_some (get kept t) ≡ is_some (find tag_cmp t es)
+is_some-kept es t kept sorted same = sym (ap (λ m. is_some (get m t)) same) ∙ ap is_some (get-sigs es t sorted) ∙ is_some-sig (find tag_cmp t es)
+
 pub find_kept : (es : List (Tag × Kept)) (t : Tag) (kept : FinMap tag_cmp (List Part)) → is_sorted tag_cmp es ≡ true → sigs_of es ≡ kept → is_some (get kept t) ≡ true → is_some (find tag_cmp t es) ≡ true
-find_kept es t kept sorted same there = sym (is_some-sig (find tag_cmp t es)) ∙ ap is_some (sym (get-sigs es t sorted)) ∙ ap (λ m. is_some (get m t)) same ∙ there
+find_kept es t kept sorted same there = sym (is_some-kept es t kept sorted same) ∙ there
 
 no_sig : (o : Option Kept) → sig_in o ≡ None → o ≡ None
 no_sig None e = refl
 no_sig (Some k) e = let some = ap is_some e in cc
 
--- and one whose signature isn't has none
+-- a tag whose signature isn't kept has no entry
 pub find_not_kept : (es : List (Tag × Kept)) (t : Tag) (kept : FinMap tag_cmp (List Part)) → is_sorted tag_cmp es ≡ true → sigs_of es ≡ kept → get kept t ≡ None → find tag_cmp t es ≡ None
 find_not_kept es t kept sorted same none = no_sig (find tag_cmp t es) (sym (get-sigs es t sorted) ∙ ap (λ m. get m t) same ∙ none)
 

@@ -1,6 +1,6 @@
 //! The classes of prefixes.
 
-ghost use Rattle.std.specs.Prelude.{◌≡◌, ◌≤◌, ◌<◌, ◌+◌, None, IsOk, IsTrue, OnOk, length, option_copied, is_some};
+ghost use Rattle.std.specs.Prelude.{◌≡◌, ◌≤◌, ◌<◌, ◌+◌, None, IsOk, IsTrue, OnOk, length, option_copied, is_some, if◌then◌else◌};
 ghost use Rattle.std.specs.FinMap as map;
 ghost use Rattle.prefix_classes.specs.Classes.{given, members, missing, new_ones};
 
@@ -142,11 +142,11 @@ impl ClassMap {
         }
     }
 
-    /// Takes a prefix's tag away, where it has one.
+    /// Takes a prefix's tag away, where it has one. Its place is room again.
     pub fn drop_prefix(&mut self, prefix: Prefix)
         ensures tag { self.new.tag ≡ map.remove self.old.tag prefix }
         ensures kept { self.new.kept ≡ self.old.kept }
-        ensures prefixes { self.old.prefixes ≤ self.new.prefixes }
+        ensures prefixes { self.old.prefixes + 1 ≤ self.new.prefixes + missing (map.get self.old.tag prefix) }
         ensures tags { self.new.tags ≡ self.old.tags }
     {
         match self.tags.remove(prefix) {
@@ -155,13 +155,13 @@ impl ClassMap {
         }
     }
 
-    /// Forgets a tag without members, where it is kept.
+    /// Forgets a tag without members, where it is kept. Its place is room again.
     pub fn forget(&mut self, tag: Tag)
         requires { members self.old.tag tag ≡ 0 }
         ensures tag { self.new.tag ≡ self.old.tag }
         ensures kept { self.new.kept ≡ map.remove self.old.kept tag }
         ensures prefixes { self.new.prefixes ≡ self.old.prefixes }
-        ensures tags { self.old.tags ≤ self.new.tags }
+        ensures tags { self.old.tags + (if is_some (map.get self.old.kept tag) then 1 else 0) ≤ self.new.tags }
     {
         take_out(&mut self.kept, &tag);
     }

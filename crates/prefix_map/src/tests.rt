@@ -51,6 +51,7 @@ fn a_prefix_is_given_a_value_twice(rt: HostRuntime) -> Result<(), Fail> {
 #[test]
 fn prefixes_ascend(rt: HostRuntime) -> Result<(), Fail> {
     let map = halves(rt.alloc())?;
+    assert!(rt; map.len() == 3);
     let mut values = Vec::new(rt.alloc());
     for (_, value) in map.iter() {
         values.push(*value)?;

@@ -1,6 +1,5 @@
 use Rattle.std.proofs.Common.{◌≡◌, ◌≤◌, ◌+◌, drop}
-use Rattle.std.specs.FinMap.{FinMap, insert}
-use Rattle.net_types.specs.declared.address.Tag.{Tag}
+use Rattle.std.specs.FinMap.{insert}
 use Rattle.prefix_classes.specs.Classes.{given, new_ones}
 use Rattle.prefix_classes.proofs.class_map.ClassMap.give.Given as goal
 
