@@ -63,10 +63,10 @@ module _ {K X : Type 0} (R : K → K → Ordering) where
         let one : (xs ++ (k, v) ∷ []) ++ ys ≡ xs ++ (k, v) ∷ ys = append_assoc xs ((k, v) ∷ []) ys in
         let longer : is_sorted R (xs ++ (k, v) ∷ []) ≡ true = front_sorted (xs ++ (k, v) ∷ []) ys (ap (is_sorted R) one ∙ sorted) in
         same_map o same (insert (from_sorted {R = R} xs) k v) (from_sorted (xs ++ (k, v) ∷ [])) (λ q.
-            get-insert o (from_sorted {R = R} xs) k v q
-            ∙ ap (cond (eq_by_cmp R q k) (Some v)) (get_sorted R xs q (front_sorted xs ((k, v) ∷ ys) sorted))
-            ∙ sym (find-append R o xs k v q (not_before xs (k, v) ys sorted))
-            ∙ sym (get_sorted R (xs ++ (k, v) ∷ []) q longer))
+        get-insert o (from_sorted {R = R} xs) k v q
+        ∙ ap (cond (eq_by_cmp R q k) (Some v)) (get_sorted R xs q (front_sorted xs ((k, v) ∷ ys) sorted))
+        ∙ sym (find-append R o xs k v q (not_before xs (k, v) ys sorted))
+        ∙ sym (get_sorted R (xs ++ (k, v) ∷ []) q longer))
 
     -- a key's first entry is its only one
     pub found_itself : (es : List (K × X)) (e : K × X) → is_sorted R es ≡ true → Member e es → find R e.0 es ≡ Some e.1

@@ -62,7 +62,6 @@ module _ {K : Type 0} (R : K → K → Ordering) (o : IsTotalOrder R) (tie : (x 
 pub tags_in_order : (xs ys : List Tag) → IsPermutation xs ys → IsSorted tag_cmp ys → dedup (λ (x y : Tag). eqb x.0 y.0) ys ≡ ordered tag_cmp xs
 tags_in_order = deduped_is tag_cmp tags_total (same_from_tie tag_cmp tag_cmp-IsAntisymmetric) (λ x y. eqb x.0 y.0) (λ x y. unsigned_ties x.0 y.0)
 
-
 prefix_ties : (p q : Prefix) → (eqb p.address.0 q.address.0 && eqb p.len q.len) ≡ eq_by_cmp prefix_cmp p q
 prefix_ties p q = grind (arith, nat_tests)
 

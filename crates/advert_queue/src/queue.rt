@@ -28,12 +28,7 @@ pub fn pending(alloc: Global, told: &Told, present: &Told) -> Result<Vec<Prefix>
 /// The messages by which the participant is told what is present, a message a prefix, by prefix: a withdrawal (RFC 4271
 /// 4.3) of one of which nothing is present, and else an announcement of its entry with the address of the entry's tag,
 /// above `base`, as NEXT_HOP. Memory is the only refusal.
-pub fn adverts(
-    alloc: Global,
-    base: Ip,
-    told: &Told,
-    present: &Told,
-) -> Result<Messages, Memory>
+pub fn adverts(alloc: Global, base: Ip, told: &Told, present: &Told) -> Result<Messages, Memory>
     requires low { base.0 ≤ 3758096383 }
     requires small { (p : AnyPrefix) → IfSome (map.get present.now p) (λ e. e.tag.0 ≤ 65536) }
     ensures { IfOk result (λ messages. messages ≡ adverts base told.now present.now) }
@@ -47,12 +42,7 @@ pub fn adverts(
 }
 
 /// A withdrawal, or an announcement with the address of the entry's tag as NEXT_HOP.
-fn advert(
-    alloc: Global,
-    base: Ip,
-    prefix: Prefix,
-    entry: Option<&Entry>,
-) -> Result<Bytes, Memory>
+fn advert(alloc: Global, base: Ip, prefix: Prefix, entry: Option<&Entry>) -> Result<Bytes, Memory>
     requires low { base.0 ≤ 3758096383 }
     requires small { IfSome (option_copied entry) (λ e. e.tag.0 ≤ 65536) }
     ensures { IfOk result (λ message. message ≡ advert_with base prefix (option_copied entry.entry)) }

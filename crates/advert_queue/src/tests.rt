@@ -36,7 +36,10 @@ fn entry(alloc: Global, origin: u8, tag: u32) -> Result<Entry, Memory> {
 fn telling(alloc: Global, rows: &[(u8, u8, u32)]) -> Result<Told, Memory> {
     let mut entries = Vec::new(alloc);
     for (octet, origin, tag) in rows {
-        entries.push((prefix([10, 0, *octet, 0], 24)?, entry(alloc, *origin, *tag)?))?;
+        entries.push((
+            prefix([10, 0, *octet, 0], 24)?,
+            entry(alloc, *origin, *tag)?,
+        ))?;
     }
     Told::from_entries(alloc, entries)
 }
@@ -53,7 +56,10 @@ fn nothing_is_told_at_first(rt: HostRuntime) -> Result<(), Fail> {
 
 #[test]
 fn tags_ascend_each_once(rt: HostRuntime) -> Result<(), Fail> {
-    let told = telling(rt.alloc(), &[(1, 0, 7), (2, 0, 3), (3, 1, 7), (9, 2, 65536)])?;
+    let told = telling(
+        rt.alloc(),
+        &[(1, 0, 7), (2, 0, 3), (3, 1, 7), (9, 2, 65536)],
+    )?;
     assert!(rt; told.tags() == [Tag(3), Tag(7), Tag(65536)].as_slice());
     for (tag, is_told) in [(0, false), (3, true), (5, false), (7, true), (65536, true)] {
         assert!(rt; told.tells(Tag(tag)) == is_told, "tag {tag}");
@@ -64,7 +70,11 @@ fn tags_ascend_each_once(rt: HostRuntime) -> Result<(), Fail> {
 #[test]
 fn entries_are_found(rt: HostRuntime) -> Result<(), Fail> {
     let told = telling(rt.alloc(), &[(1, 0, 7), (2, 0, 3)])?;
-    let rows = [([10, 0, 1, 9], Some(7)), ([10, 0, 2, 255], Some(3)), ([10, 0, 3, 0], None)];
+    let rows = [
+        ([10, 0, 1, 9], Some(7)),
+        ([10, 0, 2, 255], Some(3)),
+        ([10, 0, 3, 0], None),
+    ];
     for (octets, tag) in rows {
         let ip = Ip(u32::from_be_bytes(octets));
         let found = told.longest(ip);
@@ -102,7 +112,11 @@ fn messages_withdraw_and_announce(rt: HostRuntime) -> Result<(), Fail> {
     let base = Ip(u32::from_be_bytes([172, 16, 0, 0]));
     let messages = adverts(rt.alloc(), base, &told, &present)?;
     assert!(rt; messages.len() == 3);
-    let rows = [(1, None), (2, Some([172, 17, 0, 0])), (3, Some([172, 16, 0, 3]))];
+    let rows = [
+        (1, None),
+        (2, Some([172, 17, 0, 0])),
+        (3, Some([172, 16, 0, 3])),
+    ];
     for ((octet, next_hop), message) in rows.iter().zip(messages.items()) {
         let Ok(update) = decode(rt.alloc(), message.items()) else {
             return Err(Fail::new("no message"));

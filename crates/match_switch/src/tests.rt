@@ -3,9 +3,7 @@
 mod forwarding;
 mod table;
 
-use net_types::{
-    Action, Assign, Cube, Ip, Items, Memory, Pair, PortNo, Prefix, Rule, Tag,
-};
+use net_types::{Action, Assign, Cube, Ip, Items, Memory, Pair, PortNo, Prefix, Rule, Tag};
 use std::alloc::Global;
 
 fn pair(port: u16, tag: u32) -> Pair {

@@ -8,8 +8,8 @@ use std::test::Fail;
 
 /// To the MAC of tag 258, UDP without a checksum from 192.0.2.1 port 1000 to 10.1.2.3 port 80.
 const FRAME: [u8; 42] = [
-    2, 83, 68, 0, 1, 2, 2, 0, 0, 0, 0, 1, 8, 0, 0x45, 0, 0, 0x1c, 0, 0, 0, 0, 0x40, 0x11, 0xac, 0xcc,
-    192, 0, 2, 1, 10, 1, 2, 3, 3, 0xe8, 0, 80, 0, 8, 0, 0,
+    2, 83, 68, 0, 1, 2, 2, 0, 0, 0, 0, 1, 8, 0, 0x45, 0, 0, 0x1c, 0, 0, 0, 0, 0x40, 0x11, 0xac,
+    0xcc, 192, 0, 2, 1, 10, 1, 2, 3, 3, 0xe8, 0, 80, 0, 8, 0, 0,
 ];
 
 const ROUTERS: [PortInfo; 2] = [
@@ -91,7 +91,10 @@ fn the_first_rule_of_the_pair_decides(rt: HostRuntime) -> Result<(), Fail> {
     for (port, at, octet, count) in rows {
         let mut frame = FRAME;
         frame[at] = octet;
-        assert!(rt; switch.decide(PortNo(port), &frame).len() == count, "octet {at}");
+        assert!(rt;
+            switch.decide(PortNo(port), &frame).len() == count,
+            "octet {at}"
+        );
     }
     let mut frame = FRAME;
     frame[36] = 1;

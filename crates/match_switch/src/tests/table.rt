@@ -36,7 +36,10 @@ fn rules_are_listed_by_pair(rt: HostRuntime) -> Result<(), Fail> {
     let mut switch = Switch::new(rt.alloc(), 10);
     for (port, tag) in [(2, 1), (1, 70000), (1, 9)] {
         switch.reserve(1)?;
-        switch.put(pair(port, tag), rules_to(rt.alloc(), &[port + 10, port + 20])?);
+        switch.put(
+            pair(port, tag),
+            rules_to(rt.alloc(), &[port + 10, port + 20])?,
+        );
     }
     let mut pairs = Vec::new(rt.alloc());
     for (pair, rules) in switch.iter() {
@@ -44,7 +47,14 @@ fn rules_are_listed_by_pair(rt: HostRuntime) -> Result<(), Fail> {
         pairs.push((pair.port.0, pair.tag.0))?;
     }
     assert!(rt; pairs.as_slice() == [(1, 9), (1, 70000), (2, 1)].as_slice());
-    let expected = [(1, 9, 11), (1, 9, 21), (1, 70000, 11), (1, 70000, 21), (2, 1, 12), (2, 1, 22)];
+    let expected = [
+        (1, 9, 11),
+        (1, 9, 21),
+        (1, 70000, 11),
+        (1, 70000, 21),
+        (2, 1, 12),
+        (2, 1, 22),
+    ];
     let flows = switch.flows(rt.alloc())?;
     assert!(rt; flows.len() == expected.len());
     for (flow, (port, tag, to)) in flows.items().iter().zip(&expected) {
