@@ -13,12 +13,14 @@ pub count_point : {X : Type 0} (p : X → Bool) (xs : List X) (i : ℕ) → i �
 count_point p [] i within point = omega arith
 count_point p (x ∷ xs) zero within point =
     let step = sum_by-cons (λ y. cond (p y) 1 0) x xs in
-    let here : cond (p x) 1 0 ≡ 0 = ap (λ b. cond b 1 0) (point.1 0 x (omega arith) (omega arith)) in
+    let fail : ℕ = 0 in
+    let here : cond (p x) 1 fail ≡ fail = ap (λ b. cond b 1 fail) (point.1 0 x (omega arith) (omega arith)) in
     let later = count_point p xs 0 (omega arith) (λ k d low high. absurd (omega arith), λ k d low high. point.1 (suc k) d (omega arith) (omega arith)) in
     omega (arith, step, here, later)
 count_point p (x ∷ xs) (suc i) within point =
     let step = sum_by-cons (λ y. cond (p y) 1 0) x xs in
-    let here : cond (p x) 1 0 ≡ 1 = ap (λ b. cond b 1 0) (point.0 0 x (omega arith) (omega arith)) in
+    let pass : ℕ = 1 in
+    let here : cond (p x) pass 0 ≡ pass = ap (λ b. cond b pass 0) (point.0 0 x (omega arith) (omega arith)) in
     let later = count_point p xs i (omega arith) (λ k d low high. point.0 (suc k) d (omega arith) (omega arith), λ k d low high. point.1 (suc k) d (omega arith) (omega arith)) in
     omega (arith, step, here, later)
 
@@ -35,3 +37,13 @@ counts_split t (u ∷ ts) =
     let one = one_more t.0 u.0 in
     let later = counts_split t ts in
     omega (arith, all, below, same, one, later)
+
+-- so it is the difference of two points
+pub count_is : (t : Tag) (ts : List Tag) (i j : ℕ) → i ≤ length ts → j ≤ length ts
+    → IsPartitionPoint (λ (u : Tag). ltb u.0 t.0 ≡ true) (λ (u : Tag). ltb u.0 t.0 ≡ false) ts i → IsPartitionPoint (λ (u : Tag). leb u.0 t.0 ≡ true) (λ (u : Tag). leb u.0 t.0 ≡ false) ts j
+    → (i ≤ j) × (j - i ≡ count_by (same_tag t) ts)
+count_is t ts i j low high below through =
+    let a = count_point (λ (u : Tag). ltb u.0 t.0) ts i low below in
+    let b = count_point (λ (u : Tag). leb u.0 t.0) ts j high through in
+    let split = counts_split t ts in
+    (omega (arith, a, b, split), omega (arith, a, b, split))

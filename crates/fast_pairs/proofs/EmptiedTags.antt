@@ -18,7 +18,7 @@ use Rattle.exchange_laws.proofs.Sames.{tag_itself, tag_same, tags_test}
 use Rattle.exchange_laws.proofs.TagsAfter.{live_of, tags_are}
 use Rattle.fast_pairs.proofs.PortsAndTags.{HasTag, has_prefix_of, prefix_with}
 use Rattle.fast_pairs.proofs.SignatureParts.{given}
-use Rattle.fast_pairs.specs.Emptied.{emptied, is_left, old_tags}
+use Rattle.fast_pairs.specs.Emptied.{EmptiedAreThose, emptied, is_left, old_tags}
 use Rattle.fast_pairs.specs.LiveOnly.{AreEmptied, has_prefix}
 use Rattle.net_types.proofs.MemberLemmas.{Member-filter_map}
 use Rattle.net_types.proofs.OrderLemmas.{prefix_tie, prefixes_total, tags_total}
@@ -32,8 +32,10 @@ use Rattle.net_types.specs.Maps.{ordered}
 use Rattle.net_types.specs.Sets.{IsRising, Member}
 use Rattle.net_types.specs.declared.address.Tag.{Tag}
 use Rattle.net_types.specs.declared.prefix.Prefix.{Prefix}
+use Rattle.prefix_classes.proofs.ChangeLemmas.{changed_prefixes_have_new_tags, changes_are_counted, other_prefixes_keep_their_tags}
+use Rattle.prefix_classes.proofs.MemberLemmas.{no_members}
 use Rattle.prefix_classes.specs.Classes.{has_tag, is_tag, members}
-use Rattle.prefix_classes.specs.Laws.{AreRising, Change, ChangedHaveNewTags, ChangesAreCounted, NoMembersNoPrefix, OthersKeepTheirs, changed, joined, left}
+use Rattle.prefix_classes.specs.Laws.{AreRising, Change, changed, joined, left}
 
 turned_not : (b : Bool) → not b ≡ false → b ≡ true
 turned_not true e = refl
@@ -78,11 +80,15 @@ joined_none (c ∷ cs) t none =
 -- what is counted stands there
 counted_Member : (t : Tag) (ts : List Tag) → 0 < count_by (same_tag t) ts → Member t ts
 counted_Member t [] some = absurd (omega arith)
-counted_Member t (u ∷ ts) some = by (same_tag t u) refl
+counted_Member t (u ∷ ts) some = by (same_tag t u) refl (counted_Member t ts)
   where
-    by : (b : Bool) → same_tag t u ≡ b → Member t (u ∷ ts)
-    by true is = inl (tag_same t u is)
-    by false is = inr (counted_Member t ts (let step = sum_by-cons (λ x. cond (same_tag t x) 1 0) u ts in let none : cond (same_tag t u) 1 0 ≡ 0 = ap (λ b. cond b 1 0) is in omega (arith, step, none)))
+    by : (b : Bool) → same_tag t u ≡ b → (0 < count_by (same_tag t) ts → Member t ts) → Member t (u ∷ ts)
+    by true is later = inl (tag_same t u is)
+    by false is later =
+        let step = sum_by-cons (λ x. cond (same_tag t x) 1 0) u ts in
+        let fail : ℕ = 0 in
+        let here : cond (same_tag t u) 1 fail ≡ fail = ap (λ c. cond c 1 fail) is in
+        inr (later (omega (arith, step, here)))
 
 -- ---- changes of different prefixes whose new tags no prefix has
 
@@ -90,11 +96,11 @@ counted_Member t (u ∷ ts) some = by (same_tag t u) refl
 abbrev pub AreFresh : FinMap prefix_cmp Tag → List TagChange → Type 0
 AreFresh m cs = (c : TagChange) (p : Prefix) (t : Tag) → Member c cs → c.tag ≡ Some t → get m p ≡ Some t → ⊥
 
-module _ (counted : ChangesAreCounted) (nobody : NoMembersNoPrefix) (m : FinMap prefix_cmp Tag) (cs : List TagChange) (rising : AreRising (map as_change cs)) (fresh : AreFresh m cs) (t : Tag) where
+module _ (m : FinMap prefix_cmp Tag) (cs : List TagChange) (rising : AreRising (map as_change cs)) (fresh : AreFresh m cs) (t : Tag) where
   -- where a prefix has the tag, all its members are those that leave and those that stay
   all_counted : (p : Prefix) → get m p ≡ Some t → members (changed m (map as_change cs)) t + count_by (same_tag t) (old_tags m cs) ≡ members m t
   all_counted p has =
-      let all = counted m (map as_change cs) t rising in
+      let all = changes_are_counted m (map as_change cs) t rising in
       let left_ = left_is m cs t in
       let none = joined_none cs t (λ c stands e. fresh c p t stands e has) in
       omega (arith, all, left_, none)
@@ -103,15 +109,15 @@ module _ (counted : ChangesAreCounted) (nobody : NoMembersNoPrefix) (m : FinMap 
   emptied_none p has is =
       let all = all_counted p has in
       let same = eqb-true (count_by (same_tag t) (old_tags m cs)) (members m t) is in
-      (nobody (changed m (map as_change cs)) t).0 (omega (arith, all, same))
+      (no_members (changed m (map as_change cs)) t).0 (omega (arith, all, same))
 
   pub none_emptied : (p : Prefix) → get m p ≡ Some t → ((q : Prefix) → get (changed m (map as_change cs)) q ≡ Some t → ⊥) → Member t (emptied m cs)
   none_emptied p has none =
       let all = all_counted p has in
-      let no_more = (nobody (changed m (map as_change cs)) t).1 none in
+      let no_more = (no_members (changed m (map as_change cs)) t).1 none in
       let same : count_by (same_tag t) (old_tags m cs) ≡ members m t = omega (arith, all, no_more) in
       let stands : Member t (old_tags m cs) = elim (some_or_none (members m t)) [
-        | inl zero_is ↦ absurd ((nobody m t).0 zero_is p has)
+        | inl zero_is ↦ absurd ((no_members m t).0 zero_is p has)
         | inr more ↦ counted_Member t (old_tags m cs) (omega (arith, same, more))
       ] in
       Member-filter (is_left m cs) (ordered tag_cmp (old_tags m cs)) t ((ordered_same tag_cmp tags_total tag_tie (old_tags m cs)).back t stands) (eq-eqb (count_by (same_tag t) (old_tags m cs)) (members m t) same)
@@ -160,16 +166,16 @@ module _ (m m1 : FinMap prefix_cmp Tag) where
       by None (Some t) e f h = Member-append_right (keys m) (keys m1) p (key_Member prefix_cmp prefixes_total prefix_tie m1 p (is_some_of (get m1 p) t f))
       by (Some t) o1 e f h = Member-append_left (keys m) (keys m1) p (key_Member prefix_cmp prefixes_total prefix_tie m p (is_some_of (get m p) t e))
 
-  pub changed_get : OthersKeepTheirs → ChangedHaveNewTags → (p : Prefix) → get (changed m (map as_change cs)) p ≡ get m1 p
-  changed_get others ones p = by (differs p) refl
+  pub changed_get : (p : Prefix) → get (changed m (map as_change cs)) p ≡ get m1 p
+  changed_get p = by (differs p) refl
     where
       by : (b : Bool) → differs p ≡ b → get (changed m (map as_change cs)) p ≡ get m1 p
       by true is =
-          ones m (map as_change cs) p (get m1 p) changes_rise
+          changed_prefixes_have_new_tags m (map as_change cs) p (get m1 p) changes_rise
           (Member-map as_change cs (change_of p) (Member-map change_of listed p
           (Member-filter differs (ordered prefix_cmp (keys m ++ keys m1)) p ((ordered_same prefix_cmp prefixes_total prefix_tie (keys m ++ keys m1)).back p (key_there p is)) is)))
       by false is =
-          others m (map as_change cs) p (λ after stands.
+          other_prefixes_keep_their_tags m (map as_change cs) p (λ after stands.
               let image = map-Member as_change cs (p, after) stands in
               let one = map-Member change_of listed image.of image.stands in
               let kept = filter-Member differs (ordered prefix_cmp (keys m ++ keys m1)) one.of one.stands in
@@ -202,7 +208,7 @@ are_fresh s r c p t stands gives has =
     let old = new_or_same s r c.prefix p t new has in
     clash is.1 (ap (λ o. not (same_option same_tag o (get (retagged s r).tag c.prefix))) old ∙ ap (λ o. not (same_option same_tag (Some t) o)) new ∙ ap not (tag_itself t))
 
-module _ (counted : ChangesAreCounted) (nobody : NoMembersNoPrefix) (others : OthersKeepTheirs) (ones : ChangedHaveNewTags) (s : State) (r : Routing) where
+module _ (s : State) (r : Routing) where
   abbrev m1 : FinMap prefix_cmp Tag
   m1 = (retagged s r).tag
 
@@ -216,10 +222,13 @@ module _ (counted : ChangesAreCounted) (nobody : NoMembersNoPrefix) (others : Ot
           has_prefix_of s had.0 t had.1,
           false_from_ne_true (has_prefix (retagged s r) t) (λ has.
               let still = prefix_with (retagged s r) t has in
-              emptied_none counted nobody s.tag made (changes_rise s.tag m1) (are_fresh s r) t had.0 had.1 had.2 still.prefix (changed_get s.tag m1 others ones still.prefix ∙ still.tagged)),
+              emptied_none s.tag made (changes_rise s.tag m1) (are_fresh s r) t had.0 had.1 had.2 still.prefix (changed_get s.tag m1 still.prefix ∙ still.tagged)),
         );
     all = λ t has none.
         let had = prefix_with s t has in
-        none_emptied counted nobody s.tag made (changes_rise s.tag m1) (are_fresh s r) t had.prefix had.tagged (λ q still.
-            clash (has_prefix_of (retagged s r) q t (sym (changed_get s.tag m1 others ones q) ∙ still)) none);
+        none_emptied s.tag made (changes_rise s.tag m1) (are_fresh s r) t had.prefix had.tagged (λ q still.
+            clash (has_prefix_of (retagged s r) q t (sym (changed_get s.tag m1 q) ∙ still)) none);
   }
+
+pub emptied_are_those : EmptiedAreThose
+emptied_are_those s r = emptied_are s r

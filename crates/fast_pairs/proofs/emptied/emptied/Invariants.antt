@@ -4,4 +4,4 @@ use Rattle.fast_pairs.specs.Emptied.{is_left}
 use Rattle.fast_pairs.proofs.emptied.emptied.Given as goal
 
 abbrev pub invariant-loop-tag : goal.invariant-loop-tag
-invariant-loop-tag l = l.emptied.items ≡ filter (is_left l.classes.tag l.changes) (take l.tag-index l.once.items)
+invariant-loop-tag l = l.emptied.items ≡ filter (is_left l.classes.tag l.changes) (take l.tag-index l.tag-items)
