@@ -10,13 +10,15 @@ use Rattle.events.specs.Tags.{is_live_pair, retagged, tells}
 use Rattle.exchange_laws.proofs.ListedPairs.{gone_are_dropped}
 use Rattle.exchange_laws.proofs.Lists.{clash, some_of}
 use Rattle.exchange_laws.proofs.LivePairs.{live_at, live_from, port_Member, present_tag}
+use Rattle.exchange_laws.proofs.OwnHops.{numbered_port}
 use Rattle.exchange_laws.proofs.RulesAfter.{default_table}
 use Rattle.exchange_laws.proofs.TagsAfter.{live_of, live_tags_stay, signatures_are_kept}
+use Rattle.exchange_laws.specs.Steady.{PortsDiffer}
 use Rattle.exchange_laws.specs.Listed.{AreLiveOnly, HasLivePairs}
 use Rattle.exchange_laws.specs.Rules.{IsChange, with_rules}
 use Rattle.fast_pairs.proofs.PortsAndTags.{IsPortOf, found_number, has_prefix_of, number_listed, port_listed, prefix_with, present_from, tie}
 use Rattle.fast_pairs.proofs.SignatureParts.{has_part, part_senders, same_senders}
-use Rattle.fast_pairs.specs.LiveOnly.{AreEmptied, GonePairsAreDropped, GonePairsAreThose, PortsDiffer, has_prefix, registered}
+use Rattle.fast_pairs.specs.LiveOnly.{AreEmptied, GonePairsAreDropped, GonePairsAreThose, has_prefix, registered}
 use Rattle.fast_pairs.specs.Pairs.{gone_pairs, pair_at, part_pairs, tag_pairs, was_told}
 use Rattle.net_types.proofs.OrderLemmas.{pairs_total}
 use Rattle.net_types.proofs.SetLemmas.{Member-map, Member-union, map-Member, union-Member}
@@ -52,7 +54,7 @@ module _ (s : State) (r : Routing) (change : IsChange s r) where
   abbrev names : Registered
   names = registered s
 
-  module _ (ts : List Tag) (own : PortsDiffer s) (emptied : AreEmptied s s1 ts) where
+  module _ (ts : List Tag) (own : PortsDiffer s.routing.ports) (emptied : AreEmptied s s1 ts) where
     -- ---- each of the pairs
 
     -- the tag stands at a port of the sender of a part of a prefix's signature, and the sender wasn't told the tag
@@ -72,7 +74,7 @@ module _ (s : State) (r : Routing) (change : IsChange s r) where
     )
       where
         found : port_of s n ≡ Some at.port
-        found = ap (port_of s) at.number ∙ own at.port at.stands
+        found = ap (port_of s) at.number ∙ numbered_port s.routing.ports own at.port at.port.number.0 at.stands refl
 
     each_gone : (pair : Pair) → Member pair (union_over (tag_pairs names s.kept s.told) ts) → (is_live_pair s pair ≡ true) × (is_live_pair s1 pair ≡ false)
     each_gone pair m =

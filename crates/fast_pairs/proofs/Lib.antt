@@ -8,3 +8,4 @@ pub mod SortedLists
 pub mod EmptiedTags
 pub mod Loops
 pub mod CountedTags
+pub mod EmptiedLoop

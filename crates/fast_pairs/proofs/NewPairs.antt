@@ -14,16 +14,18 @@ use Rattle.exchange_laws.proofs.FreshTags.{by_place, fresh_free, group_listed}
 use Rattle.exchange_laws.proofs.ListedPairs.{new_are_added}
 use Rattle.exchange_laws.proofs.Lists.{clash, place_of, some_of}
 use Rattle.exchange_laws.proofs.LivePairs.{live_at, live_from, live_tag, port_Member, present_tag}
+use Rattle.exchange_laws.proofs.OwnHops.{numbered_port}
 use Rattle.exchange_laws.proofs.RulesAfter.{rules_are_those}
 use Rattle.exchange_laws.proofs.Sames.{signatures_test}
 use Rattle.exchange_laws.proofs.TagsAfter.{signatures_are_kept, tags_are}
+use Rattle.exchange_laws.specs.Steady.{PortsDiffer}
 use Rattle.exchange_laws.specs.Listed.{AreLiveOnly}
 use Rattle.exchange_laws.specs.Rules.{IsChange, default_rules, with_rules}
 use Rattle.fast_pairs.proofs.Forwards.{IsBy, IsForwardOf, forward_listed, forward_of, forwards_tie, forwards_total, get_mapped, get_taken, mapped_at, one_each, pairs_rise, rules_of, taken_at}
 use Rattle.fast_pairs.proofs.GonePairs.{has_live}
 use Rattle.fast_pairs.proofs.PortsAndTags.{IsPortOf, found_number, number_listed, port_listed, present_from}
 use Rattle.fast_pairs.proofs.SignatureParts.{IsSenders, has_part, part_senders, same_senders}
-use Rattle.fast_pairs.specs.LiveOnly.{NewFlowsAreAdded, NewPairsAreThose, PortsDiffer, group_signatures, group_tags, registered}
+use Rattle.fast_pairs.specs.LiveOnly.{NewFlowsAreAdded, NewPairsAreThose, group_signatures, group_tags, registered}
 use Rattle.fast_pairs.specs.Pairs.{forward, forward_cmp, forwards, pair_at, part_forwards}
 use Rattle.fast_pairs.specs.declared.forward.Forward.{Forward}
 use Rattle.net_types.proofs.FindLemmas.{slice_get-Member}
@@ -58,7 +60,7 @@ turned false e = cc
 abbrev pub owner_port : State → Pair → PortNo
 owner_port s pair = option_map_or (λ (part : Part). offered_port part.offers part.best) (owners_part s pair) (record { 0 = 0 })
 
-module _ (s : State) (r : Routing) (change : IsChange s r) (own : PortsDiffer s) where
+module _ (s : State) (r : Routing) (change : IsChange s r) (own : PortsDiffer s.routing.ports) where
   abbrev s1 : State
   s1 = retagged s r
 
@@ -125,7 +127,7 @@ module _ (s : State) (r : Routing) (change : IsChange s r) (own : PortsDiffer s)
       port = port_listed s x.sender n at
 
       found : port_of s1 n ≡ Some port.port
-      found = same_port n ∙ ap (port_of s) port.number ∙ own port.port port.stands
+      found = same_port n ∙ ap (port_of s) port.number ∙ numbered_port s.routing.ports own port.port port.port.number.0 port.stands refl
 
       senders : IsSenders r fresh.prefix x
       senders = part_senders r fresh.prefix x (subst (Member x) (sym fresh.signed) stands)
