@@ -1,9 +1,8 @@
 -- How often a tag stands among ascending ones: as many as are at most the tag, less those that are below it.
-use Rattle.std.proofs.Common.{◌≡◌, ℕ, zero, suc, ◌+◌, ◌-◌, ◌≤◌, ◌<◌, Bool, true, false, cond, nat_eq, List, [], ◌∷◌, length, sum_by, count_by, sym, ap, ◌∙◌, refl, arith}
+use Rattle.std.proofs.Common.{◌≡◌, ℕ, zero, suc, ◌+◌, ◌-◌, ◌≤◌, Bool, true, false, cond, nat_eq, List, [], ◌∷◌, length, count_by, ap, refl, arith}
 use Rattle.std.proofs.lemmas.Bool.Decides.{nat_tests}
 use Rattle.std.proofs.lemmas.List.Sums.{sum_by-cons}
 use Rattle.std.proofs.Math.Dec.{leb, ltb}
-use Rattle.std.specs.List.{AllWithin}
 use Rattle.std.specs.List.Sorted.{IsPartitionPoint}
 use Rattle.events.specs.Tags.{same_tag}
 use Rattle.net_types.specs.declared.address.Tag.{Tag}

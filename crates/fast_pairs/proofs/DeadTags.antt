@@ -1,15 +1,12 @@
 -- Those of the emptied tags that nobody was told are the tags that are live no more.
-use Rattle.std.proofs.Common.{◌≡◌, Bool, true, false, ◌||◌, List, filter, not, sym, ap, ◌∙◌, refl, inl, inr}
+use Rattle.std.proofs.Common.{◌≡◌, Bool, true, false, ◌||◌, not, ap, ◌∙◌, inl, inr}
 use Rattle.std.specs.List.{list_any}
 use Rattle.std.proofs.lemmas.Bool.{false_from_ne_true, or_cases, or_left, or_right}
 use Rattle.events.specs.State.{State}
-use Rattle.events.specs.Tags.{is_live, retagged, tells}
+use Rattle.events.specs.Tags.{retagged, tells}
 use Rattle.exchange_laws.proofs.Lists.{clash, not_true}
-use Rattle.fast_pairs.specs.LiveOnly.{AreDead, AreEmptied, UntoldAreDead, has_prefix}
-use Rattle.fast_pairs.specs.Pairs.{untold}
+use Rattle.fast_pairs.specs.LiveOnly.{UntoldAreDead, has_prefix}
 use Rattle.net_types.proofs.RisingLemmas.{Member-filter, filter-Member}
-use Rattle.net_types.specs.Exports.{Routing}
-use Rattle.net_types.specs.Sets.{Member}
 use Rattle.net_types.specs.declared.address.Tag.{Tag}
 
 -- somebody was told the tag

@@ -1,26 +1,25 @@
 -- The tags of changed prefixes that no other prefix has are those that no prefix has once the changes are made.
-use Rattle.std.proofs.Common.{◌≡◌, ◌⊎◌, ℕ, zero, suc, ◌+◌, ◌<◌, Bool, true, false, cond, not, nat_eq, List, [], ◌∷◌, ◌++◌, filter, length, map, sum_by, count_by, sym, ap, subst, ◌∙◌, refl, arith, inl, inr}
-use Rattle.std.specs.Prelude.{Option, Some, None, is_some}
+use Rattle.std.proofs.Common.{◌≡◌, ◌⊎◌, ℕ, zero, suc, ◌+◌, ◌<◌, Bool, true, false, cond, not, List, [], ◌∷◌, ◌++◌, filter, map, count_by, sym, ap, subst, ◌∙◌, refl, arith, inl, inr}
+use Rattle.std.specs.Prelude.{Option, Some, None}
 use Rattle.std.specs.Cmp.{unsigned_ties}
 use Rattle.std.specs.FinMap.{FinMap, get, keys}
 use Rattle.std.specs.Ordering.{eq_by_cmp}
-use Rattle.std.specs.List.{cons_option, filter_map, list_any}
+use Rattle.std.specs.List.{cons_option}
 use Rattle.std.proofs.lemmas.Bool.{eq-eqb, eqb-true, false_from_ne_true}
 use Rattle.std.proofs.lemmas.List.Sums.{sum_by-cons}
 use Rattle.events.proofs.OrderedLemmas.{ordered_rises, ordered_same}
 use Rattle.events.specs.Fits.{tag_changes}
 use Rattle.events.specs.State.{State}
-use Rattle.events.specs.Tags.{fresh_tag, group_of, is_carried, is_changed, is_live, new_tag, retagged, same_tag}
+use Rattle.events.specs.Tags.{fresh_tag, group_of, is_carried, is_changed, retagged, same_tag}
 use Rattle.events.specs.declared.TagChange.{TagChange}
 use Rattle.exchange_laws.proofs.FreshTags.{fresh_free}
-use Rattle.exchange_laws.proofs.Lists.{clash, is_some_of, key_Member, not_true, some_of}
+use Rattle.exchange_laws.proofs.Lists.{clash, is_some_of, key_Member}
 use Rattle.exchange_laws.proofs.Sames.{tag_itself, tag_same, tags_test}
 use Rattle.exchange_laws.proofs.TagsAfter.{live_of, tags_are}
-use Rattle.fast_pairs.proofs.PortsAndTags.{HasTag, has_prefix_of, prefix_with}
+use Rattle.fast_pairs.proofs.PortsAndTags.{has_prefix_of, prefix_with}
 use Rattle.fast_pairs.proofs.SignatureParts.{given}
 use Rattle.fast_pairs.specs.Emptied.{EmptiedAreThose, emptied, is_left, old_tags}
 use Rattle.fast_pairs.specs.LiveOnly.{AreEmptied, has_prefix}
-use Rattle.net_types.proofs.MemberLemmas.{Member-filter_map}
 use Rattle.net_types.proofs.OrderLemmas.{prefix_tie, prefixes_total, tags_total}
 use Rattle.net_types.proofs.RisingLemmas.{Member-filter, before, filter-IsRising, filter-Member}
 use Rattle.net_types.proofs.SetLemmas.{Member-append_left, Member-append_right, Member-map, map-Member, map-map}
@@ -176,11 +175,11 @@ module _ (m m1 : FinMap prefix_cmp Tag) where
           (Member-filter differs (ordered prefix_cmp (keys m ++ keys m1)) p ((ordered_same prefix_cmp prefixes_total prefix_tie (keys m ++ keys m1)).back p (key_there p is)) is)))
       by false is =
           other_prefixes_keep_their_tags m (map as_change cs) p (λ after stands.
-              let image = map-Member as_change cs (p, after) stands in
-              let one = map-Member change_of listed image.of image.stands in
-              let kept = filter-Member differs (ordered prefix_cmp (keys m ++ keys m1)) one.of one.stands in
-              let same : p ≡ one.of = ap (λ (c : Change). c.0) image.is ∙ ap (λ (c : TagChange). c.prefix) one.is in
-              clash (ap differs same ∙ kept.passes) is)
+          let image = map-Member as_change cs (p, after) stands in
+          let one = map-Member change_of listed image.of image.stands in
+          let kept = filter-Member differs (ordered prefix_cmp (keys m ++ keys m1)) one.of one.stands in
+          let same : p ≡ one.of = ap (λ (c : Change). c.0) image.is ∙ ap (λ (c : TagChange). c.prefix) one.is in
+          clash (ap differs same ∙ kept.passes) is)
           ∙ (tags_test (get m p) (get m1 p)).0 (turned_not (same_option same_tag (get m p) (get m1 p)) is)
 
   -- a change has the prefix's new tag, and that is another one
@@ -227,7 +226,7 @@ module _ (s : State) (r : Routing) where
     all = λ t has none.
         let had = prefix_with s t has in
         none_emptied s.tag made (changes_rise s.tag m1) (are_fresh s r) t had.prefix had.tagged (λ q still.
-            clash (has_prefix_of (retagged s r) q t (sym (changed_get s.tag m1 q) ∙ still)) none);
+        clash (has_prefix_of (retagged s r) q t (sym (changed_get s.tag m1 q) ∙ still)) none);
   }
 
 pub emptied_are_those : EmptiedAreThose

@@ -4,7 +4,6 @@ use Rattle.std.specs.Prelude.{Some, is_some, unwrap_or}
 use Rattle.std.specs.FinMap.{get}
 use Rattle.std.proofs.lemmas.Bool.{false_from_ne_true, or_cases, or_left, or_right}
 use Rattle.events.proofs.OrderedLemmas.{ordered_rises, ordered_same}
-use Rattle.events.specs.Fits.{dropped, none_rebuilt}
 use Rattle.events.specs.State.{State, port_of, present, told_to}
 use Rattle.events.specs.Tags.{is_live_pair, retagged, tells}
 use Rattle.exchange_laws.proofs.ListedPairs.{gone_are_dropped}
@@ -76,6 +75,14 @@ module _ (s : State) (r : Routing) (change : IsChange s r) where
         found : port_of s n ≡ Some at.port
         found = ap (port_of s) at.number ∙ numbered_port s.routing.ports own at.port at.port.number.0 at.stands refl
 
+    part_gone : (t : Tag) (p : Prefix) (x : Part) (pair : Pair) → get s.tag p ≡ Some t → has_prefix s1 t ≡ false → Member x (signature s.routing p) → Member pair (part_pairs names s.told t x)
+        → (is_live_pair s pair ≡ true) × (is_live_pair s1 pair ≡ false)
+    part_gone t p x pair tagged none stands m =
+        let parts = Member-unless (was_told s.told x.sender t) (map (pair_at t) (ports_of names x.sender)) pair m in
+        let image = map-Member (pair_at t) (ports_of names x.sender) pair parts.1 in
+        subst (λ y. (is_live_pair s y ≡ true) × (is_live_pair s1 y ≡ false)) (sym image.is)
+        (one_gone t p x.sender image.of tagged none (part_senders s.routing p x stands).routed parts.0 (port_listed s x.sender image.of image.stands))
+
     each_gone : (pair : Pair) → Member pair (union_over (tag_pairs names s.kept s.told) ts) → (is_live_pair s pair ≡ true) × (is_live_pair s1 pair ≡ false)
     each_gone pair m =
         let of_tag = union-Member (tag_pairs names s.kept s.told) ts pair m in
@@ -84,11 +91,7 @@ module _ (s : State) (r : Routing) (change : IsChange s r) where
         let p = prefix_with s t empty.0 in
         let among : Member pair (union_over (part_pairs names s.told t) (signature s.routing p.prefix)) = subst (λ o. Member pair (union_over (part_pairs names s.told t) (unwrap_or o []))) (change.sound.kept p.prefix t p.tagged) of_tag.gives in
         let of_part = union-Member (part_pairs names s.told t) (signature s.routing p.prefix) pair among in
-        let part : Part = of_part.of in
-        let parts = Member-unless (was_told s.told part.sender t) (map (pair_at t) (ports_of names part.sender)) pair of_part.gives in
-        let image = map-Member (pair_at t) (ports_of names part.sender) pair parts.1 in
-        subst (λ x. (is_live_pair s x ≡ true) × (is_live_pair s1 x ≡ false)) (sym {b = pair_at t image.of} image.is)
-        (one_gone t p.prefix part.sender image.of p.tagged empty.1 (part_senders s.routing p.prefix part of_part.stands).routed parts.0 (port_listed s part.sender image.of image.stands))
+        part_gone t p.prefix of_part.of pair p.tagged empty.1 of_part.stands of_part.gives
 
     -- ---- all of them
 
@@ -105,7 +108,7 @@ module _ (s : State) (r : Routing) (change : IsChange s r) where
           let stays = live_tags_stay s r change.pooled pair.tag (live_of s p pair.tag tagged) (live_of s1 p1.prefix pair.tag p1.tagged) in
           let same : signature s.routing p ≡ signature r p1.prefix = some_of (signature s.routing p) (signature r p1.prefix) (sym (change.sound.kept p pair.tag tagged) ∙ sym stays ∙ signatures_are_kept s r change.pooled p1.prefix pair.tag p1.tagged) in
           clash (live_from s1 pair q (same_port pair.port ∙ at) (or_right (tells (told_to s q.owner) pair.tag) (tells (present s1 q.owner) pair.tag)
-              (present_from s1 q.owner p1.prefix pair.tag (same_senders s.routing r p p1.prefix q.owner same (declared pair q at) routed) p1.tagged))) dead)
+          (present_from s1 q.owner p1.prefix pair.tag (same_senders s.routing r p p1.prefix q.owner same (declared pair q at) routed) p1.tagged))) dead)
 
       at_ports : Member pair (map (pair_at pair.tag) (ports_of names q.owner))
       at_ports = subst (λ y. Member y (map (pair_at pair.tag) (ports_of names q.owner))) (λ i. record { port = sym (found_number s pair.port q at) i; tag = pair.tag })
@@ -115,8 +118,8 @@ module _ (s : State) (r : Routing) (change : IsChange s r) where
       among_gone p tagged routed =
           let has = has_part s.routing p q.owner (declared pair q at) routed in
           let here : Member pair (part_pairs names s.told pair.tag has.part) =
-              subst (λ w. Member pair (cond (was_told s.told w pair.tag) [] (map (pair_at pair.tag) (ports_of names w)))) (sym has.sender)
-              (subst (λ b. Member pair (cond b [] (map (pair_at pair.tag) (ports_of names q.owner)))) (sym not_told) at_ports) in
+          subst (λ w. Member pair (cond (was_told s.told w pair.tag) [] (map (pair_at pair.tag) (ports_of names w)))) (sym has.sender)
+          (subst (λ b. Member pair (cond b [] (map (pair_at pair.tag) (ports_of names q.owner)))) (sym not_told) at_ports) in
           Member-union (tag_pairs names s.kept s.told) ts pair.tag pair (emptied.all pair.tag (has_prefix_of s p pair.tag tagged) (none_left p tagged routed))
           (subst (λ o. Member pair (union_over (part_pairs names s.told pair.tag) (unwrap_or o []))) (sym (change.sound.kept p pair.tag tagged))
           (Member-union (part_pairs names s.told pair.tag) (signature s.routing p) has.part pair has.stands here))

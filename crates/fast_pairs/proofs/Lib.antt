@@ -9,3 +9,4 @@ pub mod EmptiedTags
 pub mod Loops
 pub mod CountedTags
 pub mod EmptiedLoop
+pub mod PlannedChanges

@@ -1,6 +1,6 @@
 -- Steps of the loops over ports, parts and tags.
-use Rattle.std.proofs.Common.{◌≡◌, ℕ, suc, ◌+◌, ◌<◌, false, List, [], ◌∷◌, ◌++◌, length, map, drop, get_or, drop-cons, append_assoc, sym, ap, subst, ◌∙◌, refl, arith}
-use Rattle.std.specs.FinMap.{empty, values}
+use Rattle.std.proofs.Common.{◌≡◌, ℕ, suc, ◌+◌, ◌<◌, false, List, ◌∷◌, ◌++◌, length, map, drop, get_or, drop-cons, append_assoc, sym, ap, ◌∙◌, arith}
+use Rattle.std.specs.FinMap.{empty}
 use Rattle.std.specs.List.{list_any}
 use Rattle.events.specs.Tags.{same_tag, tells}
 use Rattle.events.specs.declared.Entry.{Entry}

@@ -1,6 +1,6 @@
 -- The pairs of the fresh tags are those that become live, and their rules are those of their owners' parts.
 use Rattle.std.proofs.Common.{◌≡◌, ℕ, ◌<◌, Bool, true, false, cond, not, List, [], ◌∷◌, length, filter, map, sym, ap, subst, ◌∙◌, refl, inl, inr}
-use Rattle.std.specs.Prelude.{Option, Some, None, slice_get, is_some}
+use Rattle.std.specs.Prelude.{Some, None, slice_get, is_some}
 use Rattle.std.specs.FinMap.{get}
 use Rattle.std.specs.Option.{option_and_then, option_map, option_map_or}
 use Rattle.std.proofs.lemmas.Bool.{false_from_ne_true, or_cases, or_left, or_right}
@@ -9,7 +9,7 @@ use Rattle.events.proofs.OrderedLemmas.{ordered_rises, ordered_same}
 use Rattle.events.specs.Fits.{flows_of}
 use Rattle.events.specs.Sound.{owners_part, part_of}
 use Rattle.events.specs.State.{State, port_of, present, told_to}
-use Rattle.events.specs.Tags.{Group, carried, each_once, free_tags, fresh_tag, group_of, groups, is_carried, is_changed, is_live, is_live_pair, new_tag, retagged, same_group, tells}
+use Rattle.events.specs.Tags.{Group, carried, each_once, free_tags, fresh_tag, group_of, groups, is_carried, is_changed, is_live, is_live_pair, retagged, same_group, tells}
 use Rattle.exchange_laws.proofs.FreshTags.{by_place, fresh_free, group_listed}
 use Rattle.exchange_laws.proofs.ListedPairs.{new_are_added}
 use Rattle.exchange_laws.proofs.Lists.{clash, place_of, some_of}
@@ -21,12 +21,12 @@ use Rattle.exchange_laws.proofs.TagsAfter.{signatures_are_kept, tags_are}
 use Rattle.exchange_laws.specs.Steady.{PortsDiffer}
 use Rattle.exchange_laws.specs.Listed.{AreLiveOnly}
 use Rattle.exchange_laws.specs.Rules.{IsChange, default_rules, with_rules}
-use Rattle.fast_pairs.proofs.Forwards.{IsBy, IsForwardOf, forward_listed, forward_of, forwards_tie, forwards_total, get_mapped, get_taken, mapped_at, one_each, pairs_rise, rules_of, taken_at}
+use Rattle.fast_pairs.proofs.Forwards.{IsBy, forward_listed, forward_of, forwards_tie, forwards_total, get_mapped, get_taken, mapped_at, one_each, pairs_rise, rules_of, taken_at}
 use Rattle.fast_pairs.proofs.GonePairs.{has_live}
 use Rattle.fast_pairs.proofs.PortsAndTags.{IsPortOf, found_number, number_listed, port_listed, present_from}
 use Rattle.fast_pairs.proofs.SignatureParts.{IsSenders, has_part, part_senders, same_senders}
 use Rattle.fast_pairs.specs.LiveOnly.{NewFlowsAreAdded, NewPairsAreThose, group_signatures, group_tags, registered}
-use Rattle.fast_pairs.specs.Pairs.{forward, forward_cmp, forwards, pair_at, part_forwards}
+use Rattle.fast_pairs.specs.Pairs.{forward, forward_cmp, forwards, pair_at}
 use Rattle.fast_pairs.specs.declared.forward.Forward.{Forward}
 use Rattle.net_types.proofs.FindLemmas.{slice_get-Member}
 use Rattle.net_types.proofs.RisingLemmas.{filter-Member}
@@ -147,7 +147,7 @@ module _ (s : State) (r : Routing) (change : IsChange s r) (own : PortsDiffer s.
         let kept = (signatures_test (option_and_then (get s.kept) (get s.tag p)) (Some (signature r p))).0 (turned _ same) in
         let alike : signature r p ≡ signature s.routing p = some_of (signature r p) (signature s.routing p) (sym kept ∙ ap (option_and_then (get s.kept)) before ∙ change.sound.kept p pair.tag before) in
         clash (live_from s pair q at (or_right (tells (told_to s q.owner) pair.tag) (tells (present s q.owner) pair.tag)
-            (present_from s q.owner p pair.tag (same_senders r s.routing p p q.owner alike (declared q (port_Member s pair q at)) routed) before))) dead
+        (present_from s q.owner p pair.tag (same_senders r s.routing p p q.owner alike (declared q (port_Member s pair q at)) routed) before))) dead
 
     by_fresh : is_carried r p ≡ true → is_changed s r p ≡ true → fresh_tag s r (group_of s r p) ≡ Some pair.tag → (f : Forward) × (f.pair ≡ pair) × Member f (forwards names (group_signatures s r) (group_tags s r))
     by_fresh is changed fresh =
@@ -155,17 +155,20 @@ module _ (s : State) (r : Routing) (change : IsChange s r) (own : PortsDiffer s.
         let has = has_part r p q.owner (declared q (port_Member s pair q at)) routed in
         let f : Forward = forward pair.tag has.part pair.port in
         let listed : Member pair.port (ports_of names has.part.sender) = subst (λ w. Member pair.port (ports_of names w)) (sym has.sender)
-            (subst (λ n. Member n (ports_of names q.owner)) (sym (found_number s pair.port q at)) (number_listed s q (port_Member s pair q at))) in
-        (f, refl, forward_listed names (group_signatures s r) (group_tags s r) f (record {
-          place = place.0;
-          sig = signature r p;
-          tag = pair.tag;
-          part = has.part;
-          signed = mapped_at (λ (x : Group). x.after) (groups s r) place.0 (group_of s r p) place.1;
-          tagged = taken_at (length (groups s r)) (free_tags s) place.0 pair.tag (slice_get_within (groups s r) place.0 (group_of s r p) place.1) (sym (by_place s r place.0 (group_of s r p) place.1) ∙ fresh);
-          stands = has.stands;
-          gives = Member-map (forward pair.tag has.part) (ports_of names has.part.sender) pair.port listed;
-        }))
+        (subst (λ n. Member n (ports_of names q.owner)) (sym (found_number s pair.port q at)) (number_listed s q (port_Member s pair q at))) in (
+          f,
+          refl,
+          forward_listed names (group_signatures s r) (group_tags s r) f (record {
+            place = place.0;
+            sig = signature r p;
+            tag = pair.tag;
+            part = has.part;
+            signed = mapped_at (λ (x : Group). x.after) (groups s r) place.0 (group_of s r p) place.1;
+            tagged = taken_at (length (groups s r)) (free_tags s) place.0 pair.tag (slice_get_within (groups s r) place.0 (group_of s r p) place.1) (sym (by_place s r place.0 (group_of s r p) place.1) ∙ fresh);
+            stands = has.stands;
+            gives = Member-map (forward pair.tag has.part) (ports_of names has.part.sender) pair.port listed;
+          }),
+        )
 
     from_tag : (f : Forward) × (f.pair ≡ pair) × Member f (forwards names (group_signatures s r) (group_tags s r))
     from_tag = by (is_carried r p) (is_changed s r p) refl refl (sym (tags_are s r p) ∙ tagged)

@@ -1,5 +1,5 @@
 -- The ports of a participant, and the prefixes that have a tag.
-use Rattle.std.proofs.Common.{◌≡◌, true, List, filter, map, nat_eq, sym, ap, ◌∙◌}
+use Rattle.std.proofs.Common.{◌≡◌, true, filter, nat_eq, sym, ap, ◌∙◌}
 use Rattle.std.specs.Prelude.{Some, is_some}
 use Rattle.std.specs.FinMap.{get}
 use Rattle.std.specs.Option.{option_and_then, option_map}
@@ -86,4 +86,3 @@ present_from s who p t routed tagged =
     ∙ ap (λ b. option_and_then (λ (c : Candidate). option_map (λ u. let x : Entry = record { attrs = c.attrs; tag = u } in x) (get s.tag p)) b) chosen.1
     ∙ ap (λ o. option_map (λ u. let x : Entry = record { attrs = chosen.0.attrs; tag = u } in x) o) tagged)
     (tag_itself t)
-

@@ -3,7 +3,7 @@ use Rattle.std.proofs.Common.{◌≡◌, Bool, true, ◌&&◌, List, [], ◌∷�
 use Rattle.std.specs.Cmp.{IsTotalOrder, unsigned_ties}
 use Rattle.std.specs.List.{AllByRecursion, dedup}
 use Rattle.std.specs.List.Sorted.{IsSorted, IsStrictlySortedBy}
-use Rattle.std.specs.Ordering.{eq_by_cmp, is_eq, is_lt, nat_cmp}
+use Rattle.std.specs.Ordering.{eq_by_cmp, is_lt, nat_cmp}
 use Rattle.std.specs.declared.cmp.Ordering.{Ordering}
 use Rattle.std.specs.declared.cmp.Ordering.TheVariants.{Less}
 use Rattle.std.proofs.lemmas.Cmp.{eq_by_cmp_equiv}

@@ -1,5 +1,5 @@
 -- The tags that no prefix has any more once changes are made (this exchange's own rule).
-use Rattle.std.specs.Prelude.{Bool, nat_eq, List, filter, map, count_by}
+use Rattle.std.specs.Prelude.{Bool, nat_eq, List, filter, count_by}
 use Rattle.std.specs.FinMap.{FinMap, get}
 use Rattle.std.specs.List.{filter_map}
 use Rattle.events.specs.Fits.{tag_changes}

@@ -1,3 +1,4 @@
 pub mod Pairs
 pub mod LiveOnly
 pub mod Emptied
+pub mod Planned

@@ -55,11 +55,7 @@ fn each_once(alloc: Global, tags: &[Tag]) -> Result<Vec<Tag>, Memory>
 }
 
 /// The tags that the changed prefixes had and no other prefix has, ascending, each once. Memory is the only refusal.
-pub fn emptied(
-    alloc: Global,
-    classes: &ClassMap,
-    changes: &[TagChange],
-) -> Result<Vec<Tag>, Memory>
+pub fn emptied(alloc: Global, classes: &ClassMap, changes: &[TagChange]) -> Result<Vec<Tag>, Memory>
     ensures { IfOk result (λ tags. tags.items ≡ emptied classes.now.tag changes.now) }
 {
     let old = sorted(old_tags(alloc, classes, changes)?);

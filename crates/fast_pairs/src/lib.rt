@@ -10,5 +10,6 @@ mod theorem;
 pub use forward::{Forward, Fresh};
 pub use pairs::{gone_pairs, new_flows, untold};
 pub use theorem::{
-    dead_tags_are_live_only, emptied_tags_are_those, gone_pairs_are_live_only, new_pairs_are_live_only,
+    changes_are_planned, dead_tags_are_live_only, emptied_tags_are_those, gone_pairs_are_live_only,
+    new_pairs_are_live_only,
 };

@@ -2,6 +2,7 @@
 //! are the laws.
 
 ghost use Rattle.fast_pairs.specs.Emptied.{EmptiedAreThose};
+ghost use Rattle.fast_pairs.specs.Planned.{ChangesArePlanned};
 ghost use Rattle.fast_pairs.specs.LiveOnly.{GonePairsAreThose, GonePairsAreDropped, NewFlowsAreAdded, NewPairsAreThose, UntoldAreDead};
 
 /// The pairs of the emptied tags are those that are live no more, and those that are dropped.
@@ -24,4 +25,10 @@ pub fn dead_tags_are_live_only()
 /// The tags of changed prefixes that no other prefix has are those that no prefix has once the changes are made.
 pub fn emptied_tags_are_those()
     ensures { EmptiedAreThose }
+{}
+
+/// The pairs of the emptied tags are dropped, the rules of the fresh tags are added, and of the emptied tags those that
+/// nobody was told are live no more.
+pub fn changes_are_planned()
+    ensures { ChangesArePlanned }
 {}
