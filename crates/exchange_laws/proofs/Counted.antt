@@ -1,37 +1,43 @@
 -- How many tags are free, and how many rules the table has.
-use Rattle.std.proofs.Common.{◌≡◌, ℕ, zero, suc, ◌+◌, Bool, true, false, cond, ◌&&◌, ◌||◌, not, T, List, [], ◌∷◌, filter, length, map, sum_by, sym, ap, subst, ◌∙◌, refl, arith, inl, inr}
+use Rattle.std.proofs.Common.{◌≡◌, ℕ, zero, suc, ◌+◌, Bool, true, false, cond, ◌&&◌, ◌||◌, nat_eq, nat_lt, not, T, List, [], ◌∷◌, filter, length, map, sum_by, sym, ap, subst, ◌∙◌, refl, arith, inl, inr}
 use Rattle.std.specs.Prelude.{Option, Some, None, is_none, unwrap_or}
 use Rattle.std.specs.Cmp.{IsTotalOrder}
 use Rattle.std.specs.FinMap.{FinMap, contains_key-keys, entries, entries_sorted, find, get, get-entries, is_sorted, keys}
 use Rattle.std.specs.FinMap.Entries.{below_all, find-where_key, is_sorted-where_key, same_entries, where_key}
 use Rattle.std.specs.Option.{option_map}
-use Rattle.std.specs.Ordering.{eq_by_cmp}
+use Rattle.std.specs.Ordering.{eq_by_cmp, is_lt}
 use Rattle.std.specs.declared.cmp.Ordering.{Ordering}
+use Rattle.std.specs.declared.cmp.Ordering.TheVariants.{Less, Equal, Greater}
 use Rattle.std.proofs.lemmas.List.{length-append, length-map}
 use Rattle.std.proofs.lemmas.List.Filters.{sum_by-filter_both}
 use Rattle.std.proofs.lemmas.List.Sums.{sum_by-cons}
 use Rattle.events.proofs.OrderedLemmas.{member_any, ordered_is}
 use Rattle.events.specs.Fits.{added, dropped, flows_of}
-use Rattle.events.specs.Refusals.{pairs}
+use Rattle.events.specs.Refusals.{live_pairs, pairs}
 use Rattle.events.specs.Sound.{owners_part, rule_count}
 use Rattle.events.specs.State.{State}
-use Rattle.events.specs.Tags.{is_live, is_live_pair, retagged, tags}
+use Rattle.events.specs.Tags.{free_tags, is_live, is_live_pair, retagged, tags}
 use Rattle.events.specs.declared.Flow.{Flow}
+use Rattle.exchange_laws.proofs.FreshTags.{tags_rise}
 use Rattle.exchange_laws.proofs.LivePairs.{pair_listed}
 use Rattle.exchange_laws.proofs.Lists.{key_Member, some_of}
 use Rattle.exchange_laws.proofs.RulesAfter.{rules_are_those}
 use Rattle.exchange_laws.proofs.ToldAnew.{get_retained}
-use Rattle.exchange_laws.specs.Counts.{ChangesAddOneEach, LivePairsAreCounted, PairsAreLive, RulesAreCounted, TagsAreCounted, TellingLeavesOneEach, rules_at}
+use Rattle.exchange_laws.specs.Counts.{ChangesAddOneEach, FreeTagsAreCounted, HasOneRuleEach, LivePairsAreCounted, PairsAreLive, RulesAreCounted, TagsAreCounted, TellingLeavesOneEach, rules_at}
+use Rattle.exchange_laws.specs.Listed.{HasLivePairs}
 use Rattle.exchange_laws.specs.Replies.{IsBuiltOn}
+use Rattle.exchange_laws.specs.Retagging.{TagsArePooled}
+use Rattle.exchange_laws.specs.Steady.{IsSteady}
 use Rattle.exchange_laws.specs.Rules.{default_rules}
 use Rattle.exchange_laws.specs.Telling.{told_anew}
-use Rattle.net_types.proofs.OrderLemmas.{pairs_total}
-use Rattle.net_types.proofs.RisingLemmas.{Member-filter, filter-Member, keys-IsRising}
-use Rattle.net_types.proofs.TieLemmas.{pair_cmp-IsAntisymmetric, same_from_tie, ties_itself}
+use Rattle.net_types.proofs.OrderLemmas.{pairs_total, tags_total}
+use Rattle.net_types.proofs.RisingLemmas.{Member-filter, before, before_itself, before_trans, filter-IsRising, filter-Member, keys-IsRising}
+use Rattle.net_types.proofs.SetLemmas.{rising_unique}
+use Rattle.net_types.proofs.TieLemmas.{pair_cmp-IsAntisymmetric, same_from_tie, tag_cmp-IsAntisymmetric, ties_itself}
 use Rattle.net_types.proofs.ValueLemmas.{later_apart}
-use Rattle.net_types.specs.Keys.{pair_cmp}
+use Rattle.net_types.specs.Keys.{pair_cmp, tag_cmp}
 use Rattle.net_types.specs.Routes.{numbers}
-use Rattle.net_types.specs.Sets.{Member, union_over}
+use Rattle.net_types.specs.Sets.{IsRising, Member, union_over}
 use Rattle.net_types.specs.declared.address.Tag.{Tag}
 use Rattle.net_types.specs.declared.route.Part.{Part}
 use Rattle.net_types.specs.declared.rule.Pair.{Pair}
@@ -54,6 +60,33 @@ how_many at low (suc count) = ap suc (how_many at (low + 1) count)
 
 pub tags_are_counted : TagsAreCounted
 tags_are_counted s = either_way (is_live s) (tags s) ∙ how_many (λ n. let t : Tag = record { 0 = n } in t) 1 s.size
+
+-- ---- tags that are kept
+
+weaker : {A : Type 0} (f g : A → A → Bool) → ((x y : A) → f x y ≡ true → g x y ≡ true) → (xs : List A) → IsRising f xs → IsRising g xs
+weaker f g h [] rises = tt
+weaker f g h (x ∷ xs) rises = (λ y m. h x y (rises.0 y m), weaker f g h xs rises.1)
+
+tag_before : (t u : Tag) → nat_lt t.0 u.0 ≡ true → before tag_cmp t u ≡ true
+tag_before t u less = ap (λ b. is_lt (cond b Less (cond (nat_eq t.0 u.0) Equal Greater))) less
+
+-- exactly the live tags of the pool are kept
+kept_tags : (s : State) → IsSteady s → keys s.kept ≡ filter (is_live s) (tags s)
+kept_tags s steady =
+    rising_unique (before tag_cmp) (before_itself tag_cmp tags_total) (before_trans tag_cmp tags_total) (keys s.kept) (filter (is_live s) (tags s)) (keys-IsRising tag_cmp s.kept)
+    (filter-IsRising (before tag_cmp) (is_live s) (tags s) (weaker (λ t u. nat_lt t.0 u.0) (before tag_cmp) tag_before (tags s) (tags_rise 1 s.size))) (record {
+      onto = λ t m.
+          let live : is_live s t ≡ true = steady.kept t (contains_key-keys s.kept t ∙ member_any tag_cmp tags_total tie t (keys s.kept) m) in
+          Member-filter (is_live s) (tags s) t (steady.pooled t live) live;
+      back = λ t m. key_Member tag_cmp tags_total tie s.kept t (steady.live t (filter-Member (is_live s) (tags s) t m).passes);
+    })
+  where
+    tie : (x y : Tag) → eq_by_cmp tag_cmp x y ≡ true → x ≡ y
+    tie = same_from_tie tag_cmp tag_cmp-IsAntisymmetric
+
+pub free_tags_are_counted : FreeTagsAreCounted
+free_tags_are_counted s steady =
+    ap (λ n. length (free_tags s) + n) (sym (length-map (entries s.kept) (λ (e : Tag × List Part). e.0)) ∙ ap length (kept_tags s steady)) ∙ tags_are_counted s
 
 -- ---- entries of a map
 
@@ -155,14 +188,18 @@ rules_are_counted s s1 is_rebuilt on = counted s s1 is_rebuilt on
 
 -- ---- one rule each
 
-pub pairs_are_live : PairsAreLive
-pairs_are_live s sound pooled = ordered_is pair_cmp pairs_total tie (keys s.table) (filter (is_live_pair s) (pairs s)) (keys-IsRising pair_cmp s.table) (record {
-  onto = λ q m. let live : is_live_pair s q ≡ true = sym (sound.pairs q) ∙ contains_key-keys s.table q ∙ member_any pair_cmp pairs_total tie q (keys s.table) m in Member-filter (is_live_pair s) (pairs s) q (pair_listed s pooled q live) live;
-  back = λ q m. key_Member pair_cmp pairs_total tie s.table q (sound.pairs q ∙ (filter-Member (is_live_pair s) (pairs s) q m).passes);
+-- where the table has exactly the live pairs, they are its keys
+pub listed_pairs : (s : State) → HasLivePairs s → TagsArePooled s → keys s.table ≡ live_pairs s
+listed_pairs s has pooled = ordered_is pair_cmp pairs_total tie (keys s.table) (filter (is_live_pair s) (pairs s)) (keys-IsRising pair_cmp s.table) (record {
+  onto = λ q m. let live : is_live_pair s q ≡ true = sym (has q) ∙ contains_key-keys s.table q ∙ member_any pair_cmp pairs_total tie q (keys s.table) m in Member-filter (is_live_pair s) (pairs s) q (pair_listed s pooled q live) live;
+  back = λ q m. key_Member pair_cmp pairs_total tie s.table q (has q ∙ (filter-Member (is_live_pair s) (pairs s) q m).passes);
 })
   where
     tie : (x y : Pair) → eq_by_cmp pair_cmp x y ≡ true → x ≡ y
     tie = same_from_tie pair_cmp pair_cmp-IsAntisymmetric
+
+pub pairs_are_live : PairsAreLive
+pairs_are_live s sound pooled = listed_pairs s sound.pairs pooled
 
 one_each : (es : List (Pair × List Rule)) → ((e : Pair × List Rule) → Member e es → length e.1 ≡ 1) → rules_in es ≡ length (map (λ (e : Pair × List Rule). e.0) es)
 one_each [] one = refl
@@ -171,11 +208,14 @@ one_each (e ∷ es) one = sum_by-cons (λ (d : Pair × List Rule). length d.1) e
     more : (m n : ℕ) → m ≡ n → 1 + m ≡ suc n
     more m n same = omega arith
 
-pub live_pairs_are_counted : LivePairsAreCounted
-live_pairs_are_counted s sound pooled one =
+pub counted_pairs : (s : State) → HasLivePairs s → TagsArePooled s → HasOneRuleEach s → rule_count s ≡ length (live_pairs s)
+counted_pairs s has pooled one =
     sum_map (λ (rules : List Rule). length rules) (λ (e : Pair × List Rule). e.1) (entries s.table)
     ∙ one_each (entries s.table) (λ e m. one e.0 e.1 (entry_at s.table e m))
-    ∙ ap length (pairs_are_live s sound pooled)
+    ∙ ap length (listed_pairs s has pooled)
+
+pub live_pairs_are_counted : LivePairsAreCounted
+live_pairs_are_counted s sound pooled one = counted_pairs s sound.pairs pooled one
 
 pub changes_add_one_each : ChangesAddOneEach
 changes_add_one_each s r pooled one pair rules is = by (is_live_pair (retagged s r) pair) (is_live_pair s pair) (sym (rules_are_those s r pooled pair) ∙ is)

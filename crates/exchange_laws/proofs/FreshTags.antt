@@ -76,10 +76,10 @@ group_has_fresh s r enough g m =
 pub changed_have_fresh : (s : State) (r : Routing) → HasEnoughTags s r → (p : Prefix) → is_carried r p ≡ true → is_changed s r p ≡ true → (t : Tag) × (fresh_tag s r (group_of s r p) ≡ Some t) × IsFree s t
 changed_have_fresh s r enough p is changed = group_has_fresh s r enough (group_of s r p) (group_listed s r p is changed)
 
-abbrev below : Tag → Tag → Bool
+abbrev pub below : Tag → Tag → Bool
 below t u = nat_lt t.0 u.0
 
-tags_rise : (low count : ℕ) → IsRising below (map (λ n. let t : Tag = record { 0 = n } in t) (numbers low count))
+pub tags_rise : (low count : ℕ) → IsRising below (map (λ n. let t : Tag = record { 0 = n } in t) (numbers low count))
 tags_rise low zero = tt
 tags_rise low (suc count) = (
   λ u m. let range = numbers_range (λ n. let t : Tag = record { 0 = n } in t) (λ (t : Tag). t.0) (λ n. refl) (low + 1) count u m in lt-ltb low u.0 (omega arith),

@@ -17,4 +17,7 @@ pub mod OwnHops
 pub mod NewStates
 pub mod LineSteps
 pub mod SteadySteps
+pub mod QuietLines
 pub mod ListedPairs
+pub mod OneRuleEach
+pub mod FullTables

@@ -17,6 +17,7 @@ use Rattle.exchange_laws.specs.Rules.{ChangesStaySound, DefaultsAreTables, IsCha
 use Rattle.net_types.proofs.CubeLemmas.{has-everything}
 use Rattle.net_types.proofs.MeetLemmas.{IsMeet-everything}
 use Rattle.net_types.proofs.OrderLemmas.{pairs_total}
+use Rattle.net_types.proofs.PassLemmas.{some_there}
 use Rattle.net_types.proofs.SetLemmas.{same_eq}
 use Rattle.net_types.proofs.TieLemmas.{pair_cmp-IsAntisymmetric, same_from_tie}
 use Rattle.net_types.specs.Answers.{Policies, is_offered, offered_port}
@@ -82,7 +83,18 @@ module _ (s : State) (r : Routing) (change : IsChange s r) where
       ap (option_and_then (λ (q : PortInfo). option_and_then (λ sig. part_of sig q.owner) (get s1.kept pair.tag))) (same_port pair.port)
       ∙ ap (λ kept. option_and_then (λ (q : PortInfo). option_and_then (λ sig. part_of sig q.owner) kept) (port_of s pair.port)) (live_tags_stay s r pooled pair.tag (live_tag s pair before) (live_tag s1 pair after))
 
-  pairs_live : (pair : Pair) → is_some (get (table_after s s1) pair) ≡ is_live_pair s1 pair
+  -- the owner of a live pair's port has a part in the signature that is kept for its tag
+  pub part_kept : (pair : Pair) → is_live_pair s1 pair ≡ true → is_some (owners_part s1 pair) ≡ true
+  part_kept pair live = by (is_live_pair s pair) refl
+    where
+      by : (b : Bool) → is_live_pair s pair ≡ b → is_some (owners_part s1 pair) ≡ true
+      by true before =
+          let there = some_there (get s.table pair) (sound.pairs pair ∙ before) in
+          let right = sound.right.2 pair there.0 there.1 in
+          ap is_some (part_stays pair before live ∙ right.1)
+      by false dead = part_there pair live dead
+
+  pub pairs_live : (pair : Pair) → is_some (get (table_after s s1) pair) ≡ is_live_pair s1 pair
   pairs_live pair = ap is_some (rules_are_those s r pooled pair) ∙ by (is_live_pair s1 pair) (is_live_pair s pair) refl refl
     where
       mapped : {A B : Type 0} (f : A → B) (o : Option A) → is_some (option_map f o) ≡ is_some o

@@ -41,23 +41,23 @@ use Rattle.net_types.specs.declared.route.Participant.{Participant}
 use Rattle.net_types.specs.declared.route.PortInfo.{PortInfo}
 
 -- what holds of a steady state, whatever its table
-record IsTidy (s : State) : Type 0 where
-  pooled : TagsArePooled s
-  kept : KeptAreLive s
-  live : LiveAreKept s
-  owners : OwnersAreDeclared s.routing
-  told : length s.told ≡ length s.routing.participants
-  hops : HopsAreOwn s
-  routed : RoutesAreDeclared s.routing
-  apart : PortsDiffer s.routing.ports
-  numbered : PortsAreNumbered s.routing.ports
-  rules : length s.routing.rules ≡ length s.routing.participants
-  resolved : length s.resolved ≡ length s.routing.ports
-  rising : AllRise s.resolved
-  few : length s.routing.participants ≤ 256
-  drop : AllDrop s
-  sized : IsSized s
-  new : (s.phase ≡ Running → ⊥) → IsNew s
+pub record IsTidy (s : State) : Type 0 where
+  pub pooled : TagsArePooled s
+  pub kept : KeptAreLive s
+  pub live : LiveAreKept s
+  pub owners : OwnersAreDeclared s.routing
+  pub told : length s.told ≡ length s.routing.participants
+  pub hops : HopsAreOwn s
+  pub routed : RoutesAreDeclared s.routing
+  pub apart : PortsDiffer s.routing.ports
+  pub numbered : PortsAreNumbered s.routing.ports
+  pub rules : length s.routing.rules ≡ length s.routing.participants
+  pub resolved : length s.resolved ≡ length s.routing.ports
+  pub rising : AllRise s.resolved
+  pub few : length s.routing.participants ≤ 256
+  pub drop : AllDrop s
+  pub sized : IsSized s
+  pub new : (s.phase ≡ Running → ⊥) → IsNew s
 
 -- ---- the start
 
@@ -95,10 +95,10 @@ starts_steady = record {
 
 -- ---- one line
 
-not_running : (s : State) → s.phase ≡ Start → s.phase ≡ Running → ⊥
+pub not_running : (s : State) → s.phase ≡ Start → s.phase ≡ Running → ⊥
 not_running s e f = cc
 
-not_running_yet : (s : State) → s.phase ≡ Declaring → s.phase ≡ Running → ⊥
+pub not_running_yet : (s : State) → s.phase ≡ Declaring → s.phase ≡ Running → ⊥
 not_running_yet s e f = cc
 
 participant_live : (s : State) (m : Participant) (t : Tag) → is_live (with_participant s m) t ≡ is_live s t
@@ -119,7 +119,7 @@ sized_later s s1 is before later base size capacity = record {
   room = subst (λ n. n ≤ 1000000) (sym capacity) is.room;
 }
 
-quiet_tidy : (s : State) {s1 : State} → QuietStep s s1 → IsTidy s → IsTidy s1
+pub quiet_tidy : (s : State) {s1 : State} → QuietStep s s1 → IsTidy s → IsTidy s1
 quiet_tidy s (pool base size capacity start formed) is =
     let new : IsNew s = is.new (not_running s start) in record {
       pooled = λ t live. absurd (clash live (no_live s new t));
@@ -291,32 +291,32 @@ retable s table is = record {
 
 -- ---- any reply
 
-module _ (s : State) (e : Event) (r : Reply) (steady : IsSteady s) (formed : IsWellFormed e) where
-  tidy : IsTidy s
-  tidy = record {
-    pooled = steady.pooled;
-    kept = steady.kept;
-    live = steady.live;
-    owners = steady.owners;
-    told = steady.told;
-    hops = steady.hops;
-    routed = steady.routed;
-    apart = steady.apart;
-    numbered = steady.numbered;
-    rules = steady.rules;
-    resolved = steady.resolved;
-    rising = steady.rising;
-    few = steady.few;
-    drop = steady.drop;
-    sized = steady.sized;
-    new = steady.new;
-  }
+pub tidy : (s : State) → IsSteady s → IsTidy s
+tidy s steady = record {
+  pooled = steady.pooled;
+  kept = steady.kept;
+  live = steady.live;
+  owners = steady.owners;
+  told = steady.told;
+  hops = steady.hops;
+  routed = steady.routed;
+  apart = steady.apart;
+  numbered = steady.numbered;
+  rules = steady.rules;
+  resolved = steady.resolved;
+  rising = steady.rising;
+  few = steady.few;
+  drop = steady.drop;
+  sized = steady.sized;
+  new = steady.new;
+}
 
+module _ (s : State) (e : Event) (r : Reply) (steady : IsSteady s) (formed : IsWellFormed e) where
   accepted_tidy : refusal s e ≡ None → IsTidy (accepted s e r)
-  accepted_tidy none = retable (after s e) _ (step_tidy s e (step_of s e none formed) tidy)
+  accepted_tidy none = retable (after s e) _ (step_tidy s e (step_of s e none formed) (tidy s steady))
 
   next_tidy : refusal s e ≡ None → (h : Head) → IsTidy (next_by h s e r)
-  next_tidy none (Refused why) = tidy
+  next_tidy none (Refused why) = tidy s steady
   next_tidy none Fine = accepted_tidy none
   next_tidy none Unrouted = accepted_tidy none
   next_tidy none (Unresolved ip) = accepted_tidy none

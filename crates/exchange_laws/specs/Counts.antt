@@ -1,6 +1,6 @@
 -- How many tags are free, and how many rules the table has (this exchange's own rule).
 use Rattle.std.specs.Prelude.{◌≡◌, ℕ, ◌+◌, Bool, [], List, length, filter, sum_by, unwrap_or, Some}
-use Rattle.std.specs.FinMap.{FinMap, get, keys}
+use Rattle.std.specs.FinMap.{FinMap, entries, get, keys}
 use Rattle.events.specs.Fits.{added, dropped}
 use Rattle.events.specs.Refusals.{live_pairs}
 use Rattle.events.specs.Sound.{IsSound, rule_count}
@@ -9,7 +9,8 @@ use Rattle.events.specs.declared.Entry.{Entry}
 use Rattle.events.specs.Tags.{free_tags, is_live, retagged, tags}
 use Rattle.exchange_laws.specs.Replies.{IsBuiltOn}
 use Rattle.exchange_laws.specs.Retagging.{TagsArePooled}
-use Rattle.exchange_laws.specs.Rules.{with_rules}
+use Rattle.exchange_laws.specs.Rules.{IsChange, with_rules}
+use Rattle.exchange_laws.specs.Steady.{IsSteady}
 use Rattle.exchange_laws.specs.Telling.{told_anew}
 use Rattle.net_types.specs.Exports.{Routing}
 use Rattle.net_types.specs.Keys.{prefix_cmp}
@@ -35,6 +36,14 @@ RulesAreCounted =
 abbrev pub HasOneRuleEach : State → Type 0
 HasOneRuleEach s = (pair : Pair) (rules : List Rule) → get s.table pair ≡ Some rules → length rules ≡ 1
 
+-- in a steady state the free tags and those that are kept are all of the pool
+abbrev pub FreeTagsAreCounted : Type 0
+FreeTagsAreCounted = (s : State) → IsSteady s → length (free_tags s) + length (entries s.kept) ≡ s.size
+
+-- while all policies drop, each pair of a steady state has one rule
+abbrev pub SteadyHaveOneEach : Type 0
+SteadyHaveOneEach = (s : State) → IsSteady s → HasOneRuleEach s
+
 -- the pairs of the table are the live ones, in order
 abbrev pub PairsAreLive : Type 0
 PairsAreLive = (s : State) → IsSound s → TagsArePooled s → keys s.table ≡ live_pairs s
@@ -43,10 +52,14 @@ PairsAreLive = (s : State) → IsSound s → TagsArePooled s → keys s.table �
 abbrev pub LivePairsAreCounted : Type 0
 LivePairsAreCounted = (s : State) → IsSound s → TagsArePooled s → HasOneRuleEach s → rule_count s ≡ length (live_pairs s)
 
--- after a change of routes each pair has still one rule, and there are as many as live pairs
+-- after a change of routes each pair has still one rule
 abbrev pub ChangesAddOneEach : Type 0
 ChangesAddOneEach = (s : State) (r : Routing) → TagsArePooled s → HasOneRuleEach s → HasOneRuleEach (with_rules s (retagged s r))
 
--- and so it is where a participant is told anew
+-- so there are as many rules after it as live pairs, whether or not they fit the table
+abbrev pub ChangesAreCounted : Type 0
+ChangesAreCounted = (s : State) (r : Routing) → IsChange s r → HasOneRuleEach s → rule_count (with_rules s (retagged s r)) ≡ length (live_pairs (retagged s r))
+
+-- each pair has one rule, too, where a participant is told anew
 abbrev pub TellingLeavesOneEach : Type 0
-TellingLeavesOneEach = (s : State) (who : Pid) (entries : FinMap prefix_cmp Entry) → HasOneRuleEach s → HasOneRuleEach (told_anew s who entries)
+TellingLeavesOneEach = (s : State) (who : Pid) (es : FinMap prefix_cmp Entry) → HasOneRuleEach s → HasOneRuleEach (told_anew s who es)

@@ -9,3 +9,5 @@ pub mod Counts
 pub mod Steady
 pub mod Listed
 pub mod Rerouting
+pub mod Quiet
+pub mod Fitting

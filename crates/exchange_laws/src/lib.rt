@@ -2,6 +2,8 @@
 #![tactic(auto)]
 
 mod counts;
+mod fitting;
+mod quiet;
 mod replies;
 mod reroutings;
 mod rules;
@@ -12,9 +14,12 @@ mod touched;
 mod unchanged;
 
 pub use counts::{
-    changes_add_one_each, live_pairs_are_counted, pairs_are_live, rules_are_counted,
-    tags_are_counted, telling_leaves_one_each,
+    changes_add_one_each, changes_are_counted, free_tags_are_counted, live_pairs_are_counted,
+    pairs_are_live, rules_are_counted, steady_states_have_one_each, tags_are_counted,
+    telling_leaves_one_each,
 };
+pub use fitting::{accepted_lines_fit, full_tables_are_refused, lines_are_accepted};
+pub use quiet::quiet_lines_are_accepted;
 pub use replies::{
     changes_are_built, defaults_are_rules, gone_pairs_are_dropped, new_pairs_are_added,
     replies_build_tables,
