@@ -1,12 +1,14 @@
 -- What is pending: what was told and is other or absent, and what is new.
-use Rattle.std.proofs.Common.{◌≡◌, Bool, true, false, not, T, List, [], ◌++◌, map, filter, sym, ap, ◌∙◌, refl, inl, inr}
+use Rattle.std.proofs.Common.{◌≡◌, ℕ, Bool, true, false, not, T, List, [], ◌++◌, map, filter, sym, ap, ◌∙◌, refl, inl, inr}
 use Rattle.std.specs.Prelude.{Option, Some, None, is_some, is_none}
 use Rattle.std.specs.FinMap.{FinMap, empty, get, keys, values, entries, entries_sorted, get-entries, from_sorted, contains_key-keys}
 use Rattle.std.specs.FinMap.Entries.{is_sorted}
 use Rattle.std.specs.List.{list_any}
 use Rattle.std.specs.Ordering.{eq_by_cmp}
 use Rattle.events.proofs.OrderedLemmas.{any_member, member_any, ordered_is, ordered_rises, ordered_same}
-use Rattle.events.specs.Fits.{same_entry}
+use Rattle.events.specs.Fits.{advert, adverts as adverts_of, same_entry}
+use Rattle.events.specs.State.{State, told_to, present as present_of}
+use Rattle.net_types.specs.declared.address.Pid.{Pid}
 use Rattle.events.specs.declared.Entry.{Entry}
 use Rattle.events.specs.Tags.{same_tag, tells}
 use Rattle.net_types.proofs.OrderLemmas.{prefix_tie, prefixes_total, tags_total}
@@ -24,7 +26,7 @@ use Rattle.net_types.specs.Sets.{Member}
 use Rattle.net_types.specs.declared.address.Tag.{Tag}
 use Rattle.net_types.specs.declared.prefix.Prefix.{Prefix}
 use Rattle.advert_queue.proofs.EntryLists.{found_itself, map-filter}
-use Rattle.advert_queue.specs.Telling.{entry_key, entry_tag, is_new_in, is_other_in, pending, tags_of}
+use Rattle.advert_queue.specs.Telling.{advert_with, adverts, entry_key, entry_tag, is_new_in, is_other_in, pending, tags_of}
 
 -- ---- tags
 
@@ -126,3 +128,15 @@ module _ (told present : FinMap prefix_cmp Entry) where
       ∙ sym (ordered_is prefix_cmp prefixes_total prefix_tie (pending told present) parts
       (filter-IsRising (before prefix_cmp) differs (ordered prefix_cmp (keys told ++ keys present)) (ordered_rises prefix_cmp prefixes_total prefix_tie (keys told ++ keys present)))
       (record { onto = onto; back = back }))
+
+-- ---- messages
+
+-- an advert in a state is one with its base address
+pub advert-state : (s : State) (p : Prefix) (o : Option Entry) → advert s p o ≡ advert_with s.base p o
+advert-state s p None = refl
+advert-state s p (Some entry) = refl
+
+-- where a participant was told the one map and the other is present for it, the messages are those of the state
+pub adverts-state : (s : State) (who : Pid) → adverts_of s who ≡ adverts s.base (told_to s who) (present_of s who)
+adverts-state s who =
+    ap (λ (f : Prefix → List ℕ). map f (pending (told_to s who) (present_of s who))) (λ i p. advert-state s p (get (present_of s who) p) i)

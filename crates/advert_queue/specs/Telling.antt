@@ -1,11 +1,13 @@
 -- What is told: the tags in it, and what is pending (this exchange's own rule).
-use Rattle.std.specs.Prelude.{Bool, not, List, ◌++◌, map, filter, Some, is_none}
+use Rattle.std.specs.Prelude.{ℕ, ◌+◌, Bool, not, List, ◌++◌, map, filter, Option, Some, None, is_none}
 use Rattle.std.specs.FinMap.{FinMap, get, keys, values}
 use Rattle.events.specs.Fits.{same_entry}
 use Rattle.events.specs.declared.Entry.{Entry}
 use Rattle.net_types.specs.Attributes.{same_option}
 use Rattle.net_types.specs.Keys.{prefix_cmp, tag_cmp}
 use Rattle.net_types.specs.Maps.{ordered}
+use Rattle.net_types.specs.Updates.{announcement, withdrawal}
+use Rattle.net_types.specs.declared.address.Ip.{Ip}
 use Rattle.net_types.specs.declared.address.Tag.{Tag}
 use Rattle.net_types.specs.declared.prefix.Prefix.{Prefix}
 
@@ -16,6 +18,19 @@ tags_of entries = ordered tag_cmp (map (λ (e : Entry). e.tag) (values entries))
 -- the prefixes at which what was told and what is present differ, in order
 abbrev pub pending : FinMap prefix_cmp Entry → FinMap prefix_cmp Entry → List Prefix
 pending told present = filter (λ p. not (same_option same_entry (get told p) (get present p))) (ordered prefix_cmp (keys told ++ keys present))
+
+-- the address of a tag
+abbrev pub address_of : Ip → Tag → Ip
+address_of base t = record { 0 = base.0 + t.0 }
+
+-- a withdrawal, or an announcement with the tag's address as NEXT_HOP (RFC 4271 4.3)
+abbrev pub advert_with : Ip → Prefix → Option Entry → List ℕ
+advert_with base p None = withdrawal p
+advert_with base p (Some entry) = announcement p entry.attrs (address_of base entry.tag)
+
+-- what is told of each pending prefix, in order
+abbrev pub adverts : Ip → FinMap prefix_cmp Entry → FinMap prefix_cmp Entry → List (List ℕ)
+adverts base told present = map (λ p. advert_with base p (get present p)) (pending told present)
 
 -- the prefix of an entry
 abbrev pub entry_key : Prefix × Entry → Prefix

@@ -3,7 +3,9 @@
 
 mod ascending;
 mod queue;
+#[cfg(test)]
+mod tests;
 mod told;
 
-pub use queue::pending;
+pub use queue::{adverts, pending};
 pub use told::Told;

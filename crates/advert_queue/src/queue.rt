@@ -1,15 +1,17 @@
 //! What is pending for a participant: what it was told, beside what is present.
 
-ghost use Rattle.std.specs.Prelude.{◌≡◌, ◌++◌, IfOk, OnOk, map, filter, option_copied};
+ghost use Rattle.std.specs.Prelude.{◌≡◌, ◌≤◌, ◌++◌, Some, IfOk, IfSome, OnOk, map, filter, option_copied};
 ghost use Rattle.std.specs.FinMap as map;
 ghost use Rattle.events.specs.Fits.{same_entry};
 ghost use Rattle.net_types.specs.Attributes.{same_option};
-ghost use Rattle.advert_queue.specs.Telling.{entry_key, is_new_in, is_other_in, pending};
+ghost use Rattle.net_types.specs.declared.prefix.Prefix.{Prefix as AnyPrefix};
+ghost use Rattle.advert_queue.specs.Telling.{advert_with, adverts, entry_key, is_new_in, is_other_in, pending};
 
 use crate::ascending::ascending_prefixes;
 use crate::told::Told;
-use events::Entry;
-use net_types::{Memory, Prefix, same_attrs};
+use bgp_update::{announcement, withdrawal};
+use events::{Entry, Messages};
+use net_types::{Bytes, Ip, Items, Memory, Prefix, same_attrs};
 use std::alloc::Global;
 
 /// The prefixes at which what was told and what is present differ, ascending by address, and then by length. Memory is
@@ -21,6 +23,44 @@ pub fn pending(alloc: Global, told: &Told, present: &Told) -> Result<Vec<Prefix>
     push_changed(told, present, &mut prefixes)?;
     push_new(told, present, &mut prefixes)?;
     Ok(ascending_prefixes(prefixes))
+}
+
+/// The messages by which the participant is told what is present, a message a prefix, by prefix: a withdrawal (RFC 4271
+/// 4.3) of one of which nothing is present, and else an announcement of its entry with the address of the entry's tag,
+/// above `base`, as NEXT_HOP. Memory is the only refusal.
+pub fn adverts(
+    alloc: Global,
+    base: Ip,
+    told: &Told,
+    present: &Told,
+) -> Result<Messages, Memory>
+    requires low { base.0 ≤ 3758096383 }
+    requires small { (p : AnyPrefix) → IfSome (map.get present.now p) (λ e. e.tag.0 ≤ 65536) }
+    ensures { IfOk result (λ messages. messages ≡ adverts base told.now present.now) }
+{
+    let prefixes = pending(alloc, told, present)?;
+    let mut messages = Items::new(alloc);
+    for prefix in &prefixes {
+        messages.push(advert(alloc, base, *prefix, present.get(*prefix))?)?;
+    }
+    Ok(messages)
+}
+
+/// A withdrawal, or an announcement with the address of the entry's tag as NEXT_HOP.
+fn advert(
+    alloc: Global,
+    base: Ip,
+    prefix: Prefix,
+    entry: Option<&Entry>,
+) -> Result<Bytes, Memory>
+    requires low { base.0 ≤ 3758096383 }
+    requires small { IfSome (option_copied entry) (λ e. e.tag.0 ≤ 65536) }
+    ensures { IfOk result (λ message. message ≡ advert_with base prefix (option_copied entry.entry)) }
+{
+    match entry {
+        None => withdrawal(alloc, prefix),
+        Some(entry) => announcement(alloc, prefix, &entry.attrs, Ip(base.0 + entry.tag.0)),
+    }
 }
 
 /// The prefixes that were told and of which something else is present, or nothing.

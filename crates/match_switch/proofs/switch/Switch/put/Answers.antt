@@ -1,0 +1,40 @@
+-- The pair's rules are put into its place among the entries.
+use Rattle.std.proofs.Common.{ap, arith, sym, ◌∙◌}
+use Rattle.std.specs.Prelude.{is_some}
+use Rattle.match_switch.proofs.TableLemmas.{get_is, count_is, room_is, table_put, few_before, kept_put, count_put, room_put}
+use Rattle.match_switch.proofs.switch.Switch.put.Goals as goal
+
+pub put_reserved-before-requires-clause-room : goal.put_reserved-before-requires-clause-room
+put_reserved-before-requires-clause-room c = λ none.
+    let room = c.requires.room (get_is c.self.inside.entries.items c.self.inside.rules _ c.self.inside.capacity c.self.invariant c.args.self.now c.self.view_is c.args.pair ∙ none) in
+    let spare = room_is c.self.inside.entries.items c.self.inside.rules _ c.self.inside.capacity c.self.invariant c.args.self.now c.self.view_is in
+    omega (arith, room, spare)
+
+pub overflow_add-self : goal.overflow_add-self
+overflow_add-self c =
+    let all = count_is c.self.inside.entries.items c.self.inside.rules _ c.self.inside.capacity c.self.invariant c.args.self.now c.self.view_is in
+    omega (arith, all, c.requires.few, c.len-added.ensures)
+
+pub overflow_sub-self : goal.overflow_sub-self
+overflow_sub-self c =
+    let few = few_before c.self.inside.entries.items c.self.inside.rules _ c.self.inside.capacity c.self.invariant c.args.self.now c.self.view_is c.args.pair c.put_reserved-before.result c.put_reserved-before.ensures.value c.count.result c.count.ensures in
+    omega (arith, few)
+
+pub invariant_of-self : goal.invariant_of-self
+invariant_of-self c =
+    kept_put c.self.inside.entries.items c.self.inside.rules _ c.self.inside.capacity c.self.invariant c.args.self.now c.self.view_is c.args.pair c.args.rules c.put_reserved-before.new.entries.items c.put_reserved-before.ensures.items c.put_reserved-before.result c.put_reserved-before.ensures.value c.len-added.result c.count.result c.len-added.ensures c.count.ensures
+
+pub returns-clause-table : goal.returns-clause-table
+returns-clause-table c =
+    table_put c.self.inside.entries.items c.self.inside.rules _ c.self.inside.capacity c.self.invariant c.args.self.now c.self.view_is c.args.pair c.args.rules c.put_reserved-before.new.entries.items c.put_reserved-before.ensures.items
+
+pub returns-clause-room : goal.returns-clause-room
+returns-clause-room c =
+    let there = get_is c.self.inside.entries.items c.self.inside.rules _ c.self.inside.capacity c.self.invariant c.args.self.now c.self.view_is c.args.pair in
+    let same = ap is_some (c.put_reserved-before.ensures.value ∙ sym there) in
+    let len = rw same at c.put_reserved-before.ensures.len in
+    room_put _ _ _ _ _ (is_some _) (ap (λ s. s.room) c.self.view_is) c.put_reserved-before.ensures.capacity len
+
+pub returns-clause-count : goal.returns-clause-count
+returns-clause-count c =
+    count_put c.self.inside.entries.items c.self.inside.rules _ c.self.inside.capacity c.self.invariant c.args.self.now c.self.view_is c.args.pair c.args.rules c.put_reserved-before.new.entries.items c.put_reserved-before.ensures.items

@@ -1,0 +1,145 @@
+//! What the table makes of a frame.
+
+ghost use Rattle.std.specs.Prelude.{◌≡◌, ◌≤◌, ◌++◌, length, map, nat_eq, find, Some, IfOk, OnOk};
+ghost use Rattle.events.specs.Table.{done_by, first_match, frame_of, mac_of, out, tag_at};
+ghost use Rattle.net_types.specs.Frames.{headers_of};
+ghost use Rattle.match_switch.specs.Deciding.{actions_for, decided, decided_on};
+
+use crate::leaving::ascending;
+use crate::switch::Switch;
+use cube::has;
+use events::{Frame, Frames};
+use ip_frame::{headers, rewrite};
+use net_types::{Action, Headers, Items, Mac, Memory, Pair, PortInfo, PortNo, Rule, Tag};
+use std::alloc::Global;
+
+impl Switch {
+    /// What is done with a frame that comes in at a port: the actions of the first rule that has its headers, of the rules
+    /// of the port and the tag to whose MAC it goes. None where there is no such rule, or the frame has no headers or no
+    /// tag. It takes no memory.
+    pub fn decide(&self, port: PortNo, frame: &[u8]) -> &[Action]
+        ensures { result.now ≡ decided self.now.table port frame.now }
+    {
+        match headers(port, frame) {
+            Some(fields) => self.decide_on(port, frame, &fields),
+            None => &[],
+        }
+    }
+
+    /// The frames that leave where a frame comes in at a port, by port and then octets, each once: for each action of the
+    /// first rule that has its headers, the frame with the headers after that action, to the MAC of the router at the
+    /// action's port (all zeros where no such port is declared). Memory is the only refusal.
+    pub fn forward(
+        &self,
+        alloc: Global,
+        ports: &[PortInfo],
+        port: PortNo,
+        frame: &[u8],
+    ) -> Result<Frames, Memory>
+        ensures { IfOk result (λ frames. frames ≡ out ports.now frame.now (first_match self.now.table port frame.now)) }
+    {
+        let mut frames = Vec::new(alloc);
+        if let Some(fields) = headers(port, frame) {
+            let actions = self.decide_on(port, frame, &fields);
+            push_frames(alloc, ports, frame, &fields, actions, &mut frames)?;
+        }
+        Ok(Items::from_vec(ascending(frames)))
+    }
+
+    /// What is done with a frame that has these headers.
+    fn decide_on(&self, port: PortNo, frame: &[u8], fields: &Headers) -> &[Action]
+        requires { 6 ≤ length frame.now }
+        ensures { result.now ≡ decided_on self.now.table port frame.now fields.now }
+    {
+        let Some(tag) = tag_at(frame) else {
+            return &[];
+        };
+        match self.rules_of(Pair { port, tag }) {
+            Some(rules) => actions_for(rules, fields),
+            None => &[],
+        }
+    }
+}
+
+/// The actions of the first rule that has the headers; none where no rule has them.
+fn actions_for<'a>(rules: &'a [Rule], fields: &Headers) -> &'a [Action]
+    ensures { result.now ≡ actions_for rules.now fields.now }
+{
+    for rule in rules {
+        if has(&rule.cube, fields) {
+            return rule.actions.items();
+        }
+    }
+    &[]
+}
+
+/// Puts the frame as each of the actions sends it last.
+fn push_frames(
+    alloc: Global,
+    ports: &[PortInfo],
+    frame: &[u8],
+    fields: &Headers,
+    actions: &[Action],
+    frames: &mut Vec<Frame>,
+) -> Result<(), Memory>
+    requires { headers_of fields.now.inport frame.now ≡ Some fields.now }
+    ensures { OnOk result (frames.new.items ≡ frames.old.items ++ map (frame_of ports.now frame.now) (map (done_by fields.now) actions.now)) }
+{
+    for action in actions {
+        frames.push(frame_by(alloc, ports, frame, fields, action)?)?;
+    }
+    Ok(())
+}
+
+/// The frame as an action sends it.
+fn frame_by(
+    alloc: Global,
+    ports: &[PortInfo],
+    frame: &[u8],
+    fields: &Headers,
+    action: &Action,
+) -> Result<Frame, Memory>
+    requires { headers_of fields.now.inport frame.now ≡ Some fields.now }
+    ensures { IfOk result (λ sent. sent ≡ frame_of ports.now frame.now (done_by fields.now action.now)) }
+{
+    let to = action.set.apply(fields);
+    let mut bytes = Vec::from_slice(alloc, frame)?;
+    rewrite(bytes.as_mut_slice(), &to, mac_of(ports, action.port));
+    Ok(Frame {
+        port: action.port,
+        bytes: Items::from_vec(bytes),
+    })
+}
+
+/// The hardware address of the router at a port; all zeros where there is no such port.
+fn mac_of(ports: &[PortInfo], number: PortNo) -> Mac
+    ensures { result ≡ mac_of ports.now number }
+{
+    match find_port(ports, number) {
+        Some(port) => port.mac,
+        None => Mac([0; 6]),
+    }
+}
+
+/// The port of this number.
+fn find_port(ports: &[PortInfo], number: PortNo) -> Option<PortInfo>
+    ensures { result ≡ find (λ q. nat_eq q.number.0 number.0) ports.now }
+{
+    for port in ports {
+        if port.number == number {
+            return Some(*port);
+        }
+    }
+    None
+}
+
+/// The tag to whose MAC a frame goes.
+fn tag_at(frame: &[u8]) -> Option<Tag>
+    requires { 6 ≤ length frame.now }
+    ensures { result ≡ tag_at frame.now }
+{
+    if &frame[..3] != [2u8, 83, 68].as_slice() {
+        return None;
+    }
+    Some(Tag(65536 * u32::from(frame[3]) + 256 * u32::from(frame[4]) + u32::from(frame[5])))
+}

@@ -1,0 +1,12 @@
+//! The table of the switch: rules by port and tag, and what they make of a frame.
+#![tactic(auto)]
+
+mod forwarding;
+mod iter;
+mod leaving;
+mod switch;
+#[cfg(test)]
+mod tests;
+
+pub use iter::Iter;
+pub use switch::Switch;

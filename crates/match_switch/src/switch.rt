@@ -1,0 +1,161 @@
+//! The table, over a vector of pairs and their rules, in which the pairs rise.
+
+ghost use Rattle.std.specs.Prelude.{◌≡◌, ◌≤◌, ◌<◌, ◌+◌, ◌++◌, ◌^◌, [], length, None, IsOk, OnOk, IfOk, option_copied, is_some, unwrap_or, if◌then◌else◌};
+ghost use Rattle.std.specs.FinMap as map;
+ghost use Rattle.net_types.specs.Sets.{union_over};
+ghost use Rattle.events.specs.Fits.{flows_of};
+ghost use Rattle.match_switch.specs.Installed.{rule_count};
+
+use crate::iter::Iter;
+use events::{Flow, Flows};
+use net_types::{Items, Memory, Pair, Rule, TryCopy};
+use sorted_map::{put_reserved, take_out, value_at};
+use std::alloc::Global;
+use std::marker::Model;
+
+/// The rules of each pair of a port and a tag, and for how many rules there is room. Contracts see the map of the rules,
+/// how many new pairs go in without memory, and the capacity.
+#[derive(Drop)]
+pub struct Switch {
+    entries: Vec<(Pair, Items<Rule>)>,
+    /// How many rules there are.
+    rules: usize,
+    capacity: u32,
+}
+
+impl Model for Switch {
+    ghost use Rattle.std.specs.Prelude.{◌-◌};
+    ghost use Rattle.std.specs.Vec.{vec_len, vec_capacity};
+    ghost use Rattle.std.specs.Coded.{codes};
+    ghost use Rattle.std.specs.FinMap as map;
+    ghost use Rattle.match_switch.specs.Installed.{Installed, IsKept};
+
+    ghost Value = { Installed };
+
+    ghost coded = { Prim.hlevel (codes, map.code) };
+
+    ghost view = { λ a. record { table = map.from_sorted a.entries.items; room = vec_capacity a.entries - vec_len a.entries; capacity = a.capacity } };
+
+    ghost invariant = { λ a. IsKept a.entries.items a.rules };
+}
+
+impl Switch {
+    /// A table without rules.
+    pub fn new(alloc: Global, capacity: u32) -> Switch
+        ensures table { result.table ≡ map.empty }
+        ensures capacity { result.capacity ≡ capacity }
+    {
+        Switch {
+            entries: Vec::new(alloc),
+            rules: 0,
+            capacity,
+        }
+    }
+
+    /// There is room for another number of rules; those in the table stay.
+    pub fn set_capacity(&mut self, capacity: u32)
+        ensures { self.new ≡ record self.old { capacity = capacity } }
+    {
+        self.capacity = capacity;
+    }
+
+    /// For how many rules there is room.
+    pub fn capacity(&self) -> u32
+        ensures { result ≡ self.now.capacity }
+    {
+        self.capacity
+    }
+
+    /// How many rules there are.
+    pub fn rules(&self) -> usize
+        ensures { result ≡ rule_count self.now.table }
+    {
+        self.rules
+    }
+
+    /// The rules of a pair, in their order, where it has some.
+    pub fn rules_of(&self, pair: Pair) -> Option<&[Rule]>
+        ensures { option_copied result ≡ map.get self.now.table pair }
+    {
+        match value_at(&self.entries, &pair) {
+            Some(rules) => Some(rules.items()),
+            None => None,
+        }
+    }
+
+    /// Makes room for so many new pairs. It takes memory only where there is less.
+    pub fn reserve(&mut self, pairs: usize) -> Result<(), Memory>
+        ensures table { self.new.table ≡ self.old.table }
+        ensures capacity { self.new.capacity ≡ self.old.capacity }
+        ensures room { OnOk result (pairs ≤ self.new.room) }
+        ensures kept { self.old.room ≤ self.new.room }
+        ensures enough { pairs ≤ self.old.room → IsOk result }
+    {
+        self.entries.reserve(pairs)?;
+        Ok(())
+    }
+
+    /// The rules of a pair become these. A new pair needs room, and uses one place of it.
+    pub fn put(&mut self, pair: Pair, rules: Items<Rule>)
+        requires room { map.get self.old.table pair ≡ None → 0 < self.old.room }
+        requires few { rule_count self.old.table + length rules < 2 ^ 64 }
+        ensures table { self.new.table ≡ map.insert self.old.table pair rules }
+        ensures capacity { self.new.capacity ≡ self.old.capacity }
+        ensures room { self.old.room ≤ self.new.room + (if is_some (map.get self.old.table pair) then 0 else 1) }
+        ensures count { rule_count self.new.table + length (unwrap_or (map.get self.old.table pair) []) ≡ rule_count self.old.table + length rules }
+    {
+        let added = rules.len();
+        let before = put_reserved(&mut self.entries, pair, rules);
+        self.rules = self.rules + added - count(before);
+    }
+
+    /// The rules of a pair go. Its place is room again.
+    pub fn remove(&mut self, pair: Pair)
+        ensures table { self.new.table ≡ map.remove self.old.table pair }
+        ensures capacity { self.new.capacity ≡ self.old.capacity }
+        ensures room { self.old.room + (if is_some (map.get self.old.table pair) then 1 else 0) ≤ self.new.room }
+        ensures count { rule_count self.new.table + length (unwrap_or (map.get self.old.table pair) []) ≡ rule_count self.old.table }
+    {
+        let before = take_out(&mut self.entries, &pair);
+        self.rules -= count(before);
+    }
+
+    /// The pairs with their rules, ascending by port, and then by tag. It takes no memory.
+    pub fn iter(&self) -> Iter<'_>
+        ensures { result ≡ map.entries self.now.table }
+    {
+        Iter::new(&self.entries)
+    }
+
+    /// Copies of all rules, by port, tag and order. Memory is the only refusal.
+    pub fn flows(&self, alloc: Global) -> Result<Flows, Memory>
+        ensures { IfOk result (λ flows. flows ≡ union_over flows_of (map.entries self.now.table)) }
+    {
+        let mut flows = Items::new(alloc);
+        for (pair, rules) in self.iter() {
+            push_flows(&mut flows, pair, rules)?;
+        }
+        Ok(flows)
+    }
+}
+
+/// How many rules there are of a pair.
+fn count(rules: Option<Items<Rule>>) -> usize
+    ensures { result ≡ length (unwrap_or rules []) }
+{
+    match rules {
+        None => 0,
+        Some(rules) => rules.len(),
+    }
+}
+
+/// Puts copies of a pair's rules last.
+fn push_flows(flows: &mut Flows, pair: Pair, rules: &[Rule]) -> Result<(), Memory>
+    ensures { OnOk result (flows.new ≡ flows.old ++ flows_of (pair, rules.now)) }
+{
+    for rule in rules {
+        let rule = rule.copy()?;
+        flows.push(Flow { pair, rule })?;
+    }
+    Ok(())
+}
