@@ -50,6 +50,7 @@ impl Pool {
     /// Takes the least free tag; none where all are taken.
     pub fn take_least(&mut self) -> Option<Tag>
         ensures value { result ≡ slice_get (free_tags self.old) 0 }
+        ensures within { IfSome result (IsTag self.old) }
         ensures after { MatchOption result (self.new ≡ self.old) (λ t. self.new ≡ marked self.old t true) }
     {
         let at = first_free(self.taken.as_slice(), self.least);
@@ -65,7 +66,8 @@ impl Pool {
 
     /// The least free tag that is greater than `after`, or the least of all; it stays free.
     pub fn next_free(&self, after: Option<Tag>) -> Option<Tag>
-        ensures { result ≡ find (is_above after) (free_tags self.now) }
+        ensures value { result ≡ find (is_above after) (free_tags self.now) }
+        ensures within { IfSome result (IsTag self.now) }
     {
         match after {
             None => self.free_above(0),
@@ -125,7 +127,8 @@ impl Pool {
 
     // The least free tag with a greater number.
     fn free_above(&self, number: usize) -> Option<Tag>
-        ensures { (p : Tag → Bool) → ((t : Tag) → 0 < t.0 → t.0 ≤ number → p t ≡ false) → ((t : Tag) → number < t.0 → p t ≡ true) → result ≡ find p (free_tags self.now) }
+        ensures value { (p : Tag → Bool) → ((t : Tag) → 0 < t.0 → t.0 ≤ number → p t ≡ false) → ((t : Tag) → number < t.0 → p t ≡ true) → result ≡ find p (free_tags self.now) }
+        ensures within { IfSome result (IsTag self.now) }
     {
         let from = self.least.max(number);
         let at = first_free(self.taken.as_slice(), from);

@@ -4,6 +4,18 @@ use crate::{Pool, vmac};
 use net_types::{Ip, Mac, Tag};
 use std::test::Fail;
 
+// The tag with this address is given back, where it is taken.
+fn give_back(pool: &mut Pool, ip: Ip) -> bool {
+    let Some(tag) = pool.tag_at(ip) else {
+        return false;
+    };
+    if !pool.is_taken(tag) {
+        return false;
+    }
+    pool.give_back(tag);
+    true
+}
+
 #[test]
 fn tags_are_taken_and_given_back(rt: HostRuntime) -> Result<(), Fail> {
     let mut pool = Pool::new(rt.alloc(), Ip(100), 3)?;
@@ -13,9 +25,9 @@ fn tags_are_taken_and_given_back(rt: HostRuntime) -> Result<(), Fail> {
     }
     assert!(rt; pool.take_least() == None);
     assert!(rt; pool.next_free(None) == None);
-    pool.give_back(Tag(3));
-    pool.give_back(Tag(1));
-    assert!(rt; pool.is_taken(Tag(2)) && !pool.is_taken(Tag(3)));
+    assert!(rt; give_back(&mut pool, Ip(103)));
+    assert!(rt; give_back(&mut pool, Ip(101)));
+    assert!(rt; !give_back(&mut pool, Ip(101)));
     let rows = [
         (None, Some(Tag(1))),
         (Some(Tag(1)), Some(Tag(3))),

@@ -102,6 +102,6 @@ pub other_prefixes_keep_their_tags : (m : FinMap prefix_cmp Tag) (cs : List Chan
 other_prefixes_keep_their_tags m [] p other = refl
 other_prefixes_keep_their_tags m (c ∷ cs) p other =
     let apart = false_from_ne_true (eq_by_cmp prefix_cmp p c.0) (λ tie.
-        let same : p ≡ c.0 = same_from_tie prefix_cmp prefix_cmp-IsAntisymmetric p c.0 tie in
-        other c.1 (inl (λ i. (same i, c.1)))) in
+    let same : p ≡ c.0 = same_from_tie prefix_cmp prefix_cmp-IsAntisymmetric p c.0 tie in
+    other c.1 (inl (λ i. (same i, c.1)))) in
     other_prefixes_keep_their_tags (with_change m c.0 c.1) cs p (λ after member. other after (inr member)) ∙ get_other m c.0 p c.1 apart

@@ -92,6 +92,14 @@ new_ones-insert m x t (p ∷ ps) =
     let first = subst (λ o. missing o ≤ missing (get m p)) (sym (get-insert prefixes_total m x t p)) (missing_less (eq_by_cmp prefix_cmp p x) t (get m p)) in
     omega (arith, rest, first)
 
+missing_one : (o : Option Tag) → missing o ≤ 1
+missing_one None = omega arith
+missing_one (Some t) = omega arith
+
+pub new_ones_are_few : (m : FinMap prefix_cmp Tag) (ps : List Prefix) → new_ones m ps ≤ length ps
+new_ones_are_few m [] = omega arith
+new_ones_are_few m (p ∷ ps) = let first = missing_one (get m p) in let rest = new_ones_are_few m ps in omega (arith, first, rest)
+
 -- one prefix more is given the tag
 pub given_more : (t : Tag) (ps : List Prefix) (i : ℕ) (x d : Prefix) (m n : FinMap prefix_cmp Tag) → i < length ps → x ≡ get_or ps i d → n ≡ insert m x t
     → (given t (drop i ps) m ≡ given t (drop (i + 1) ps) n) × (missing (get m x) + new_ones n (drop (i + 1) ps) ≤ new_ones m (drop i ps))

@@ -1,12 +1,12 @@
 -- How the numbers of members change with the tags of prefixes.
-use Rattle.std.specs.Prelude.{◌≡◌, ◌↔◌, ℕ, ◌+◌, List, [], ◌∷◌, map, Option, Some, None, unwrap_or}
+use Rattle.std.specs.Prelude.{◌≡◌, ◌↔◌, ℕ, ◌+◌, ◌≤◌, List, [], ◌∷◌, map, length, Option, Some, None, unwrap_or}
 use Rattle.std.specs.FinMap.{FinMap, get, insert, remove, find}
 use Rattle.net_types.specs.Keys.{prefix_cmp}
 use Rattle.net_types.specs.Sets.{IsRising, Member}
 use Rattle.net_types.specs.UpdateSpelling.{is_before}
 use Rattle.net_types.specs.declared.address.Tag.{Tag}
 use Rattle.net_types.specs.declared.prefix.Prefix.{Prefix}
-use Rattle.prefix_classes.specs.Classes.{has_tag, is_tag, members}
+use Rattle.prefix_classes.specs.Classes.{has_tag, is_tag, members, new_ones}
 
 -- a prefix that is given a tag counts for it, and no more for the one it had
 abbrev pub MembersAfterInsert : Type 0
@@ -19,6 +19,10 @@ MembersAfterRemove = (m : FinMap prefix_cmp Tag) (p : Prefix) (u : Tag) → memb
 -- a tag has no members exactly where no prefix has it
 abbrev pub NoMembersNoPrefix : Type 0
 NoMembersNoPrefix = (m : FinMap prefix_cmp Tag) (t : Tag) → (members m t ≡ 0) ↔ ((p : Prefix) → ¬ (get m p ≡ Some t))
+
+-- no more prefixes are new than there are prefixes
+abbrev pub NewOnesAreFew : Type 0
+NewOnesAreFew = (m : FinMap prefix_cmp Tag) (ps : List Prefix) → new_ones m ps ≤ length ps
 
 -- a prefix with its new tag, or with none
 abbrev pub Change : Type 0

@@ -1,6 +1,6 @@
 //! Laws of counting members. The functions have empty bodies, and their contracts are the laws.
 
-ghost use Rattle.prefix_classes.specs.Laws.{MembersAfterInsert, MembersAfterRemove, NoMembersNoPrefix, ChangesAreCounted, TagsAfterChanges, ChangedHaveNewTags, OthersKeepTheirs};
+ghost use Rattle.prefix_classes.specs.Laws.{MembersAfterInsert, MembersAfterRemove, NoMembersNoPrefix, ChangesAreCounted, TagsAfterChanges, ChangedHaveNewTags, OthersKeepTheirs, NewOnesAreFew};
 
 /// A prefix that is given a tag counts for it, and no more for the one it had.
 pub fn members_after_insert()
@@ -35,4 +35,9 @@ pub fn changed_prefixes_have_new_tags()
 /// After changes, all other prefixes have the tags they had.
 pub fn other_prefixes_keep_their_tags()
     ensures { OthersKeepTheirs }
+{}
+
+/// No more prefixes of a list are new than it has.
+pub fn new_ones_are_few()
+    ensures { NewOnesAreFew }
 {}

@@ -1,11 +1,12 @@
 -- What a search finds among entries whose keys rise, and what stands at that place.
-use Rattle.std.proofs.Common.{◌≡◌, ℕ, true, List, length, get_or, IfOk, IfErr, Result, Ok, Err, sym, subst}
+use Rattle.std.proofs.Common.{◌≡◌, ℕ, true, List, length, get_or, IfOk, IfErr, Result, Ok, Err, sym, ap, subst, ◌∙◌}
 use Rattle.std.specs.List.Sorted.{IsSearchInRange, IsBinarySearchResult}
 use Rattle.std.specs.Cmp.{IsTotalOrder}
 use Rattle.std.specs.declared.cmp.Ordering.{Ordering}
 use Rattle.std.specs.FinMap.Entries.{is_sorted}
-use Rattle.net_types.proofs.PlaceLemmas.{IsFoundAt, IsMissedAt, comparisons_rise, found_at, missed_at}
-use Rattle.sorted_map.specs.Places.{IsAt, IsGapFor}
+use Rattle.std.specs.FinMap.Entries.{put}
+use Rattle.net_types.proofs.PlaceLemmas.{IsFoundAt, IsMissedAt, comparisons_rise, found_at, missed_at, put_sorted, without_sorted}
+use Rattle.sorted_map.specs.Places.{IsAt, IsGapFor, without}
 
 -- a binary search ends at the key, or at the gap for it
 pub searched : {K V : Type 0} (R : K → K → Ordering) (o : IsTotalOrder R) (es : List (K × V)) (key : K) (r : Result ℕ ℕ) → is_sorted R es ≡ true → IsSearchInRange r (length es) → IsBinarySearchResult (λ e. R e.0 key) es r → IfOk r (IsAt R es key) × IfErr r (IsGapFor R es key)
@@ -25,3 +26,10 @@ module _ {K V : Type 0} (R : K → K → Ordering) (o : IsTotalOrder R) {slice e
   missed gap =
       let here = subst (λ ds. IsGapFor R ds key at) same gap in
       missed_at R o key es at here.in_range here.less_before here.greater_after
+
+-- entries that are what a put or a removal makes of rising ones rise
+pub put_rises : {K V : Type 0} (R : K → K → Ordering) (o : IsTotalOrder R) (es fs : List (K × V)) (key : K) (value : V) → is_sorted R es ≡ true → fs ≡ put R key value es → is_sorted R fs ≡ true
+put_rises R o es fs key value sorted is = ap (is_sorted R) is ∙ put_sorted R o key value es sorted
+
+pub without_rises : {K V : Type 0} (R : K → K → Ordering) (es fs : List (K × V)) (key : K) → is_sorted R es ≡ true → fs ≡ without R key es → is_sorted R fs ≡ true
+without_rises R es fs key sorted is = ap (is_sorted R) is ∙ without_sorted R key es sorted

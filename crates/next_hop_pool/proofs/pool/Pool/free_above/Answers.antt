@@ -4,8 +4,8 @@ use Rattle.next_hop_pool.specs.Free.{free_tags, tag}
 use Rattle.next_hop_pool.proofs.FreeLemmas.{place_free, find_free, find_no_free, free_by_place}
 use Rattle.next_hop_pool.proofs.pool.Pool.free_above.Goals as goal
 
-pub returns-then-at-len : goal.returns-then-at-len
-returns-then-at-len c = λ p low high.
+pub returns-then-at-len-clause-value : goal.returns-then-at-len-clause-value
+returns-then-at-len-clause-value c = λ p low high.
     let skipped = place_free c.self.inside.taken.items c.self.inside.least c.args.number c.max-from.result c.first_free-at.result c.self.invariant.full c.max-from.ensures (λ k from below. ap (λ bs. get_or bs k true) (sym c.as_slice.ensures.value) ∙ c.first_free-at.ensures.skipped k from below) p low in
     let within : c.first_free-at.result < length c.self.inside.taken.items = omega (arith, c.if-at-len.true, c.len.ensures, ap length c.as_slice.ensures.value, c.as_slice.ensures.len) in
     let turn : 1 + c.first_free-at.result ≡ c.first_free-at.result + 1 = omega arith in
@@ -13,8 +13,8 @@ returns-then-at-len c = λ p low high.
     let above : c.args.number < 1 + c.first_free-at.result = omega (arith, c.first_free-at.ensures.from, c.max-from.ensures) in
     ap (λ n. Some (tag n)) (sym turn) ∙ sym (find_free p 1 c.self.inside.taken.items c.first_free-at.result within skipped free (high (tag (1 + c.first_free-at.result)) above)) ∙ sym (ap (find p) (free_by_place c.self.inside.taken.items)) ∙ ap (λ s. find p (free_tags s)) c.self.view_is
 
-pub returns : goal.returns
-returns c = λ p low high.
+pub returns-clause-value : goal.returns-clause-value
+returns-clause-value c = λ p low high.
     let skipped = place_free c.self.inside.taken.items c.self.inside.least c.args.number c.max-from.result c.first_free-at.result c.self.invariant.full c.max-from.ensures (λ k from below. ap (λ bs. get_or bs k true) (sym c.as_slice.ensures.value) ∙ c.first_free-at.ensures.skipped k from below) p low in
     let past : length c.self.inside.taken.items ≤ c.first_free-at.result = omega (arith, c.if-at-len.false, c.len.ensures, ap length c.as_slice.ensures.value, c.as_slice.ensures.len) in
     sym (find_no_free p 1 c.self.inside.taken.items (λ k below. skipped k (omega arith))) ∙ sym (ap (find p) (free_by_place c.self.inside.taken.items)) ∙ ap (λ s. find p (free_tags s)) c.self.view_is
