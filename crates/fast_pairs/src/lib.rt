@@ -5,6 +5,8 @@ mod ascending;
 pub mod emptied;
 mod forward;
 mod pairs;
+#[cfg(test)]
+mod tests;
 mod theorem;
 
 pub use forward::{Forward, Fresh};
