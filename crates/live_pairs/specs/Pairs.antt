@@ -1,0 +1,85 @@
+-- The pairs that go with tags that no prefix has any more, and those that come with fresh tags (this exchange's own rule).
+use Rattle.std.specs.Prelude.{Bool, not, List, [], ◌∷◌, ◌++◌, map, filter, slice_get, unwrap_or, if◌then◌else◌}
+use Rattle.std.specs.FinMap.{FinMap, empty, get}
+use Rattle.std.specs.List.{list_any}
+use Rattle.std.specs.Ordering.{nat_cmp, ordering_then}
+use Rattle.std.specs.declared.cmp.Ordering.{Ordering}
+use Rattle.events.specs.declared.Entry.{Entry}
+use Rattle.events.specs.Tags.{tells}
+use Rattle.events.specs.declared.Flow.{Flow}
+use Rattle.exchange_laws.specs.Rules.{rule_to}
+use Rattle.live_pairs.specs.declared.forward.Forward.{Forward}
+use Rattle.net_types.specs.Answers.{offered_port}
+use Rattle.net_types.specs.Keys.{pair_cmp, prefix_cmp, tag_cmp}
+use Rattle.net_types.specs.Maps.{ordered}
+use Rattle.net_types.specs.Sets.{union_over}
+use Rattle.net_types.specs.declared.address.Pid.{Pid}
+use Rattle.net_types.specs.declared.address.PortNo.{PortNo}
+use Rattle.net_types.specs.declared.address.Tag.{Tag}
+use Rattle.net_types.specs.declared.route.Part.{Part}
+use Rattle.net_types.specs.declared.rule.Pair.{Pair}
+use Rattle.registry.specs.Registered.{Registered, ports_of}
+
+-- what each participant was told, in order of declaration
+abbrev pub Told : Type 0
+Told = List (FinMap prefix_cmp Entry)
+
+-- the participant was told the tag; one that has no place in the list was told nothing
+abbrev pub was_told : Told → Pid → Tag → Bool
+was_told told who t = tells (unwrap_or (slice_get told who.0) empty) t
+
+-- a tag at a port
+abbrev pub pair_at : Tag → PortNo → Pair
+pair_at t port = record { port = port; tag = t }
+
+-- ---- the pairs that go
+
+-- the tag at the ports of a part's sender, unless the sender was told the tag
+abbrev pub part_pairs : Registered → Told → Tag → Part → List Pair
+part_pairs names told t part = if was_told told part.sender t then [] else map (pair_at t) (ports_of names part.sender)
+
+-- the pairs of the senders in the signature that was kept for a tag
+abbrev pub tag_pairs : Registered → FinMap tag_cmp (List Part) → Told → Tag → List Pair
+tag_pairs names kept told t = union_over (part_pairs names told t) (unwrap_or (get kept t) [])
+
+-- the pairs that go with these tags, in order
+abbrev pub gone_pairs : Registered → FinMap tag_cmp (List Part) → Told → List Tag → List Pair
+gone_pairs names kept told ts = ordered pair_cmp (union_over (tag_pairs names kept told) ts)
+
+-- ---- the pairs that come
+
+-- by pair, and then by port
+abbrev pub forward_cmp : Forward → Forward → Ordering
+forward_cmp a b = ordering_then (pair_cmp a.pair b.pair) (nat_cmp a.to.0 b.to.0)
+
+-- everything with the tag at a port leaves by the port of the part's best offer
+abbrev pub forward : Tag → Part → PortNo → Forward
+forward t part port = record { pair = pair_at t port; to = offered_port part.offers part.best }
+
+-- so it is at each port of the part's sender
+abbrev pub part_forwards : Registered → Tag → Part → List Forward
+part_forwards names t part = map (forward t part) (ports_of names part.sender)
+
+-- and for each part of each signature, with the tag at its place
+abbrev pub forwards : Registered → List (List Part) → List Tag → List Forward
+forwards names [] ts = []
+forwards names (sig ∷ sigs) [] = []
+forwards names (sig ∷ sigs) (t ∷ ts) = union_over (part_forwards names t) sig ++ forwards names sigs ts
+
+-- the rule of a pair
+abbrev pub flow_of : Forward → Flow
+flow_of f = record { pair = f.pair; rule = rule_to f.to }
+
+-- the pairs that come with these tags, with their rules, in order
+abbrev pub new_flows : Registered → List (List Part) → List Tag → List Flow
+new_flows names sigs ts = map flow_of (ordered forward_cmp (forwards names sigs ts))
+
+-- ---- the tags that are live no more
+
+-- somebody was told the tag
+abbrev pub is_told : Told → Tag → Bool
+is_told told t = list_any (λ entries. tells entries t) told
+
+-- those of the tags that nobody was told
+abbrev pub untold : Told → List Tag → List Tag
+untold told ts = filter (λ t. not (is_told told t)) ts
