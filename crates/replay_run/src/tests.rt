@@ -2,6 +2,7 @@
 ghost use Rattle.std.specs.Prelude.{◌≡◌, Some};
 
 mod inputs;
+mod routes;
 
 use crate::{Failed, Sink, SinkFault, SinkOf, SinkOk, Source, SourceOf, SourceOk, Status, run};
 use inputs::{
@@ -9,6 +10,10 @@ use inputs::{
     REFUSALS_OUTPUT, TWO_PREFIXES_INPUT, TWO_PREFIXES_OUTPUT,
 };
 use net_types::{Items, Memory, Steps, Text, Words};
+use routes::{
+    EXPORT_RULES_INPUT, EXPORT_RULES_OUTPUT, SAME_AS_INPUT, SAME_AS_OUTPUT, SMALL_POOL_INPUT,
+    SMALL_POOL_OUTPUT, TAKEN_INPUT, TAKEN_OUTPUT,
+};
 use sdx_core::Sdx;
 use std::alloc::Global;
 use std::marker::Brand;
@@ -325,16 +330,76 @@ fn exchange_cases<'c>() -> [Case<'c>; 4] {
     ]
 }
 
+fn route_cases<'c>() -> [Case<'c>; 4] {
+    [
+        replays(
+            "MULTI_EXIT_DISC among routes of one AS",
+            SAME_AS_INPUT.as_bytes(),
+            Status::Done,
+            SAME_AS_OUTPUT,
+        ),
+        replays(
+            "a pool that is too small",
+            SMALL_POOL_INPUT.as_bytes(),
+            Status::Refused,
+            SMALL_POOL_OUTPUT,
+        ),
+        replays(
+            "export rules",
+            EXPORT_RULES_INPUT.as_bytes(),
+            Status::Refused,
+            EXPORT_RULES_OUTPUT,
+        ),
+        replays(
+            "names and ports that are taken",
+            TAKEN_INPUT.as_bytes(),
+            Status::Refused,
+            TAKEN_OUTPUT,
+        ),
+    ]
+}
+
+/// 256 participants and one more.
+fn participants(alloc: Global) -> Result<String, Memory> {
+    let mut lines = String::new(alloc);
+    lines.push_str("exchange 172.16.0.0 8 64\n")?;
+    for asn in 1..258u32 {
+        let high = asn / 256;
+        let low = asn % 256;
+        write!(lines, "participant P{asn} {asn} 1.0.{high}.{low}\n")?;
+    }
+    Ok(lines)
+}
+
+/// All lines but the last are accepted.
+fn one_too_many(alloc: Global) -> Result<String, Memory> {
+    let mut replies = String::new(alloc);
+    for number in 1..258u32 {
+        write!(replies, "{number} ok\n")?;
+    }
+    replies.push_str("258 refused full\n")?;
+    Ok(replies)
+}
+
 #[test]
 fn runs_end_and_write_as_they_should(rt: HostRuntime) -> Result<(), Fail> {
     let longest = vec![in rt.alloc(); b'#'; 20000]?;
     let longer = vec![in rt.alloc(); b'#'; 20001]?;
     let far_longer = vec![in rt.alloc(); b'#'; 200000]?;
+    let many = participants(rt.alloc())?;
+    let full = one_too_many(rt.alloc())?;
     let mut cases = Vec::from_slice(rt.alloc(), &cases_without_lines())?;
     cases.extend_from_slice(&skipped_cases())?;
     cases.extend_from_slice(&refused_cases())?;
     cases.extend_from_slice(&long_cases(&longest, &longer, &far_longer))?;
     cases.extend_from_slice(&exchange_cases())?;
+    cases.extend_from_slice(&route_cases())?;
+    cases.push(replays(
+        "a participant too many",
+        many.as_bytes(),
+        Status::Refused,
+        full.as_str(),
+    ))?;
     for case in &cases {
         let passed = passes::<Brand>(&rt, Blank::new(1), *case)?;
         assert!(rt; passed, "{}", case.name);

@@ -1,14 +1,14 @@
 -- What a line gives is well formed.
-use Rattle.std.proofs.Common.{◌≡◌, ℕ, ◌+◌, ◌≤◌, Bool, true, false, cond, ◌&&◌, List, [], ◌∷◌, refl, nat_le, nat_eq, not, Option, Some, None, codes}
+use Rattle.std.proofs.Common.{◌≡◌, ℕ, ◌+◌, ◌≤◌, ◌<◌, Bool, true, false, cond, ◌&&◌, List, [], ◌∷◌, refl, nat_le, nat_lt, nat_eq, not, take, drop, length, Option, Some, None, codes}
 use Rattle.std.specs.Prelude.{IfSome, IsTrue}
-use Rattle.std.specs.Option.{option_map, option_and_then}
+use Rattle.std.specs.Option.{option_map, option_map_or, option_and_then}
 use Rattle.std.proofs.lemmas.Bool.{and_parts, leb-true}
 use Rattle.net_types.specs.declared.address.Ip.{Ip}
 use Rattle.net_types.specs.declared.address.PortNo.{PortNo}
 use Rattle.events.specs.declared.Event.{Event}
-use Rattle.events.specs.declared.Event.TheVariants.{Exchange, Participant, Port, Update, Drain, Arp, Resolve, Packet, Frame}
+use Rattle.events.specs.declared.Event.TheVariants.{Exchange, Participant, Port, Update, Down, Export, Drain, Arp, Resolve, Packet, Frame}
 use Rattle.events.specs.Fits.{IsWellFormed}
-use Rattle.events.specs.Lines.{only_if, number, number_within, port_number, as_number, address, hardware_address, is_name, name, bytes, exchange_event, exchange_line, participant_line, port_line, update_line, is_word, or_bad, event_of_words}
+use Rattle.events.specs.Lines.{only_if, number, number_within, port_number, as_number, address, hardware_address, is_name, name, is_utf8, is_text, bytes, first_space, exchange_event, exchange_line, participant_line, port_line, update_line, export_line, is_word, or_bad, pieces, event_of_word, event_of_words, event_of_verb, event_of_line}
 
 then_holds : {X Y : Type 0} (P : X → Type 0) (Q : Y → Type 0) (o : Option X) (f : X → Option Y) → IfSome o P → ((x : X) → P x → IfSome (f x) Q) → IfSome (option_and_then f o) Q
 then_holds P Q None f h next = tt
@@ -95,6 +95,20 @@ resolve_formed a = map_holds (λ n. (1 ≤ n.0) × (n.0 ≤ 65279)) IsWellFormed
 drain_formed : (a : List ℕ) → IfSome (option_map (λ who. Drain who) (name a)) IsWellFormed
 drain_formed a = map_holds (λ who. IsTrue (is_name who)) IsWellFormed (name a) (λ who. Drain who) (name_holds a) (λ who n. n)
 
+down_formed : (a : List ℕ) → IfSome (option_map (λ who. Down who) (name a)) IsWellFormed
+down_formed a = map_holds (λ who. IsTrue (is_name who)) IsWellFormed (name a) (λ who. Down who) (name_holds a) (λ who n. n)
+
+-- what is taken as a text is UTF-8
+text_holds : (text : List ℕ) → IfSome (only_if is_text (Some text)) (λ t. IsTrue (is_utf8 t))
+text_holds text =
+    only_holds (λ t. Unit {0}) (λ t. IsTrue (is_utf8 t)) is_text (Some text) tt (λ t any passes. (and_parts (nat_lt 0 (length t)) (is_utf8 t) passes).1)
+
+export_formed : (rest : List ℕ) → IfSome (export_line rest) IsWellFormed
+export_formed rest =
+    then_holds (λ at. Unit {0}) IsWellFormed (first_space rest) _ (any_holds (first_space rest))
+    (λ at any. then_holds (λ who. IsTrue (is_name who)) IsWellFormed (name (take at rest)) _ (name_holds (take at rest))
+    (λ who n. map_holds (λ t. IsTrue (is_utf8 t)) IsWellFormed (only_if is_text (Some (drop (at + 1) rest))) (λ t. Export who t) (text_holds (drop (at + 1) rest)) (λ t is. (n, is))))
+
 or_bad_formed : (o : Option Event) → IfSome o IsWellFormed → IsWellFormed (or_bad o)
 or_bad_formed None h = tt
 or_bad_formed (Some e) h = h
@@ -103,12 +117,13 @@ if_formed : (b : Bool) (e f : Event) → IsWellFormed e → IsWellFormed f → I
 if_formed true e f h k = h
 if_formed false e f h k = k
 
-pub words_formed : (ws : List (List ℕ)) → IsWellFormed (event_of_words ws)
+words_formed : (ws : List (List ℕ)) → IsWellFormed (event_of_words ws)
 words_formed [] = tt
 words_formed (w ∷ []) = if_formed (is_word w (codes "table")) _ _ tt tt
 words_formed (w ∷ a ∷ []) =
     if_formed (is_word w (codes "drain")) _ _ (or_bad_formed _ (drain_formed a))
-    (if_formed (is_word w (codes "resolve")) _ _ (or_bad_formed _ (resolve_formed a)) tt)
+    (if_formed (is_word w (codes "down")) _ _ (or_bad_formed _ (down_formed a))
+    (if_formed (is_word w (codes "resolve")) _ _ (or_bad_formed _ (resolve_formed a)) tt))
 words_formed (w ∷ a ∷ b ∷ []) =
     if_formed (is_word w (codes "update")) _ _ (or_bad_formed _ (update_formed a b))
     (if_formed (is_word w (codes "arp")) _ _ (or_bad_formed _ (at_port (λ n octets. Arp n octets) a b (λ n octets h. h)))
@@ -119,3 +134,17 @@ words_formed (w ∷ a ∷ b ∷ c ∷ []) =
     (if_formed (is_word w (codes "participant")) _ _ (or_bad_formed _ (participant_formed a b c)) tt)
 words_formed (w ∷ a ∷ b ∷ c ∷ d ∷ []) = if_formed (is_word w (codes "port")) _ _ (or_bad_formed _ (port_formed a b c d)) tt
 words_formed (w ∷ a ∷ b ∷ c ∷ d ∷ e ∷ others) = tt
+
+verb_formed : (w rest : List ℕ) → IsWellFormed (event_of_verb w rest)
+verb_formed w rest = if_formed (is_word w (codes "export")) _ _ (or_bad_formed _ (export_formed rest)) (words_formed (w ∷ pieces 32 rest))
+
+word_formed : (w : List ℕ) → IsWellFormed (event_of_word w)
+word_formed w = if_formed (is_word w (codes "table")) _ _ tt tt
+
+at_formed : (line : List ℕ) (o : Option ℕ) → IsWellFormed (option_map_or (λ at. event_of_verb (take at line) (drop (at + 1) line)) o (event_of_word line))
+at_formed line None = word_formed line
+at_formed line (Some at) = verb_formed (take at line) (drop (at + 1) line)
+
+-- whatever a line says
+pub line_formed : (line : List ℕ) → IsWellFormed (event_of_line line)
+line_formed line = at_formed line (first_space line)

@@ -2,5 +2,6 @@ pub mod PieceSplits
 pub mod Numerals
 pub mod Verbs
 pub mod Formed
+pub mod Utf8
 pub mod HexFields
 pub mod LedFields

@@ -1,7 +1,7 @@
 //! The fields of a line: numbers, addresses, names and octets.
 ghost use Rattle.std.specs.Prelude.{◌≡◌, ◌≤◌, nat_le, IfOk, IfSome, option_copied};
 ghost use Rattle.std.specs.List.{list_all};
-ghost use Rattle.events.specs.Lines.{is_letter, is_name, is_name_octet, name, only_if, number_from, number_within, port_number, as_number, address, one_octet, hardware_address, bytes};
+ghost use Rattle.events.specs.Lines.{is_letter, is_name, is_name_octet, is_text, is_utf8, name, only_if, number_from, number_within, port_number, as_number, address, one_octet, hardware_address, bytes};
 
 use super::pieces::{four_pieces, split_once};
 use hex::FromHexError;
@@ -144,6 +144,19 @@ pub fn bytes(alloc: Global, text: &[u8]) -> Result<Option<Bytes>, Memory>
         Err(FromHexError::OutOfMemory) => Err(Memory),
         Err(_) => Ok(None),
     }
+}
+
+fn is_utf8(text: &[u8]) -> bool
+    ensures { result ≡ is_utf8 text.now }
+{
+    std::str::from_utf8(text).is_ok()
+}
+
+/// UTF-8 (RFC 3629) of at least one octet.
+pub fn is_text(text: &[u8]) -> bool
+    ensures { result ≡ is_text text.now }
+{
+    !text.is_empty() && is_utf8(text)
 }
 
 /// A list of these octets.

@@ -1,12 +1,12 @@
 //! Reading a line.
 ghost use Rattle.std.specs.Prelude.{◌≡◌, ◌∷◌, codes, nat_eq, not, IfOk, IfSome};
 ghost use Rattle.std.specs.Option.{option_map};
-ghost use Rattle.events.specs.declared.Event.TheVariants.{Arp, Frame, Packet, Participant, Port};
+ghost use Rattle.events.specs.declared.Event.TheVariants.{Arp, Export, Frame, Packet, Participant, Port};
 ghost use Rattle.events.specs.Fits.{IsWellFormed};
-ghost use Rattle.events.specs.Lines.{address, arp_line, event_of, event_of_word, event_of_words, frame_line, is_skipped, only_if, or_bad, packet_line, pieces, update_line};
+ghost use Rattle.events.specs.Lines.{address, arp_line, event_of, event_of_line, event_of_verb, event_of_word, event_of_words, export_line, frame_line, is_skipped, only_if, or_bad, packet_line, pieces, update_line};
 
 use super::fields::{
-    address, as_number, bytes, copied, hardware_address, name, number_within, port_number,
+    address, as_number, bytes, copied, hardware_address, is_text, name, number_within, port_number,
 };
 use super::pieces::{four_pieces, one_piece, split_once, three_pieces, two_pieces};
 use events::Event;
@@ -123,6 +123,43 @@ fn drain(alloc: Global, text: &[u8]) -> Result<Option<Event>, Memory>
     Ok(Some(Event::Drain { name }))
 }
 
+fn down(alloc: Global, text: &[u8]) -> Result<Option<Event>, Memory>
+    ensures { IfOk result (λ event. or_bad event ≡ event_of_words (codes "down" ∷ pieces 32 text.now)) }
+{
+    let Some(who) = one_piece(text, b' ') else {
+        return Ok(None);
+    };
+    let Some(who) = name(who) else {
+        return Ok(None);
+    };
+    let name = copied(alloc, who)?;
+    Ok(Some(Event::Down { name }))
+}
+
+/// A name and the text of its rules, which is all that stands behind the space.
+fn export_parts(text: &[u8]) -> Option<(&[u8], &[u8])>
+    ensures { option_map (λ p. Export p.0.now p.1.now) result ≡ export_line text.now }
+{
+    let (who, rules) = split_once(text, b' ')?;
+    let who = name(who)?;
+    if is_text(rules) {
+        Some((who, rules))
+    } else {
+        None
+    }
+}
+
+fn export(alloc: Global, text: &[u8]) -> Result<Option<Event>, Memory>
+    ensures { IfOk result (λ event. event ≡ export_line text.now) }
+{
+    let Some((name, rules)) = export_parts(text) else {
+        return Ok(None);
+    };
+    let name = copied(alloc, name)?;
+    let text = copied(alloc, rules)?;
+    Ok(Some(Event::Export { name, text }))
+}
+
 fn resolve(text: &[u8]) -> Option<Event>
     ensures { or_bad result ≡ event_of_words (codes "resolve" ∷ pieces 32 text.now) }
 {
@@ -194,14 +231,16 @@ fn word_event(word: &[u8]) -> Event
     }
 }
 
-/// The event of a line with this word before the first space and this text behind it.
-fn verb_event(alloc: Global, word: &[u8], rest: &[u8]) -> Result<Option<Event>, Memory>
+/// The event of a line whose words are this one and the pieces of this text.
+fn words_event(alloc: Global, word: &[u8], rest: &[u8]) -> Result<Option<Event>, Memory>
     ensures { IfOk result (λ event. or_bad event ≡ event_of_words (word.now ∷ pieces 32 rest.now)) }
 {
     if word == b"update".as_slice() {
         update(alloc, rest)
     } else if word == b"drain".as_slice() {
         drain(alloc, rest)
+    } else if word == b"down".as_slice() {
+        down(alloc, rest)
     } else if word == b"packet".as_slice() {
         packet(alloc, rest)
     } else if word == b"frame".as_slice() {
@@ -221,6 +260,17 @@ fn verb_event(alloc: Global, word: &[u8], rest: &[u8]) -> Result<Option<Event>, 
     }
 }
 
+/// The event of a line with this word before the first space and this text behind it.
+fn verb_event(alloc: Global, word: &[u8], rest: &[u8]) -> Result<Option<Event>, Memory>
+    ensures { IfOk result (λ event. or_bad event ≡ event_of_verb word.now rest.now) }
+{
+    if word == b"export".as_slice() {
+        export(alloc, rest)
+    } else {
+        words_event(alloc, word, rest)
+    }
+}
+
 /// An empty line and a comment.
 fn is_skipped(line: &[u8]) -> bool
     ensures { result ≡ is_skipped line.now }
@@ -229,7 +279,7 @@ fn is_skipped(line: &[u8]) -> bool
 }
 
 fn line_event(alloc: Global, line: &[u8]) -> Result<Event, Memory>
-    ensures { IfOk result (λ event. event ≡ event_of_words (pieces 32 line.now)) }
+    ensures { IfOk result (λ event. event ≡ event_of_line line.now) }
 {
     let Some((word, rest)) = split_once(line, b' ') else {
         return Ok(word_event(line));

@@ -1,10 +1,14 @@
 //! The pieces of a text, between separators.
-ghost use Rattle.std.specs.Prelude.{◌≡◌, ◌≢◌, ◌∷◌, [], length, MatchOption};
+ghost use Rattle.std.specs.Prelude.{◌≡◌, ◌≢◌, ◌+◌, ◌∷◌, [], length, take, drop, nat_eq, IfSome, MatchOption};
+ghost use Rattle.std.specs.List.{position_from};
 ghost use Rattle.events.specs.Lines.{pieces};
 
 /// What stands before the first separator and what stands behind it.
 pub fn split_once(text: &[u8], separator: u8) -> Option<(&[u8], &[u8])>
-    ensures { MatchOption result (pieces separator text.now ≡ text.now ∷ []) (λ p. pieces separator text.now ≡ p.0.now ∷ pieces separator p.1.now) }
+    ensures pieces { MatchOption result (pieces separator text.now ≡ text.now ∷ []) (λ p. pieces separator text.now ≡ p.0.now ∷ pieces separator p.1.now) }
+    ensures place { MatchOption result (position_from (λ c. nat_eq c separator) 0 text.now ≡ None) (λ p. position_from (λ c. nat_eq c separator) 0 text.now ≡ Some (length p.0.now)) }
+    ensures before { IfSome result (λ p. p.0.now ≡ take (length p.0.now) text.now) }
+    ensures behind { IfSome result (λ p. p.1.now ≡ drop (length p.0.now + 1) text.now) }
 {
     match text.iter().position(|c| *c == separator) {
         Some(at) => Some((&text[..at], &text[at + 1..])),

@@ -15,12 +15,18 @@ fn push_refusal(text: &mut String, refusal: Refusal) -> Result<(), Memory>
         Refusal::BadLine => text.push_str("line")?,
         Refusal::Misplaced => text.push_str("misplaced")?,
         Refusal::Unknown => text.push_str("unknown")?,
+        Refusal::Clash => text.push_str("clash")?,
+        Refusal::Full => text.push_str("full")?,
         Refusal::BadUpdate(fault) => {
             text.push_str("update ")?;
             text.push_str(fault.row().word)?;
         }
         Refusal::FirstAs => text.push_str("first-as")?,
         Refusal::NextHop => text.push_str("next-hop")?,
+        Refusal::TextLong => text.push_str("too-long")?,
+        Refusal::Syntax { at } => write!(text, "syntax {at}")?,
+        Refusal::NoNextHop { need, free } => write!(text, "no-next-hop {need} {free}")?,
+        Refusal::TableFull { rules, capacity } => write!(text, "table-full {rules} {capacity}")?,
         Refusal::BadPacket => text.push_str("packet")?,
     }
     Ok(())

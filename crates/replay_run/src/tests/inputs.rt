@@ -56,13 +56,16 @@ port D 4 172.16.1.4 02:00:00:00:00:04
 update B ffffffffffffffffffffffffffffffff002b0200000012400101004002040201fde9400304ac100102080a
 update B ffffffffffffffffffffffffffffffff002b0200000012400101004002040201fdea400304ac100101080a
 update B ffffffffffffffffffffffffffffffff002b0200000012400101004002040201fdea400304ac100102080a
-update B ffffffffffffffffffffffffffffffff002b0200000012400101004002040201fdea400304ac100102080a
+export B deny
+export B deny X *
 participant E 65005 1.0.0.5
 drain D
 frob
 update B 00
 packet 1 45
 arp 9 00
+down D
+export B
 ";
 
 pub const REFUSALS_OUTPUT: &str = "\
@@ -70,25 +73,28 @@ pub const REFUSALS_OUTPUT: &str = "\
 2 ok
 3 ok
 4 ok
-5 refused line
+5 refused clash
 6 refused line
 7 ok
 8 ok
-9 refused line
-10 refused line
+9 refused clash
+10 refused clash
 11 refused unknown
 12 refused first-as
 13 refused next-hop
 14 ok
   tag 10.0.0.0/8 1
   add 1 1 * -> 2
-15 refused line
-16 refused misplaced
-17 refused unknown
-18 refused line
-19 refused update bad-header
-20 refused packet
-21 refused unknown
+15 refused syntax 4
+16 refused unknown
+17 refused misplaced
+18 refused unknown
+19 refused line
+20 refused update bad-header
+21 refused packet
+22 refused unknown
+23 refused unknown
+24 refused line
 ";
 
 pub const TWO_PREFIXES_INPUT: &str = "\

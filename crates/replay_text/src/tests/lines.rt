@@ -7,7 +7,7 @@ use std::alloc::Global;
 use std::test::Fail;
 
 /// What is wrong with the second line, a line that is read, and the second line.
-const TWINS: [(&str, &str, &str); 67] = [
+const TWINS: [(&str, &str, &str); 80] = [
     (
         "a leading zero",
         "exchange 172.16.0.0 4096 100000",
@@ -167,6 +167,31 @@ const TWINS: [(&str, &str, &str); 67] = [
     ("two spaces before digits", "update B 00", "update B  00"),
     ("a space behind digits", "update B 00", "update B 00 "),
     ("digits for a name", "update B 00", "update 1 00"),
+    ("down without a name", "down A", "down"),
+    ("down with an empty name", "down A", "down "),
+    ("down with two names", "down B", "down B C"),
+    ("a digit in front of a name in down", "down B1", "down 1B"),
+    ("a longer word than down", "down B", "downs B"),
+    ("export without a name", "export B x", "export"),
+    ("export with an empty name", "export B x", "export  x"),
+    (
+        "a digit in front of a name in export",
+        "export B1 x",
+        "export 1B x",
+    ),
+    (
+        "two spaces before a name in export",
+        "export B x",
+        "export  B x",
+    ),
+    (
+        "a colon behind a name in export",
+        "export B x",
+        "export B: x",
+    ),
+    ("export without a text", "export B x", "export B"),
+    ("export with an empty text", "export B  ", "export B "),
+    ("export in upper case", "export B x", "EXPORT B x"),
     ("resolve without a port", "resolve 1", "resolve"),
     ("resolve with an empty port", "resolve 1", "resolve "),
     ("resolve 0", "resolve 1", "resolve 0"),
@@ -223,6 +248,8 @@ fn name_of(event: &Option<Event>) -> &[u8] {
         Some(Event::Participant { name, .. }) => name.items(),
         Some(Event::Port { name, .. }) => name.items(),
         Some(Event::Update { name, .. }) => name.items(),
+        Some(Event::Down { name }) => name.items(),
+        Some(Event::Export { name, .. }) => name.items(),
         Some(Event::Drain { name }) => name.items(),
         _ => &[],
     }
@@ -274,7 +301,69 @@ fn a_line_of_each_kind_is_read(rt: HostRuntime) -> Result<(), Fail> {
     );
     assert!(rt; name_of(&port) == b"A".as_slice());
     let drain = read_line(alloc, b"drain a")?;
+    assert!(rt; matches!(&drain, Some(Event::Drain { .. })));
     assert!(rt; name_of(&drain) == b"a".as_slice());
+    let down = read_line(alloc, b"down B")?;
+    assert!(rt; matches!(&down, Some(Event::Down { .. })));
+    assert!(rt; name_of(&down) == b"B".as_slice());
+    Ok(())
+}
+
+/// The text of export rules, where the line has one.
+fn text_of(event: &Option<Event>) -> Option<&[u8]> {
+    match event {
+        Some(Event::Export { text, .. }) => Some(text.items()),
+        _ => None,
+    }
+}
+
+/// Lines behind `export B `, which are texts as they stand; rules or not is told later.
+const TEXTS: [&[u8]; 11] = [
+    b"deny * *",
+    b" ",
+    b"  deny  * 10.0.0.0/8+ ; allow * * ",
+    b"x",
+    b"#",
+    b"export B x",
+    b"\0\t\r\x7f",
+    b"\xc2\x80",
+    b"\xe0\xa0\x80\xed\x9f\xbf",
+    b"\xf0\x90\x80\x80",
+    b"\xf4\x8f\xbf\xbf",
+];
+
+/// The same, which are no UTF-8 (RFC 3629).
+const NO_TEXTS: [&[u8]; 9] = [
+    b"\xff",
+    b"deny * *\xff",
+    b"\x80",
+    b"\xc2",
+    b"\xc2 \x80",
+    b"\xc0\x80",
+    b"\xe0\x9f\xbf",
+    b"\xed\xa0\x80",
+    b"\xf4\x90\x80\x80",
+];
+
+/// The event of `export B` with this text.
+fn export_event(alloc: Global, text: &[u8]) -> Result<Option<Event>, Memory> {
+    let mut line = Vec::from_slice(alloc, b"export B ")?;
+    line.extend_from_slice(text)?;
+    read_line(alloc, line.as_slice())
+}
+
+#[test]
+fn a_text_is_read_as_it_stands(rt: HostRuntime) -> Result<(), Fail> {
+    let alloc = rt.alloc();
+    for text in TEXTS {
+        let event = export_event(alloc, text)?;
+        assert!(rt; name_of(&event) == b"B".as_slice());
+        assert!(rt; text_of(&event) == Some(text));
+    }
+    for text in NO_TEXTS {
+        let event = export_event(alloc, text)?;
+        assert!(rt; matches!(event, Some(Event::Bad)));
+    }
     Ok(())
 }
 

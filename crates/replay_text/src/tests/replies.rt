@@ -209,7 +209,7 @@ fn a_reply_has_its_details_in_order(rt: HostRuntime) -> Result<(), Fail> {
 }
 
 /// What stands behind the number of a line.
-const HEADS: [(Head, &str); 21] = [
+const HEADS: [(Head, &str); 29] = [
     (Head::Fine, "ok"),
     (Head::Unrouted, "unrouted"),
     (Head::Unresolved(Ip(2886729730)), "unresolved 172.16.0.2"),
@@ -217,6 +217,32 @@ const HEADS: [(Head, &str); 21] = [
     (Head::Refused(Refusal::BadLine), "refused line"),
     (Head::Refused(Refusal::Misplaced), "refused misplaced"),
     (Head::Refused(Refusal::Unknown), "refused unknown"),
+    (Head::Refused(Refusal::Clash), "refused clash"),
+    (Head::Refused(Refusal::Full), "refused full"),
+    (Head::Refused(Refusal::TextLong), "refused too-long"),
+    (Head::Refused(Refusal::Syntax { at: 0 }), "refused syntax 0"),
+    (
+        Head::Refused(Refusal::Syntax { at: 4294967295 }),
+        "refused syntax 4294967295",
+    ),
+    (
+        Head::Refused(Refusal::NoNextHop { need: 1, free: 0 }),
+        "refused no-next-hop 1 0",
+    ),
+    (
+        Head::Refused(Refusal::NoNextHop {
+            need: 18446744073709551615,
+            free: 65536,
+        }),
+        "refused no-next-hop 18446744073709551615 65536",
+    ),
+    (
+        Head::Refused(Refusal::TableFull {
+            rules: 1000001,
+            capacity: 1000000,
+        }),
+        "refused table-full 1000001 1000000",
+    ),
     (Head::Refused(Refusal::FirstAs), "refused first-as"),
     (Head::Refused(Refusal::NextHop), "refused next-hop"),
     (Head::Refused(Refusal::BadPacket), "refused packet"),

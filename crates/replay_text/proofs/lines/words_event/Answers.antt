@@ -4,14 +4,14 @@ use Rattle.std.specs.Cmp.Lexicographic.{same_text}
 use Rattle.events.specs.Lines.{event_of_words, or_bad, pieces}
 use Rattle.replay_text.proofs.PieceSplits.{pieces_some}
 use Rattle.replay_text.proofs.Verbs.{other_word}
-use Rattle.replay_text.proofs.lines.verb_event.Goals as goal
+use Rattle.replay_text.proofs.lines.words_event.Goals as goal
 
-pub returns-then-eq-8 : goal.returns-then-eq-8
-returns-then-eq-8 c =
+pub returns-then-eq-9 : goal.returns-then-eq-9
+returns-then-eq-9 c =
     let same : c.args.word.now ≡ codes "participant" = same_text c.args.word.now (codes "participant") (search rules) in
     subst (λ (w : List ℕ). IfOk c.participant.result (λ event. or_bad event ≡ event_of_words (w ∷ pieces 32 c.args.rest.now))) (sym same) c.participant.ensures
 
-pub returns-else-eq-9 : goal.returns-else-eq-9
-returns-else-eq-9 c =
+pub returns-else-eq-10 : goal.returns-else-eq-10
+returns-else-eq-10 c =
     let rest = c.args.rest.now in
-    sym (other_word c.args.word.now (pieces 32 rest) (pieces_some 32 rest) (cc) (cc) (cc) (cc) (cc) (cc) (cc) (cc) (cc))
+    sym (other_word c.args.word.now (pieces 32 rest) (pieces_some 32 rest) (cc) (cc) (cc) (cc) (cc) (cc) (cc) (cc) (cc) (cc))
