@@ -21,7 +21,7 @@ pub loop-last-preserved : goal.loop-last-preserved
 loop-last-preserved c =
     let pool = c.args.pool.now in
     let ts = c.loop-last.tags.items in
-    let at : slice_get (free_tags pool) (length ts) ≡ Some c.in-Some.tag = sym c.loop-last.invariant.next ∙ sym c.next_free-last.ensures.value ∙ c.in-Some.is in
+    let at : slice_get (free_tags pool) (length ts) ≡ Some c.in-Some.tag = sym c.loop-last.invariant.next ∙ sym c.next_free-last.ensures ∙ c.in-Some.is in
     let more : length c.push.new.self.items ≡ length ts + 1 = ap length c.in_ok-push-in-Some.ensures.items ∙ length-append ts (c.in-Some.tag ∷ []) in
     let below : c.len.result < c.args.count = c.loop-last-test.true in
     let here : c.len.result ≡ length ts = c.len.ensures ∙ c.loop-last.invariant.long in record {
@@ -37,4 +37,4 @@ unreachable-requires c =
     let below : c.len.result < c.args.count = c.loop-last-test.true in
     let here : c.len.result ≡ length ts = c.len.ensures ∙ c.loop-last.invariant.long in
     let room : c.args.count ≤ length (free_tags c.args.pool.now) = c.requires in
-    there_is (free_tags c.args.pool.now) (length ts) (omega arith) (sym c.loop-last.invariant.next ∙ sym c.next_free-last.ensures.value ∙ c.in-None.is)
+    there_is (free_tags c.args.pool.now) (length ts) (omega arith) (sym c.loop-last.invariant.next ∙ sym c.next_free-last.ensures ∙ c.in-None.is)
