@@ -1,6 +1,6 @@
 //! Addresses, ascending, each once.
 
-ghost use Rattle.std.specs.Prelude.{◌≡◌, ◌++◌, ◌∷◌, [], OnOk};
+ghost use Rattle.std.specs.Prelude.{◌≡◌, ◌++◌, ◌∷◌, [], OnOk, IfOk};
 ghost use Rattle.std.specs.List.{list_any};
 ghost use Rattle.net_types.specs.Attributes.{same_ip};
 ghost use Rattle.net_types.specs.Keys.{ip_cmp};
@@ -47,7 +47,7 @@ impl AddressSet {
     }
 
     /// Puts the address in. After want of memory the set is unchanged.
-    pub fn insert(&mut self, ip: Ip) -> Result<(), Memory>
+    fn insert(&mut self, ip: Ip) -> Result<(), Memory>
         ensures { OnOk result (self.new ≡ ordered ip_cmp (self.old ++ ip ∷ [])) }
     {
         if let Err(place) = self.addresses.binary_search(&ip) {
@@ -56,8 +56,19 @@ impl AddressSet {
         Ok(())
     }
 
+    /// The set with these addresses too.
+    pub fn with(&self, alloc: Global, ips: &[Ip]) -> Result<AddressSet, Memory>
+        ensures { IfOk result (λ set. set ≡ ordered ip_cmp (self.now ++ ips.now)) }
+    {
+        let mut set = AddressSet {
+            addresses: Vec::from_slice(alloc, self.addresses.as_slice())?,
+        };
+        set.insert_all(ips)?;
+        Ok(set)
+    }
+
     /// Puts the addresses in, one after another.
-    pub fn insert_all(&mut self, ips: &[Ip]) -> Result<(), Memory>
+    fn insert_all(&mut self, ips: &[Ip]) -> Result<(), Memory>
         ensures { OnOk result (self.new ≡ ordered ip_cmp (self.old ++ ips.now)) }
     {
         self.addresses.reserve(ips.len())?;
