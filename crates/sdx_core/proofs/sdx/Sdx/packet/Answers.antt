@@ -1,10 +1,19 @@
-use Rattle.std.proofs.Common.{◌≡◌, ◌<◌, length, sym, ap, ◌∙◌, refl, arith, get_or}
+use Rattle.std.proofs.Common.{◌≡◌, ◌<◌, length, sym, ap, ◌∙◌, refl, arith, get_or, rules}
+use Rattle.std.specs.Prelude.{Some}
+use Rattle.std.specs.Borrow.{Bor}
+use Rattle.std.specs.Option.{option_map}
 use Rattle.std.proofs.lemmas.Option.{slice_get-get_or}
-use Rattle.events.specs.Table.{framed}
+use Rattle.events.specs.State.{State}
+use Rattle.events.specs.declared.Entry.{Entry}
+use Rattle.events.specs.declared.Event.TheVariants.{Packet}
 use Rattle.net_types.specs.Arp.{no_mac}
+use Rattle.net_types.specs.declared.prefix.Prefix.{Prefix}
+use Rattle.sdx_core.specs.Leaving.{sent_by}
+use Rattle.sdx_core.specs.View.{state_of}
 use Rattle.sdx_core.proofs.Packets.{no_packet, owner_below, packet_kept, packet_refused, packet_step, reply_by, told_small}
 use Rattle.sdx_core.proofs.Steps.{step_from}
 use Rattle.sdx_core.proofs.sdx.Sdx.packet.Goals as goal
+use Rattle.sdx_core.proofs.sdx.Sdx.packet.Goals.{in-Some-longest+in_ok-reply-in-Some-longest, in-None}
 
 pub returns-in_default : goal.returns-in_default
 returns-in_default c =
@@ -23,5 +32,34 @@ bounds-as_slice-owner c =
     let even : length c.self.inside.told.items ≡ length c.self.inside.registry.participants = c.self.invariant.steady.told in
     rw c.as_slice-3.ensures.value (omega arith)
 
+pub sent-requires-clause-small : goal.sent-requires-clause-small
+sent-requires-clause-small c =
+    let a = c.self.inside in
+    let owner = c.in-Some.source.owner.0 in
+    let less : owner < length a.registry.participants = owner_below c.self.invariant c.args.port c.in-Some.source (sym c.port.ensures ∙ sym c.copied.ensures ∙ c.in-Some.is) in
+    let even : length a.told.items ≡ length a.registry.participants = c.self.invariant.steady.told in
+    told_small c.self.invariant owner c.index-as_slice-owner.result
+    (slice_get-get_or a.told.items owner c.index-as_slice-owner.result (omega arith) ∙ ap Some (sym (rw c.as_slice-3.ensures.value at c.index-as_slice-owner.is)))
+    c.in-Some-longest.field-0-0 c.in-Some-longest.entry.now (sym c.in-Some-longest.ensures.value)
+
 pub returns : goal.returns
-returns c = ?
+returns c =
+    let a = c.self.inside in
+    let source = c.in-Some.source in
+    let owner = source.owner.0 in
+    let found = sym c.port.ensures ∙ sym c.copied.ensures ∙ c.in-Some.is in
+    let less : owner < length a.registry.participants = owner_below c.self.invariant c.args.port source found in
+    let even : length a.told.items ≡ length a.registry.participants = c.self.invariant.steady.told in
+    let low : c.args.port.0 < 65536 = search rules in
+    let s : State = state_of a.phase a.base a.size a.registry a.server a.resolved.items a.classes a.told.items a.switch in
+    let e = Packet c.args.port c.args.bytes.now in
+    step_from s c.args.self.now e c.match-longest.reply _ c.self.view_is
+    (packet_step s a.pool c.self.invariant c.args.port source found c.index-as_slice-owner.result
+    (slice_get-get_or a.told.items owner c.index-as_slice-owner.result (omega arith) ∙ ap Some (sym (rw c.as_slice-3.ensures.value at c.index-as_slice-owner.is)))
+    c.args.bytes.now c.in_ok-frame.frame.items no_mac c.in-Some-headers.fields refl c.known.ensures low
+    (rw c.items.ensures at c.in_ok-frame.ensures) (rw c.as_slice.ensures.value at c.are_octets.ensures) (rw c.as_slice-2.ensures.value at (sym c.headers.ensures ∙ c.in-Some-headers.is))
+    (sym c.is_declared.ensures ∙ c.if-not-is_declared.false) c.requires c.longest.result c.longest.ensures.key c.longest.ensures.value c.match-longest.reply
+    (elim c.match-longest.branch [
+      | in-Some-longest+in_ok-reply-in-Some-longest w ↦ w.reply-is ∙ w.in_ok-reply-in-Some-longest.ensures ∙ ap (λ x. sent_by x source w.in-Some-longest.entry.now.tag c.in_ok-frame.frame.items) (sym c.self.view_is) ∙ ap (λ o. reply_by s source c.in_ok-frame.frame.items (option_map (λ (x : Prefix × Bor Entry). x.1.now) o)) (sym w.in-Some-longest.is)
+      | in-None w ↦ w.reply-is ∙ w.bare_reply-reply.ensures ∙ ap (λ o. reply_by s source c.in_ok-frame.frame.items (option_map (λ (x : Prefix × Bor Entry). x.1.now) o)) (sym w.in-None.is)
+    ]))
