@@ -4,21 +4,20 @@ use Rattle.std.specs.Prelude.{Option, Some, None, IfSome, MatchOption, find, sli
 use Rattle.std.specs.Borrow.{Bor}
 use Rattle.std.specs.FinMap.{FinMap, empty, get, keys}
 use Rattle.std.specs.Option.{option_map}
-use Rattle.std.proofs.lemmas.Bool.{eq-eqb, eqb-true, or_left, or_right}
+use Rattle.std.proofs.lemmas.Bool.{eq-eqb, eqb-true, or_right}
 use Rattle.events.specs.After.{running}
-use Rattle.events.specs.Fits.{bare, by_table, destination, tagged_frame, IsForwarded, IsSent, IsStep, IsTagged, IsWellFormed, ReachesExporters}
+use Rattle.events.specs.Fits.{bare, by_table, destination, tagged_frame, IsForwarded, IsSent, IsStep, IsTagged, IsWellFormed}
 use Rattle.events.specs.Refusals.{if_known, is_datagram, refusal, unless}
 use Rattle.events.specs.Resolving.{is_resolved, tag_address}
-use Rattle.events.specs.State.{State, ArePolicies, port_of, told_to}
-use Rattle.events.specs.Table.{framed, out}
-use Rattle.events.specs.Tags.{is_live, same_tag, tells, tags}
+use Rattle.events.specs.State.{State, port_of, told_to}
+use Rattle.events.specs.Table.{framed}
+use Rattle.events.specs.Tags.{is_live, same_tag, tells}
 use Rattle.events.specs.declared.Entry.{Entry}
 use Rattle.events.specs.declared.Event.TheVariants.{Packet}
 use Rattle.events.specs.declared.Head.TheVariants.{Fine, Refused, Unresolved, Unrouted}
 use Rattle.events.specs.declared.Refusal.TheVariants.{BadPacket, Unknown}
 use Rattle.events.specs.declared.Reply.{Reply}
 use Rattle.events.proofs.Routed.{routed, valid_headers}
-use Rattle.net_types.specs.Answers.{Policies, answer}
 use Rattle.net_types.specs.Frames.{headers_of, tag_mac}
 use Rattle.net_types.specs.Keys.{prefix_cmp}
 use Rattle.net_types.specs.Routes.{best, longest_of, numbers}

@@ -12,8 +12,8 @@ use Rattle.net_types.specs.declared.route.PortInfo.{PortInfo}
 use Rattle.sdx_core.specs.Leaving.{sent_by}
 
 -- a router sends a frame where it has resolved the tag's address
-pub sent_at : (s st : State) → s ≡ st → (q : PortInfo) (t : Tag) (frame : List ℕ) (r : Reply) (frames : List Frame) → r ≡ bare Fine → is_resolved st q.number (record { 0 = s.base.0 + t.0 }) ≡ true → frames ≡ by_table s q (tag_mac t ++ drop 6 frame)
-    → record r { frames = frames } ≡ sent_by st q t frame
-sent_at s st is q t frame r frames plain resolved are =
-    (λ i. record (plain i) { frames = (are ∙ ap (λ (x : State). by_table x q (tag_mac t ++ drop 6 frame)) is) i })
+pub sent_at : (s st : State) → s ≡ st → (q : PortInfo) (t : Tag) (frame tagged : List ℕ) (r : Reply) (frames : List Frame) → r ≡ bare Fine → is_resolved st q.number (record { 0 = s.base.0 + t.0 }) ≡ true
+    → tagged ≡ tag_mac t ++ drop 6 frame → frames ≡ by_table s q tagged → record r { frames = frames } ≡ sent_by st q t frame
+sent_at s st is q t frame tagged r frames plain resolved same are =
+    (λ i. record (plain i) { frames = (are ∙ (λ j. by_table (is j) q (same j))) i })
     ∙ sym (ap (λ b. cond b (record (bare Fine) { frames = by_table st q (tag_mac t ++ drop 6 frame) }) (bare (Unresolved (tag_address st t)))) (ap (λ (x : State). is_resolved st q.number (tag_address x t)) (sym is) ∙ resolved))

@@ -1,4 +1,4 @@
-use Rattle.std.proofs.Common.{◌≡◌, ◌<◌, length, sym, ap, ◌∙◌, refl, arith, get_or, rules}
+use Rattle.std.proofs.Common.{◌≡◌, ◌<◌, length, sym, ap, ◌∙◌, refl, arith, rules}
 use Rattle.std.specs.Prelude.{Some}
 use Rattle.std.specs.Borrow.{Bor}
 use Rattle.std.specs.Option.{option_map}
@@ -41,6 +41,21 @@ sent-requires-clause-small c =
     told_small c.self.invariant owner c.index-as_slice-owner.result
     (slice_get-get_or a.told.items owner c.index-as_slice-owner.result (omega arith) ∙ ap Some (sym (rw c.as_slice-3.ensures.value at c.index-as_slice-owner.is)))
     c.in-Some-longest.field-0-0 c.in-Some-longest.entry.now (sym c.in-Some-longest.ensures.value)
+
+pub invariant_of-self : goal.invariant_of-self
+invariant_of-self c =
+    let a = c.self.inside in
+    let source = c.in-Some.source in
+    let owner = source.owner.0 in
+    let found = sym c.port.ensures ∙ sym c.copied.ensures ∙ c.in-Some.is in
+    let less : owner < length a.registry.participants = owner_below c.self.invariant c.args.port source found in
+    let even : length a.told.items ≡ length a.registry.participants = c.self.invariant.steady.told in
+    let low : c.args.port.0 < 65536 = search rules in
+    packet_kept _ a.pool c.self.invariant c.args.port source found c.index-as_slice-owner.result
+    (slice_get-get_or a.told.items owner c.index-as_slice-owner.result (omega arith) ∙ ap Some (sym (rw c.as_slice-3.ensures.value at c.index-as_slice-owner.is)))
+    c.args.bytes.now c.in_ok-frame.frame.items no_mac c.in-Some-headers.fields refl c.known.ensures low
+    (rw c.items.ensures at c.in_ok-frame.ensures) (rw c.as_slice.ensures.value at c.are_octets.ensures) (rw c.as_slice-2.ensures.value at (sym c.headers.ensures ∙ c.in-Some-headers.is))
+    (sym c.is_declared.ensures ∙ c.if-not-is_declared.false) c.requires c.longest.result c.longest.ensures.key c.longest.ensures.value
 
 pub returns : goal.returns
 returns c =
