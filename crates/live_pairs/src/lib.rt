@@ -5,8 +5,6 @@ mod ascending;
 pub mod emptied;
 mod forward;
 mod pairs;
-#[cfg(test)]
-mod tests;
 mod theorem;
 
 pub use forward::{Forward, Fresh};

@@ -1,8 +1,20 @@
 use Rattle.std.proofs.Common.{◌≡◌, sym, ap, subst, ◌∙◌}
+use Rattle.std.specs.Prelude.{Result, Ok, IfOk}
+use Rattle.net_types.specs.declared.memory.Memory.{Memory}
+use Rattle.events.specs.Fits.{IsStep, IsWellFormed}
+use Rattle.events.specs.State.{State}
+use Rattle.events.specs.declared.Event.{Event}
+use Rattle.events.specs.declared.Reply.{Reply}
+use Rattle.net_types.specs.Exports.{Routing}
+use Rattle.route_server.specs.Proposed.{Proposed}
+use Rattle.sdx_core.specs.Changing.{Asks, Leads}
+use Rattle.sdx_core.proofs.Asked.{for_asked}
 use Rattle.sdx_core.proofs.sdx.Sdx.answer.Goals as goal
 
 pub reroute-requires : goal.reroute-requires
-reroute-requires c = ?
+reroute-requires c =
+    let leads = subst (Asks c.args.self.now c.requires.0) c.in-Ok.is c.requires.2 in
+    (c.requires.0, c.requires.1, leads.0, leads.1)
 
 pub returns-in-Ok : goal.returns-in-Ok
-returns-in-Ok c = ?
+returns-in-Ok c = for_asked c.args.self.now c.in-Ok.proposal c.args.asked c.in-Ok.is c.reroute.result c.reroute.new.self c.reroute.ensures

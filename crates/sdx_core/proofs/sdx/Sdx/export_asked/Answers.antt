@@ -1,11 +1,34 @@
-use Rattle.std.proofs.Common.{◌≡◌, sym, ap, subst, ◌∙◌}
+use Rattle.std.proofs.Common.{◌≡◌, ◌<◌, length, sym, ap, subst, ◌∙◌, refl, arith}
+use Rattle.net_types.specs.Exports.{Routing}
+use Rattle.events.specs.After.{with_rules}
+use Rattle.events.specs.State.{State}
+use Rattle.events.specs.declared.Event.TheVariants.{Export}
+use Rattle.events.proofs.Reached.{declared_pid}
+use Rattle.sdx_core.specs.Changing.{Leads, rules_or_refusal, session}
+use Rattle.sdx_core.specs.View.{state_of}
+use Rattle.sdx_core.proofs.Asked.{IsSender, export_leads, routes_declared, sender_of}
 use Rattle.sdx_core.proofs.sdx.Sdx.export_asked.Goals as goal
 
 pub propose_rules-requires-clause-listed : goal.propose_rules-requires-clause-listed
-propose_rules-requires-clause-listed c = ?
+propose_rules-requires-clause-listed c =
+    let a = c.self.inside in
+    let s : State = state_of a.phase a.base a.size a.registry a.server a.resolved.items a.classes a.told.items a.switch in
+    let sender : IsSender s c.args.name.now c.in-Ok.who = sender_of s c.args.name.now c.in-Ok.who (ap (λ (x : State). session x c.args.name.now) c.self.view_is ∙ sym c.session.ensures ∙ c.in-Ok.is) in
+    let below : c.in-Ok.who.0 < length s.routing.participants = declared_pid s.routing c.args.name.now c.in-Ok.who sender.known in
+    let all = c.self.invariant.steady.rules in
+    omega (arith, below, all)
 
 pub propose_rules-requires-clause-declared : goal.propose_rules-requires-clause-declared
-propose_rules-requires-clause-declared c = ?
+propose_rules-requires-clause-declared c =
+    let a = c.self.inside in
+    let s : State = state_of a.phase a.base a.size a.registry a.server a.resolved.items a.classes a.told.items a.switch in
+    routes_declared a.registry s.routing refl c.self.invariant.steady.routed
 
 pub returns : goal.returns
-returns c = ?
+returns c =
+    let a = c.self.inside in
+    let s : State = state_of a.phase a.base a.size a.registry a.server a.resolved.items a.classes a.told.items a.switch in
+    let sender : IsSender s c.args.name.now c.in-Ok.who = sender_of s c.args.name.now c.in-Ok.who (ap (λ (x : State). session x c.args.name.now) c.self.view_is ∙ sym c.session.ensures ∙ c.in-Ok.is) in
+    subst (λ (x : State). (r : Routing) × Leads x (Export c.args.name.now c.args.text.now) r c.in_ok-proposal.proposal) c.self.view_is
+    (with_rules s.routing c.in-Ok.who c.in-Ok-2.rules, export_leads s c.args.name.now c.in-Ok.who sender c.args.text.now c.in-Ok-2.rules c.in_ok-proposal.proposal
+    (ap (λ (x : State). rules_or_refusal x.routing c.args.text.now) c.self.view_is ∙ sym c.in_ok-rules.ensures ∙ c.in-Ok-2.is) c.in_ok-proposal.ensures.proposal)
