@@ -1,5 +1,5 @@
 -- The lines that declare are steps.
-use Rattle.std.proofs.Common.{◌≡◌, ℕ, zero, suc, ◌+◌, ◌-◌, ◌<◌, ◌≤◌, Bool, true, false, cond, not, nat_eq, nat_le, ◌||◌, List, [], ◌∷◌, ◌++◌, length, map, filter, take, replicate, length-append, ap, refl, subst, sym, ◌∙◌, arith}
+use Rattle.std.proofs.Common.{◌≡◌, ℕ, zero, suc, ◌+◌, ◌<◌, Bool, true, false, cond, not, nat_le, ◌||◌, List, [], ◌∷◌, ◌++◌, length, map, filter, replicate, ap, refl, subst, sym, ◌∙◌, arith}
 use Rattle.std.specs.Prelude.{Option, Some, None, codes}
 use Rattle.std.specs.FinMap.{FinMap, empty, values}
 use Rattle.std.specs.List.{list_any, position_from}
@@ -41,7 +41,7 @@ use Rattle.net_types.specs.declared.prefix.Prefix.{Prefix}
 use Rattle.net_types.specs.declared.route.Participant.{Participant}
 use Rattle.net_types.specs.declared.route.PortInfo.{PortInfo}
 use Rattle.next_hop_pool.proofs.FreeLemmas.{free_by_place, free_from}
-use Rattle.next_hop_pool.specs.Free.{Tags, all_free, free_tags, tag}
+use Rattle.next_hop_pool.specs.Free.{Tags, all_free, tag}
 use Rattle.sdx_core.proofs.Steps.{kept_after, quiet_step, refused_step, steady_after}
 use Rattle.sdx_core.specs.View.{IsKept, state_of}
 
@@ -209,18 +209,3 @@ module _ (phase : Phase) (base : Ip) (size : ℕ) (names names' : Registered) (s
   -- and so with a further port
   pub ported_is : (q : PortInfo) → names' ≡ registered.with_port names q → resolved' ≡ resolved ++ [] ∷ [] → state_of phase base size names' served resolved' classes told installed ≡ with_port before q
   ported_is q declared more = λ i. state_of phase base size (declared i) served (more i) classes told installed
-
-  -- the same rules and routes are the same state
-  pub served_is : served'.rules ≡ served.rules → served'.routes ≡ served.routes → told' ≡ told → state_of phase base size names served' resolved classes told' installed ≡ before
-  served_is rules routes same = λ i. record before { routing = record before.routing { rules = rules i; routes = routes i }; told = same i }
-
--- without the last one
-pub taken_back : {A : Type 0} (xs ys zs : List A) (y : A) → ys ≡ xs ++ y ∷ [] → zs ≡ take (length ys - 1) ys → zs ≡ xs
-taken_back {A} xs ys zs y more rest = rest ∙ ap (λ us. take (length us - 1) us) more ∙ ap (λ n. take n (xs ++ y ∷ [])) (long xs y) ∙ front xs (y ∷ [])
-  where
-    long : (xs : List A) (y : A) → length (xs ++ y ∷ []) - 1 ≡ length xs
-    long xs y = omega (arith, length-append xs (y ∷ []))
-
-    front : (xs ys : List A) → take (length xs) (xs ++ ys) ≡ xs
-    front [] ys = refl
-    front (x ∷ xs) ys = ap (λ us. x ∷ us) (front xs ys)

@@ -1,8 +1,8 @@
 -- When a reply and a state are a step, and what holds after it.
-use Rattle.std.proofs.Common.{◌≡◌, ℕ, true, cond, List, [], ap, refl, subst, sym, ◌∙◌}
-use Rattle.std.specs.Prelude.{Some, None, codes, length, map}
+use Rattle.std.proofs.Common.{◌≡◌, true, cond, List, [], ap, refl, subst, sym, ◌∙◌}
+use Rattle.std.specs.Prelude.{Some, None, codes, map}
 use Rattle.std.specs.FinMap.{FinMap, empty}
-use Rattle.events.specs.After.{after, next, running}
+use Rattle.events.specs.After.{after, next}
 use Rattle.events.specs.Fits.{FitsBy, IsAnswer, IsStep, IsWellFormed, bare}
 use Rattle.events.specs.Refusals.{is_placed, refusal, refusal_in_place}
 use Rattle.events.specs.State.{State, first}
@@ -22,7 +22,7 @@ use Rattle.exchange_laws.specs.Steady.{IsSteady}
 use Rattle.match_switch.specs.Installed.{Installed}
 use Rattle.net_types.specs.Keys.{prefix_cmp}
 use Rattle.net_types.specs.declared.address.Ip.{Ip}
-use Rattle.next_hop_pool.specs.Free.{Tags, free_tags}
+use Rattle.next_hop_pool.specs.Free.{Tags}
 use Rattle.prefix_classes.specs.Classes.{Classes}
 use Rattle.registry.specs.Registered.{Registered}
 use Rattle.route_server.specs.Served.{Served}
