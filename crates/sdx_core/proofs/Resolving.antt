@@ -83,9 +83,11 @@ found_nowhere test low (x ∷ xs) e =
       | false ↦ λ is. found_nowhere test (low + 1) xs is
     ] e
 
+-- a port has the number
 abbrev numbered : PortNo → PortInfo → Bool
 numbered n q = nat_eq q.number.0 n.0
 
+-- what is read where there is no port
 abbrev pub no_port : PortInfo
 no_port = record { owner = record { 0 = 0 }; number = record { 0 = 0 }; ip = record { 0 = 0 }; mac = record { 0 = [] } }
 
@@ -155,12 +157,15 @@ not_some true x e = absurd (cc)
 not_some false x e = refl
 
 module _ (s : State) (bytes : List ℕ) where
+  -- the frame, read as a request
   abbrev whole : ArpRequest
   whole = record { mac = asker_mac bytes; ip = asker_ip bytes; target = asked_ip bytes }
 
+  -- the reply to a request for an address of the pool
   abbrev answer : ArpRequest → Reply
   answer x = record (bare Fine) { asks = record { request = None; reply = reply_to s.base x } ∷ [] }
 
+  -- the state after a request, by whether the router has resolved the address
   abbrev state_by : PortInfo → Bool → State
   state_by q b = running (cond b (with_resolved s q.number (asked_ip bytes ∷ [])) s)
 
@@ -270,6 +275,7 @@ hops_within {s} kept k entries at tags are known ips missing j d less =
 
 module _ (s : State) (port : PortNo) (place : ℕ) (q : PortInfo) (at : port_place s port ≡ Some place) (here : slice_get s.routing.ports place ≡ Some q) (entries : FinMap prefix_cmp Entry) (told_is : slice_get s.told q.owner.0 ≡ Some entries)
     (set : List Ip) (there : slice_get s.resolved place ≡ Some set) (tags : List Tag) (are : tags ≡ tags_told entries) where
+  -- the addresses of the tags that were told, in order
   abbrev addresses : FinMap prefix_cmp Entry → List Ip
   addresses es = ordered ip_cmp (map (λ (e : Entry). tag_address s e.tag) (values es))
 

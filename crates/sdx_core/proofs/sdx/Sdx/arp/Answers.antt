@@ -1,14 +1,10 @@
-use Rattle.std.proofs.Common.{◌≡◌, ℕ, ◌<◌, length, List, [], ◌∷◌, ◌++◌, sym, ap, ◌∙◌, refl, arith, get_or}
-use Rattle.std.specs.Prelude.{Some, None, not, slice_get, slice_set}
+use Rattle.std.proofs.Common.{◌≡◌, ◌<◌, length, [], ◌∷◌, ◌++◌, sym, ap, ◌∙◌, arith, get_or}
+use Rattle.std.specs.Prelude.{Some, None, slice_get, slice_set}
 use Rattle.std.proofs.lemmas.Option.{slice_get-get_or}
-use Rattle.events.specs.Fits.{bare}
 use Rattle.events.specs.Resolving.{port_place}
-use Rattle.events.specs.State.{State, port_of}
+use Rattle.events.specs.State.{State}
 use Rattle.events.specs.declared.Event.TheVariants.{Arp}
 use Rattle.events.specs.declared.Exchange.{Exchange}
-use Rattle.net_types.specs.Keys.{ip_cmp}
-use Rattle.net_types.specs.Maps.{ordered}
-use Rattle.net_types.specs.declared.address.Ip.{Ip}
 use Rattle.net_types.specs.declared.route.PortInfo.{PortInfo}
 use Rattle.sdx_core.proofs.Resolving.{answer_reply, arp_kept, arp_refused, arp_step, no_port, other_state, own_state, port_at, silent_reply, silent_state}
 use Rattle.sdx_core.proofs.Steps.{step_from}
