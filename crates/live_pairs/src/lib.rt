@@ -9,6 +9,7 @@ mod pairs;
 mod tests;
 mod theorem;
 
+pub use ascending::ascending_pairs;
 pub use forward::{Forward, Fresh};
 pub use pairs::{gone_pairs, new_flows, untold};
 pub use theorem::{
