@@ -1,4 +1,6 @@
 -- Where a participant takes all that is pending, the signatures and the pool become those of the state afterwards.
+use Rattle.std.specs.Prelude.{slice_get, slice_index_or, unwrap_or}
+use Rattle.std.proofs.Common.{inl, inr, zero, suc}
 use Rattle.std.specs.Cmp.{nat_cmp_is}
 use Rattle.std.specs.declared.cmp.Ordering.TheVariants.{Equal, Greater}
 use Rattle.std.proofs.lemmas.Bool.{cases_lt, false≢true, lt-ltb}
@@ -55,6 +57,12 @@ use Rattle.sdx_core.specs.View.{IsKept}
 
 tag_tie : (x y : Tag) → eq_by_cmp tag_cmp x y ≡ true → x ≡ y
 tag_tie = same_from_tie tag_cmp tag_cmp-IsAntisymmetric
+
+-- what is read at a place of a list
+pub read_at : {A : Type 0} (xs : List A) (k : ℕ) (y d : A) → k < length xs → y ≡ slice_index_or xs k y → y ≡ unwrap_or (slice_get xs k) d
+read_at [] k y d below is = absurd (omega arith)
+read_at (x ∷ xs) zero y d below is = is
+read_at (x ∷ xs) (suc k) y d below is = read_at xs k y d (omega arith) is
 
 -- tags that rise are numbers that rise
 lesser : (a b : ℕ) → is_lt (nat_cmp a b) ≡ true → nat_lt a b ≡ true

@@ -1,14 +1,14 @@
 use Rattle.std.proofs.Common.{◌≡◌, ◌<◌, ◌≤◌, arith, ap, length, sym, subst, ◌∙◌}
 use Rattle.events.specs.State.{State, present, told_to}
 use Rattle.net_types.specs.declared.prefix.Prefix.{Prefix}
-use Rattle.std.specs.FinMap.{FinMap, get}
+use Rattle.std.specs.FinMap.{FinMap, empty, get}
 use Rattle.std.specs.Prelude.{IfSome}
 use Rattle.events.specs.declared.Entry.{Entry}
 use Rattle.net_types.specs.Keys.{prefix_cmp}
 use Rattle.sdx_core.specs.Changing.{session}
 use Rattle.sdx_core.specs.View.{state_of}
 use Rattle.sdx_core.proofs.Declared.{named_within}
-use Rattle.sdx_core.proofs.Drains.{drain_kept, drain_step, given_back, small}
+use Rattle.sdx_core.proofs.Drains.{drain_kept, drain_step, given_back, read_at, small}
 use Rattle.fast_path.specs.Committing.{AreTaken}
 use Rattle.live_pairs.specs.Pairs.{untold}
 use Rattle.net_types.specs.Sets.{Member}
@@ -66,7 +66,7 @@ forget_all-requires c =
     let same : length a.told.items ≡ length a.registry.participants = c.self.invariant.steady.told in
     let place : c.in-Ok.who.0 < length a.told.items = omega (arith, within, same) in
     let now_is : c.in_ok-present.present ≡ present s c.in-Ok.who = c.in_ok-present.ensures ∙ ap (λ x. present x c.in-Ok.who) (sym c.self.view_is) in
-    let told_is : c.index-told.result.now ≡ told_to s c.in-Ok.who = ? in
+    let told_is : c.index-told.result.now ≡ told_to s c.in-Ok.who = read_at a.told.items c.in-Ok.who.0 c.index-told.result.now empty place c.index-told.ensures in
     let gone_is : c.in_ok-gone.gone.items ≡ gone_tags (told_to s c.in-Ok.who) (present s c.in-Ok.who) =
         c.in_ok-gone.ensures ∙ (λ i. untold (c.from_ref.ensures.value i) (c.tags.ensures i)) ∙ (λ i. gone_tags (told_is i) (now_is i)) in
     let dead_is : c.in_ok-dead.dead.items ≡ dead_tags a.classes.tag a.told.items c.in-Ok.who.0 (gone_tags (told_to s c.in-Ok.who) (present s c.in-Ok.who)) =
@@ -82,7 +82,7 @@ give_all-requires c =
     let same : length a.told.items ≡ length a.registry.participants = c.self.invariant.steady.told in
     let place : c.in-Ok.who.0 < length a.told.items = omega (arith, within, same) in
     let now_is : c.in_ok-present.present ≡ present s c.in-Ok.who = c.in_ok-present.ensures ∙ ap (λ x. present x c.in-Ok.who) (sym c.self.view_is) in
-    let told_is : c.index-told.result.now ≡ told_to s c.in-Ok.who = ? in
+    let told_is : c.index-told.result.now ≡ told_to s c.in-Ok.who = read_at a.told.items c.in-Ok.who.0 c.index-told.result.now empty place c.index-told.ensures in
     let gone_is : c.in_ok-gone.gone.items ≡ gone_tags (told_to s c.in-Ok.who) (present s c.in-Ok.who) =
         c.in_ok-gone.ensures ∙ (λ i. untold (c.from_ref.ensures.value i) (c.tags.ensures i)) ∙ (λ i. gone_tags (told_is i) (now_is i)) in
     let dead_is : c.in_ok-dead.dead.items ≡ dead_tags a.classes.tag a.told.items c.in-Ok.who.0 (gone_tags (told_to s c.in-Ok.who) (present s c.in-Ok.who)) =
