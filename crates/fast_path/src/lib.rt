@@ -10,5 +10,6 @@ mod planning;
 mod tagging;
 
 pub use committing::{commit, reserve};
+pub use parts::{forget_all, give_all, remove_all};
 pub use planned::{Changes, FastFault, Plan};
 pub use planning::plan;

@@ -7,6 +7,7 @@ mod forward;
 mod pairs;
 mod theorem;
 
+pub use ascending::ascending_pairs;
 pub use forward::{Forward, Fresh};
 pub use pairs::{gone_pairs, new_flows, untold};
 pub use theorem::{

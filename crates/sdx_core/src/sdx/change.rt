@@ -47,7 +47,7 @@ impl Sdx {
     }
 
     /// The participant that sends a line.
-    fn session(&self, name: &Name) -> Result<Pid, Refusal>
+    pub(super) fn session(&self, name: &Name) -> Result<Pid, Refusal>
         ensures { result ≡ session self.now name.now }
     {
         if !is_declared(self.phase) {

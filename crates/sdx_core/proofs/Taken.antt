@@ -1,0 +1,198 @@
+-- The pairs and tags that go where a participant is told what is present.
+use Rattle.std.proofs.Common.{◌≡◌, ◌⊎◌, ℕ, zero, suc, ◌+◌, ◌<◌, Bool, true, false, cond, ◌&&◌, ◌||◌, not, filter, take, drop, nat_eq, List, [], ◌∷◌, ◌++◌, length, map, sym, ap, subst, ◌∙◌, refl, inl, inr, arith}
+use Rattle.std.specs.Prelude.{Option, Some, None, slice_get, slice_set, unwrap_or}
+use Rattle.std.specs.FinMap.{FinMap, empty, get, values}
+use Rattle.std.specs.List.{list_any}
+use Rattle.std.specs.Ordering.{eq_by_cmp}
+use Rattle.std.proofs.lemmas.Bool.{eqb-true, false_from_ne_true, or_cases, or_left, or_parts, or_right}
+use Rattle.events.proofs.OrderedLemmas.{any_member, member_any, ordered_rises, ordered_same}
+use Rattle.events.specs.State.{State, port_of, present, told_to}
+use Rattle.events.specs.Tags.{is_live, is_live_pair, same_tag, tells}
+use Rattle.events.specs.declared.Entry.{Entry}
+use Rattle.exchange_laws.proofs.Lists.{clash, not_true, some_of}
+use Rattle.exchange_laws.proofs.LivePairs.{live_at, live_from, port_Member, told_live}
+use Rattle.exchange_laws.proofs.OwnHops.{numbered_port}
+use Rattle.exchange_laws.proofs.ToldAnew.{gone_pairs_were_told, gone_tags_were_told}
+use Rattle.exchange_laws.specs.Listed.{AreLiveOnly}
+use Rattle.exchange_laws.specs.Steady.{PortsDiffer}
+use Rattle.exchange_laws.specs.Telling.{told_anew}
+use Rattle.advert_queue.proofs.PendingLemmas.{told_among}
+use Rattle.advert_queue.specs.Telling.{tags_of}
+use Rattle.live_pairs.proofs.PortsAndTags.{IsPortOf, found_number, has_prefix_of, number_listed, port_listed, prefix_with, tie}
+use Rattle.live_pairs.specs.LiveOnly.{AreDead, has_prefix, registered}
+use Rattle.live_pairs.specs.Pairs.{Told, is_told, pair_at, untold}
+use Rattle.net_types.proofs.OrderLemmas.{pairs_total, tags_total}
+use Rattle.net_types.proofs.RisingLemmas.{Member-filter, filter-IsRising, filter-Member}
+use Rattle.net_types.proofs.SetLemmas.{Member-map, Member-union, map-Member, union-Member}
+use Rattle.net_types.proofs.TieLemmas.{same_from_tie, tag_cmp-IsAntisymmetric}
+use Rattle.net_types.specs.Keys.{pair_cmp, prefix_cmp, tag_cmp}
+use Rattle.net_types.specs.Sets.{Member, union_over}
+use Rattle.net_types.specs.declared.address.Pid.{Pid}
+use Rattle.net_types.specs.declared.address.PortNo.{PortNo}
+use Rattle.net_types.specs.declared.address.Tag.{Tag}
+use Rattle.net_types.specs.declared.route.PortInfo.{PortInfo}
+use Rattle.net_types.specs.declared.rule.Pair.{Pair}
+use Rattle.prefix_classes.proofs.MemberLemmas.{no_members}
+use Rattle.prefix_classes.specs.Classes.{members}
+use Rattle.registry.specs.Registered.{ports_of}
+use Rattle.sdx_core.specs.Taking.{all_pairs, dead_tags, has_none, pairs_at}
+
+-- ---- tags that were told and are told no more
+
+-- those of the tags in the one map that the other doesn't tell
+abbrev pub gone_tags : FinMap prefix_cmp Entry → FinMap prefix_cmp Entry → List Tag
+gone_tags told now = untold (now ∷ []) (tags_of told)
+
+-- the tag is told in the one and not in the other
+pub record IsGone (told now : FinMap prefix_cmp Entry) (t : Tag) : Type 0 where
+  pub was : tells told t ≡ true
+  pub not_now : tells now t ≡ false
+
+tag_tie : (x y : Tag) → eq_by_cmp tag_cmp x y ≡ true → x ≡ y
+tag_tie = same_from_tie tag_cmp tag_cmp-IsAntisymmetric
+
+alone : (b : Bool) → (b || false) ≡ b
+alone true = refl
+alone false = refl
+
+pub gone_tag : (told now : FinMap prefix_cmp Entry) (t : Tag) → Member t (gone_tags told now) → IsGone told now t
+gone_tag told now t m =
+    let left = filter-Member (λ u. not (is_told (now ∷ []) u)) (tags_of told) t m in record {
+      was = sym (told_among told t) ∙ member_any tag_cmp tags_total tag_tie t (tags_of told) left.stands;
+      not_now = sym (alone (tells now t)) ∙ not_true (is_told (now ∷ []) t) left.passes;
+    }
+
+pub tag_gone : (told now : FinMap prefix_cmp Entry) (t : Tag) → tells told t ≡ true → tells now t ≡ false → Member t (gone_tags told now)
+tag_gone told now t was none =
+    Member-filter (λ u. not (is_told (now ∷ []) u)) (tags_of told) t (any_member tag_cmp tags_total tag_tie t (tags_of told) (told_among told t ∙ was))
+    (ap (λ b. not b) (alone (tells now t) ∙ none))
+
+-- ---- a list with another member at a place
+
+get_placed : {A : Type 0} (xs : List A) (k : ℕ) (x d : A) → k < length xs → unwrap_or (slice_get (slice_set xs k x) k) d ≡ x
+get_placed [] k x d below = absurd (omega arith)
+get_placed (y ∷ xs) zero x d below = refl
+get_placed (y ∷ xs) (suc k) x d below = get_placed xs k x d (omega arith)
+
+one_more : (k : ℕ) → k + 1 ≡ suc k
+one_more k = omega arith
+
+any_split : {A : Type 0} (test : A → Bool) (xs : List A) (k : ℕ) (x : A) → list_any test (take k xs) ≡ false → list_any test (drop (suc k) xs) ≡ false → test x ≡ false → list_any test (slice_set xs k x) ≡ false
+any_split test [] k x before after here = refl
+any_split test (y ∷ xs) zero x before after here = ap (λ b. b || list_any test xs) here ∙ after
+any_split test (y ∷ xs) (suc k) x before after here =
+    let parts = or_parts (test y) (list_any test (take k xs)) before in
+    ap (λ b. b || list_any test (slice_set xs k x)) parts.0 ∙ any_split test xs k x parts.1 after here
+
+any_before : {A : Type 0} (test : A → Bool) (xs : List A) (k : ℕ) (x : A) → list_any test (slice_set xs k x) ≡ false → list_any test (take k xs) ≡ false
+any_before test xs zero x none = refl
+any_before test [] (suc k) x none = refl
+any_before test (y ∷ xs) (suc k) x none =
+    let parts = or_parts (test y) (list_any test (slice_set xs k x)) none in
+    ap (λ b. b || list_any test (take k xs)) parts.0 ∙ any_before test xs k x parts.1
+
+any_after : {A : Type 0} (test : A → Bool) (xs : List A) (k : ℕ) (x : A) → list_any test (slice_set xs k x) ≡ false → list_any test (drop (suc k) xs) ≡ false
+any_after test [] k x none = refl
+any_after test (y ∷ xs) zero x none = (or_parts (test x) (list_any test xs) none).1
+any_after test (y ∷ xs) (suc k) x none = any_after test xs k x (or_parts (test y) (list_any test (slice_set xs k x)) none).1
+
+any_here : {A : Type 0} (test : A → Bool) (xs : List A) (k : ℕ) (x : A) → k < length xs → list_any test (slice_set xs k x) ≡ false → test x ≡ false
+any_here test [] k x below none = absurd (omega arith)
+any_here test (y ∷ xs) zero x below none = (or_parts (test x) (list_any test xs) none).0
+any_here test (y ∷ xs) (suc k) x below none = any_here test xs k x (omega arith) (or_parts (test y) (list_any test (slice_set xs k x)) none).1
+
+module _ (s : State) (who : Pid) (apart : PortsDiffer s.routing.ports) (place : who.0 < length s.told) where
+  abbrev s1 : State
+  s1 = told_anew s who (present s who)
+
+  abbrev gone : List Tag
+  gone = gone_tags (told_to s who) (present s who)
+
+  abbrev ports : List PortNo
+  ports = ports_of (registered s) who
+
+  told_now : told_to s1 who ≡ present s who
+  told_now = get_placed s.told who.0 (present s who) empty place
+
+  -- ---- the pairs that go
+
+  one_pair : (t : Tag) (n : PortNo) → IsGone (told_to s who) (present s who) t → IsPortOf s who n → (is_live_pair s (pair_at t n) ≡ true) × (is_live_pair s1 (pair_at t n) ≡ false)
+  one_pair t n is at = (
+    live_from s (pair_at t n) at.port found (or_left (tells (told_to s at.port.owner) t) (tells (present s at.port.owner) t) (ap (λ w. tells (told_to s w) t) at.owner ∙ is.was)),
+    false_from_ne_true (is_live_pair s1 (pair_at t n)) (λ live.
+        let there = live_at s1 (pair_at t n) live in
+        let q : PortInfo = there.0 in
+        let same : q.owner ≡ who = ap (λ (x : PortInfo). x.owner) (some_of q at.port (sym there.1.port ∙ found)) ∙ at.owner in
+        elim (or_cases (tells (told_to s1 q.owner) t) (tells (present s1 q.owner) t) there.1.for) [
+          | inl told ↦ clash told (ap (λ w. tells (told_to s1 w) t) same ∙ ap (λ es. tells es t) told_now ∙ is.not_now)
+          | inr now ↦ clash now (ap (λ w. tells (present s1 w) t) same ∙ is.not_now)
+        ]),
+  )
+    where
+      found : port_of s n ≡ Some at.port
+      found = ap (port_of s) at.number ∙ numbered_port s.routing.ports apart at.port at.port.number.0 at.stands refl
+
+  each_pair : (pair : Pair) → Member pair (union_over (pairs_at ports) gone) → (is_live_pair s pair ≡ true) × (is_live_pair s1 pair ≡ false)
+  each_pair pair m =
+      let of_tag = union-Member (pairs_at ports) gone pair m in
+      let image = map-Member (pair_at of_tag.of) ports pair of_tag.gives in
+      subst (λ y. (is_live_pair s y ≡ true) × (is_live_pair s1 y ≡ false)) (sym image.is)
+      (one_pair of_tag.of image.of (gone_tag (told_to s who) (present s who) of_tag.of of_tag.stands) (port_listed s who image.of image.stands))
+
+  all_gone : (pair : Pair) → is_live_pair s pair ≡ true → is_live_pair s1 pair ≡ false → Member pair (union_over (pairs_at ports) gone)
+  all_gone pair live dead =
+      let was = gone_pairs_were_told s who (present s who) pair live dead in
+      let q : PortInfo = was.0 in
+      let none : tells (present s who) pair.tag ≡ false = false_from_ne_true (tells (present s who) pair.tag) (λ now.
+          clash (live_from s1 pair q was.1 (or_right (tells (told_to s1 q.owner) pair.tag) (tells (present s1 q.owner) pair.tag) (ap (λ w. tells (present s1 w) pair.tag) was.2 ∙ now))) dead) in
+      Member-union (pairs_at ports) gone pair.tag pair (tag_gone (told_to s who) (present s who) pair.tag was.3 none)
+      (subst (λ w. Member pair (map (pair_at pair.tag) (ports_of (registered s) w))) was.2
+      (subst (λ y. Member y (map (pair_at pair.tag) (ports_of (registered s) q.owner))) (λ i. record { port = sym (found_number s pair.port q was.1) i; tag = pair.tag })
+      (Member-map (pair_at pair.tag) (ports_of (registered s) q.owner) q.number (number_listed s q (port_Member s pair q was.1)))))
+
+  -- exactly the pairs that are live no more
+  pub pairs_go : AreLiveOnly s s1 (all_pairs ports gone)
+  pairs_go = record {
+    rising = ordered_rises pair_cmp pairs_total tie (union_over (pairs_at ports) gone);
+    each = λ pair m. each_pair pair ((ordered_same pair_cmp pairs_total tie (union_over (pairs_at ports) gone)).onto pair m);
+    all = λ pair live dead. (ordered_same pair_cmp pairs_total tie (union_over (pairs_at ports) gone)).back pair (all_gone pair live dead);
+  }
+
+  -- ---- the tags that go
+
+  abbrev dead_here : List Tag
+  dead_here = dead_tags s.tag s.told who.0 gone
+
+  unheld : (t : Tag) → has_none s.tag t ≡ true → has_prefix s t ≡ false
+  unheld t none = false_from_ne_true (has_prefix s t) (λ has.
+      let p = prefix_with s t has in (no_members s.tag t).0 (eqb-true (members s.tag t) 0 none) p.prefix p.tagged)
+
+  each_tag : (t : Tag) → Member t dead_here → (is_live s t ≡ true) × (is_live s1 t ≡ false)
+  each_tag t m =
+      let held = filter-Member (has_none s.tag) (untold (drop (who.0 + 1) s.told) (untold (take who.0 s.told) gone)) t m in
+      let after = filter-Member (λ u. not (is_told (drop (who.0 + 1) s.told) u)) (untold (take who.0 s.told) gone) t held.stands in
+      let before = filter-Member (λ u. not (is_told (take who.0 s.told) u)) gone t after.stands in
+      let is = gone_tag (told_to s who) (present s who) t before.stands in (
+        or_right (has_prefix s t) (is_told s.told t) (told_live s who t is.was),
+        ap (λ b. b || is_told (slice_set s.told who.0 (present s who)) t) (unheld t held.passes)
+        ∙ any_split (λ es. tells es t) s.told who.0 (present s who) (not_true (is_told (take who.0 s.told) t) before.passes) (ap (λ n. is_told (drop n s.told) t) (sym (one_more who.0)) ∙ not_true (is_told (drop (who.0 + 1) s.told) t) after.passes) is.not_now,
+      )
+
+  all_tags : (t : Tag) → is_live s t ≡ true → is_live s1 t ≡ false → Member t dead_here
+  all_tags t live dead =
+      let parts = or_parts (has_prefix s t) (is_told (slice_set s.told who.0 (present s who)) t) dead in
+      let was = gone_tags_were_told s who (present s who) t live dead in
+      let here : tells (present s who) t ≡ false = any_here (λ es. tells es t) s.told who.0 (present s who) place parts.1 in
+      Member-filter (has_none s.tag) (untold (drop (who.0 + 1) s.told) (untold (take who.0 s.told) gone)) t
+      (Member-filter (λ u. not (is_told (drop (who.0 + 1) s.told) u)) (untold (take who.0 s.told) gone) t
+      (Member-filter (λ u. not (is_told (take who.0 s.told) u)) gone t (tag_gone (told_to s who) (present s who) t was here) (ap not (any_before (λ es. tells es t) s.told who.0 (present s who) parts.1)))
+      (ap not (ap (λ n. is_told (drop n s.told) t) (one_more who.0) ∙ any_after (λ es. tells es t) s.told who.0 (present s who) parts.1)))
+      (ap (λ n. nat_eq n 0) ((no_members s.tag t).1 (λ p is. clash (has_prefix_of s p t is) parts.0)))
+
+  -- exactly the tags that are live no more
+  pub tags_go : AreDead s s1 dead_here
+  tags_go = record { each = each_tag; all = all_tags }
+
+  -- no prefix has one of them
+  pub tags_unused : (t : Tag) → Member t dead_here → members s.tag t ≡ 0
+  tags_unused t m = eqb-true (members s.tag t) 0 (filter-Member (has_none s.tag) (untold (drop (who.0 + 1) s.told) (untold (take who.0 s.told) gone)) t m).passes

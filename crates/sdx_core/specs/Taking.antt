@@ -1,0 +1,40 @@
+-- What a participant is told anew, and the pairs and tags that go with what it was told (this exchange's own rule).
+use Rattle.std.specs.Prelude.{ℕ, ◌+◌, Bool, nat_eq, List, map, filter, take, drop, Option}
+use Rattle.std.specs.FinMap.{FinMap, get}
+use Rattle.std.specs.List.{filter_map}
+use Rattle.std.specs.Option.{option_map}
+use Rattle.events.specs.declared.Entry.{Entry}
+use Rattle.live_pairs.specs.Pairs.{Told, pair_at, untold}
+use Rattle.net_types.specs.Keys.{pair_cmp, prefix_cmp}
+use Rattle.net_types.specs.Maps.{ordered}
+use Rattle.net_types.specs.Sets.{union_over}
+use Rattle.net_types.specs.declared.address.PortNo.{PortNo}
+use Rattle.net_types.specs.declared.address.Tag.{Tag}
+use Rattle.net_types.specs.declared.prefix.Prefix.{Prefix}
+use Rattle.net_types.specs.declared.route.Attrs.{Attrs}
+use Rattle.net_types.specs.declared.rule.Pair.{Pair}
+use Rattle.prefix_classes.specs.Classes.{members}
+
+-- the entry of a route, where its prefix has a tag
+abbrev pub entry_at : FinMap prefix_cmp Tag → Prefix × Attrs → Option (Prefix × Entry)
+entry_at m e = option_map (λ t. let x : Prefix × Entry = (e.0, record { attrs = e.1; tag = t }) in x) (get m e.0)
+
+-- the entries of routes
+abbrev pub entries_at : FinMap prefix_cmp Tag → List (Prefix × Attrs) → List (Prefix × Entry)
+entries_at m es = filter_map (entry_at m) es
+
+-- a tag at each of the ports
+abbrev pub pairs_at : List PortNo → Tag → List Pair
+pairs_at ports t = map (pair_at t) ports
+
+-- each of the tags at each of the ports, in order
+abbrev pub all_pairs : List PortNo → List Tag → List Pair
+all_pairs ports ts = ordered pair_cmp (union_over (pairs_at ports) ts)
+
+-- no prefix has the tag
+abbrev pub has_none : FinMap prefix_cmp Tag → Tag → Bool
+has_none m t = nat_eq (members m t) 0
+
+-- those of the tags that no prefix has, and that nobody at another place was told
+abbrev pub dead_tags : FinMap prefix_cmp Tag → Told → ℕ → List Tag → List Tag
+dead_tags m told at ts = filter (has_none m) (untold (drop (at + 1) told) (untold (take at told) ts))
