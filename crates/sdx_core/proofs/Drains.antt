@@ -53,7 +53,15 @@ use Rattle.sdx_core.proofs.Steps.{in_place, placed, steady_after}
 use Rattle.sdx_core.proofs.Taken.{gone_tags, pairs_go, tags_go}
 use Rattle.sdx_core.proofs.Told.{IsTaker}
 use Rattle.sdx_core.specs.Taking.{all_pairs, dead_tags, has_none}
-use Rattle.sdx_core.specs.View.{IsKept}
+use Rattle.sdx_core.specs.View.{IsKept, state_of}
+use Rattle.std.specs.Prelude.{codes}
+use Rattle.events.specs.declared.Phase.{Phase}
+use Rattle.events.specs.declared.Phase.TheVariants.{Running}
+use Rattle.match_switch.specs.Installed.{Installed}
+use Rattle.net_types.specs.declared.address.Ip.{Ip}
+use Rattle.prefix_classes.specs.Classes.{Classes}
+use Rattle.registry.specs.Registered.{Registered}
+use Rattle.route_server.specs.Served.{Served}
 
 tag_tie : (x y : Tag) → eq_by_cmp tag_cmp x y ≡ true → x ≡ y
 tag_tie = same_from_tie tag_cmp tag_cmp-IsAntisymmetric
@@ -217,3 +225,26 @@ module _ (s : State) (name : List ℕ) (who : Pid) (pool : Tags) (kept : IsKept 
           let few : s.size ≤ 65536 = kept.steady.sized.small in
           let below : e.tag.0 ≤ s.size = range.1 in
           omega (arith, few, below)
+
+-- the parts make the state in which the participant was told what is present
+pub told_then : (phase : Phase) (base : Ip) (size : ℕ) (names : Registered) (served : Served) (resolved : List (List Ip)) (classes : Classes) (heard : List (FinMap prefix_cmp Entry)) (installed : Installed) (who : Pid)
+    (classes' : Classes) (heard' : List (FinMap prefix_cmp Entry)) (installed' : Installed)
+    → let s = state_of phase base size names served resolved classes heard installed in
+    let s' = told_anew s who (present s who) in
+    heard' ≡ s'.told → classes'.tag ≡ classes.tag → classes'.kept ≡ s'.kept → installed'.table ≡ s'.table → installed'.capacity ≡ installed.capacity
+    → state_of Running base size names served resolved classes' heard' installed' ≡ s'
+told_then phase base size names served resolved classes heard installed who classes' heard' installed' heard_is tag kept table capacity = λ i. record {
+  phase = Running;
+  base = base;
+  size = size;
+  capacity = capacity i;
+  routing = record { participants = names.participants; ports = names.ports; rules = served.rules; routes = served.routes };
+  outbound = map (λ m. codes "drop") names.participants;
+  inbound = map (λ m. codes "drop") names.participants;
+  tag = tag i;
+  kept = kept i;
+  told = heard_is i;
+  resolved = resolved;
+  table = table i;
+  owed = None;
+}
