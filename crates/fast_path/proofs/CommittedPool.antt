@@ -88,7 +88,7 @@ taken_in_turn p (t ∷ ts) rises are taken = (
   are t (inl refl),
   taken t (inl refl),
   taken_in_turn (marked p t false) ts rises.1 (λ u m. still_tag p t u false (are u (inr m)))
-  (λ u m.
+      (λ u m.
       let less : t.0 < u.0 = ltb-true t.0 u.0 (rises.0 u m) in
       marked_other p t u false (are t (inl refl)) (are u (inr m)) (λ e. omega arith) ∙ taken u (inr m)),
 )
@@ -100,7 +100,7 @@ free_in_turn p (t ∷ ts) rises are free = (
   are t (inl refl),
   free t (inl refl),
   free_in_turn (marked p t true) ts rises.1 (λ u m. still_tag p t u true (are u (inr m)))
-  (λ u m.
+      (λ u m.
       let less : t.0 < u.0 = ltb-true t.0 u.0 (rises.0 u m) in
       marked_other p t u true (are t (inl refl)) (are u (inr m)) (λ e. omega arith) ∙ free u (inr m)),
 )

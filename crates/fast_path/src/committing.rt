@@ -4,9 +4,7 @@ ghost use Rattle.std.specs.Prelude.{◌≡◌, ◌≤◌, length, true, false, O
 ghost use Rattle.events.specs.After.{without_pairs};
 ghost use Rattle.fast_path.specs.Committing.{CanCommit, kept_with, kept_without, marked_all, tags_of, tags_with, with_blocks};
 
-use crate::parts::{
-    forget_all, give_all, keep_all, put_all, remove_all, retag_all, take_all,
-};
+use crate::parts::{forget_all, give_all, keep_all, put_all, remove_all, retag_all, take_all};
 use crate::planned::{Changes, Plan};
 use match_switch::Switch;
 use net_types::Memory;
@@ -28,12 +26,7 @@ pub fn reserve(plan: &Plan, classes: &mut ClassMap, switch: &mut Switch) -> Resu
 }
 
 /// The classes, the pool and the table become those that were planned. What the plan says of tags and rules is given back.
-pub fn commit(
-    plan: Plan,
-    classes: &mut ClassMap,
-    pool: &mut Pool,
-    switch: &mut Switch,
-) -> Changes
+pub fn commit(plan: Plan, classes: &mut ClassMap, pool: &mut Pool, switch: &mut Switch) -> Changes
     requires { CanCommit plan classes.old pool.old switch.old }
     ensures tag { classes.new.tag ≡ tags_with classes.old.tag plan.tags }
     ensures kept { classes.new.kept ≡ kept_without (kept_with classes.old.kept plan.fresh.items) plan.dead.items }

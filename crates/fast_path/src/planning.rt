@@ -27,11 +27,7 @@ use route_server::Proposal;
 use std::alloc::Global;
 
 /// The fresh tags with the signatures of their groups.
-fn with_tags(
-    alloc: Global,
-    groups: &[Fresh],
-    tags: &[Tag],
-) -> Result<Vec<(Tag, Sig)>, Memory>
+fn with_tags(alloc: Global, groups: &[Fresh], tags: &[Tag]) -> Result<Vec<(Tag, Sig)>, Memory>
     ensures { IfOk result (λ fresh. fresh.items ≡ kept_of tags.now (map (λ (f : Fresh). f.sig) groups.now)) }
 {
     let mut fresh = Vec::new(alloc);

@@ -144,7 +144,7 @@ module _ (s : State) (who : Pid) (apart : PortsDiffer s.routing.ports) (place : 
       let was = gone_pairs_were_told s who (present s who) pair live dead in
       let q : PortInfo = was.0 in
       let none : tells (present s who) pair.tag ≡ false = false_from_ne_true (tells (present s who) pair.tag) (λ now.
-          clash (live_from s1 pair q was.1 (or_right (tells (told_to s1 q.owner) pair.tag) (tells (present s1 q.owner) pair.tag) (ap (λ w. tells (present s1 w) pair.tag) was.2 ∙ now))) dead) in
+      clash (live_from s1 pair q was.1 (or_right (tells (told_to s1 q.owner) pair.tag) (tells (present s1 q.owner) pair.tag) (ap (λ w. tells (present s1 w) pair.tag) was.2 ∙ now))) dead) in
       Member-union (pairs_at ports) gone pair.tag pair (tag_gone (told_to s who) (present s who) pair.tag was.3 none)
       (subst (λ w. Member pair (map (pair_at pair.tag) (ports_of (registered s) w))) was.2
       (subst (λ y. Member y (map (pair_at pair.tag) (ports_of (registered s) q.owner))) (λ i. record { port = sym (found_number s pair.port q was.1) i; tag = pair.tag })
@@ -175,7 +175,7 @@ module _ (s : State) (who : Pid) (apart : PortsDiffer s.routing.ports) (place : 
       let is = gone_tag (told_to s who) (present s who) t before.stands in (
         or_right (has_prefix s t) (is_told s.told t) (told_live s who t is.was),
         ap (λ b. b || is_told (slice_set s.told who.0 (present s who)) t) (unheld t held.passes)
-        ∙ any_split (λ es. tells es t) s.told who.0 (present s who) (not_true (is_told (take who.0 s.told) t) before.passes) (ap (λ n. is_told (drop n s.told) t) (sym (one_more who.0)) ∙ not_true (is_told (drop (who.0 + 1) s.told) t) after.passes) is.not_now,
+            ∙ any_split (λ es. tells es t) s.told who.0 (present s who) (not_true (is_told (take who.0 s.told) t) before.passes) (ap (λ n. is_told (drop n s.told) t) (sym (one_more who.0)) ∙ not_true (is_told (drop (who.0 + 1) s.told) t) after.passes) is.not_now,
       )
 
   all_tags : (t : Tag) → is_live s t ≡ true → is_live s1 t ≡ false → Member t dead_here

@@ -59,11 +59,7 @@ pub fn pairs_of(alloc: Global, ports: &[PortNo], tags: &[Tag]) -> Result<Vec<Pai
 }
 
 /// Those of the tags that no prefix has, in their order.
-fn without_members(
-    alloc: Global,
-    classes: &ClassMap,
-    tags: &[Tag],
-) -> Result<Vec<Tag>, Memory>
+fn without_members(alloc: Global, classes: &ClassMap, tags: &[Tag]) -> Result<Vec<Tag>, Memory>
     ensures { IfOk result (λ left. left.items ≡ filter (has_none classes.now.tag) tags.now) }
 {
     let mut left = Vec::new(alloc);

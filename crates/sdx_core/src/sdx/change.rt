@@ -60,11 +60,7 @@ impl Sdx {
     }
 
     /// What an UPDATE asks for.
-    fn update_asked(
-        &self,
-        name: &Name,
-        bytes: &Bytes,
-    ) -> Result<Result<Proposal, Refusal>, Memory>
+    fn update_asked(&self, name: &Name, bytes: &Bytes) -> Result<Result<Proposal, Refusal>, Memory>
         ensures { IfOk result (Asks self.now (lines.Update name.now bytes.now)) }
     {
         let who = match self.session(name) {
@@ -98,11 +94,7 @@ impl Sdx {
     }
 
     /// What `export` asks for.
-    fn export_asked(
-        &self,
-        name: &Name,
-        text: &Text,
-    ) -> Result<Result<Proposal, Refusal>, Memory>
+    fn export_asked(&self, name: &Name, text: &Text) -> Result<Result<Proposal, Refusal>, Memory>
         requires { IsTrue (is_utf8 text.now) }
         ensures { IfOk result (Asks self.now (lines.Export name.now text.now)) }
     {

@@ -29,6 +29,8 @@ returns c =
     let a = c.self.inside in
     let s : State = state_of a.phase a.base a.size a.registry a.server a.resolved.items a.classes a.told.items a.switch in
     let sender : IsSender s c.args.name.now c.in-Ok.who = sender_of s c.args.name.now c.in-Ok.who (ap (λ (x : State). session x c.args.name.now) c.self.view_is ∙ sym c.session.ensures ∙ c.in-Ok.is) in
-    subst (λ (x : State). (r : Routing) × Leads x (Export c.args.name.now c.args.text.now) r c.in_ok-proposal.proposal) c.self.view_is
-    (with_rules s.routing c.in-Ok.who c.in-Ok-2.rules, export_leads s c.args.name.now c.in-Ok.who sender c.args.text.now c.in-Ok-2.rules c.in_ok-proposal.proposal
-    (ap (λ (x : State). rules_or_refusal x.routing c.args.text.now) c.self.view_is ∙ sym c.in_ok-rules.ensures ∙ c.in-Ok-2.is) c.in_ok-proposal.ensures.proposal)
+    subst (λ (x : State). (r : Routing) × Leads x (Export c.args.name.now c.args.text.now) r c.in_ok-proposal.proposal) c.self.view_is (
+      with_rules s.routing c.in-Ok.who c.in-Ok-2.rules,
+      export_leads s c.args.name.now c.in-Ok.who sender c.args.text.now c.in-Ok-2.rules c.in_ok-proposal.proposal
+          (ap (λ (x : State). rules_or_refusal x.routing c.args.text.now) c.self.view_is ∙ sym c.in_ok-rules.ensures ∙ c.in-Ok-2.is) c.in_ok-proposal.ensures.proposal,
+    )

@@ -51,10 +51,10 @@ invariant_of-self-2 c =
     let reached = c.commit.ensures.reached s.routing r (sym c.reserve.ensures.routes) (sym c.reserve.ensures.rules) here.proposes in
     let done = c.commit-changes.ensures in
     let then = state_then a.phase a.base a.size a.registry a.server a.resolved.items a.classes a.told.items a.switch r c.commit.new.self c.commit-changes.new.classes c.commit-changes.new.switch here.alike reached.0 reached.1
-        (done.tag ∙ ap (λ m. tags_with m plan.tags) c.reserve-2.ensures.tag ∙ tags_committed s r plan c.self.invariant.steady here.alike plans)
-        (done.kept ∙ ap (λ m. kept_without (kept_with m plan.fresh.items) plan.dead.items) c.reserve-2.ensures.kept ∙ kept_committed s r plan c.self.invariant.steady here.alike plans)
-        (done.table ∙ ap (λ m. with_blocks (without_pairs m plan.drops) plan.blocks.items) c.reserve-2.ensures.table ∙ table_committed s r plan c.self.invariant.steady here.alike plans)
-        (done.capacity ∙ c.reserve-2.ensures.capacity) in
+    (done.tag ∙ ap (λ m. tags_with m plan.tags) c.reserve-2.ensures.tag ∙ tags_committed s r plan c.self.invariant.steady here.alike plans)
+    (done.kept ∙ ap (λ m. kept_without (kept_with m plan.fresh.items) plan.dead.items) c.reserve-2.ensures.kept ∙ kept_committed s r plan c.self.invariant.steady here.alike plans)
+    (done.table ∙ ap (λ m. with_blocks (without_pairs m plan.drops) plan.blocks.items) c.reserve-2.ensures.table ∙ table_committed s r plan c.self.invariant.steady here.alike plans)
+    (done.capacity ∙ c.reserve-2.ensures.capacity) in
     committed_kept s e r c.args.proposal plan c.changes_reply.result _ a.pool c.self.invariant c.requires.1 here plans (says c.changes_reply.result c.commit-changes.result plan c.changes_reply.ensures done.changes) then c.commit-changes.new.pool done.pool
 
 pub returns : goal.returns
@@ -67,10 +67,10 @@ returns c = λ e r formed leads.
     let reached = c.commit.ensures.reached s.routing r (sym c.reserve.ensures.routes) (sym c.reserve.ensures.rules) here.proposes in
     let done = c.commit-changes.ensures in
     let then = state_then a.phase a.base a.size a.registry a.server a.resolved.items a.classes a.told.items a.switch r c.commit.new.self c.commit-changes.new.classes c.commit-changes.new.switch here.alike reached.0 reached.1
-        (done.tag ∙ ap (λ m. tags_with m plan.tags) c.reserve-2.ensures.tag ∙ tags_committed s r plan c.self.invariant.steady here.alike plans)
-        (done.kept ∙ ap (λ m. kept_without (kept_with m plan.fresh.items) plan.dead.items) c.reserve-2.ensures.kept ∙ kept_committed s r plan c.self.invariant.steady here.alike plans)
-        (done.table ∙ ap (λ m. with_blocks (without_pairs m plan.drops) plan.blocks.items) c.reserve-2.ensures.table ∙ table_committed s r plan c.self.invariant.steady here.alike plans)
-        (done.capacity ∙ c.reserve-2.ensures.capacity) in
+    (done.tag ∙ ap (λ m. tags_with m plan.tags) c.reserve-2.ensures.tag ∙ tags_committed s r plan c.self.invariant.steady here.alike plans)
+    (done.kept ∙ ap (λ m. kept_without (kept_with m plan.fresh.items) plan.dead.items) c.reserve-2.ensures.kept ∙ kept_committed s r plan c.self.invariant.steady here.alike plans)
+    (done.table ∙ ap (λ m. with_blocks (without_pairs m plan.drops) plan.blocks.items) c.reserve-2.ensures.table ∙ table_committed s r plan c.self.invariant.steady here.alike plans)
+    (done.capacity ∙ c.reserve-2.ensures.capacity) in
     let s' : State = state_of Running a.base a.size a.registry c.commit.new.self a.resolved.items c.commit-changes.new.classes a.told.items c.commit-changes.new.switch in
     subst (λ x. IsStep x e c.changes_reply.result s') c.self.view_is
     (committed_step s e r c.args.proposal plan c.changes_reply.result s' a.pool c.self.invariant formed here plans (says c.changes_reply.result c.commit-changes.result plan c.changes_reply.ensures done.changes) then)
