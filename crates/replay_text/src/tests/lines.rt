@@ -7,7 +7,7 @@ use std::alloc::Global;
 use std::test::Fail;
 
 /// What is wrong with the second line, a line that is read, and the second line.
-const TWINS: [(&str, &str, &str); 80] = [
+const TWINS: [(&str, &str, &str); 67] = [
     (
         "a leading zero",
         "exchange 172.16.0.0 4096 100000",
@@ -167,31 +167,6 @@ const TWINS: [(&str, &str, &str); 80] = [
     ("two spaces before digits", "update B 00", "update B  00"),
     ("a space behind digits", "update B 00", "update B 00 "),
     ("digits for a name", "update B 00", "update 1 00"),
-    ("down without a name", "down A", "down"),
-    ("down with an empty name", "down A", "down "),
-    ("down with two names", "down B", "down B C"),
-    ("a digit in front of a name in down", "down B1", "down 1B"),
-    ("a longer word than down", "down B", "downs B"),
-    ("export without a name", "export B x", "export"),
-    ("export with an empty name", "export B x", "export  x"),
-    (
-        "a digit in front of a name in export",
-        "export B1 x",
-        "export 1B x",
-    ),
-    (
-        "two spaces before a name in export",
-        "export B x",
-        "export  B x",
-    ),
-    (
-        "a colon behind a name in export",
-        "export B x",
-        "export B: x",
-    ),
-    ("export without a text", "export B x", "export B"),
-    ("export with an empty text", "export B  ", "export B "),
-    ("export in upper case", "export B x", "EXPORT B x"),
     ("resolve without a port", "resolve 1", "resolve"),
     ("resolve with an empty port", "resolve 1", "resolve "),
     ("resolve 0", "resolve 1", "resolve 0"),
@@ -229,6 +204,35 @@ const BAD_PARTS: [(&str, &str); 15] = [
     ("a name for a port", " A 00"),
 ];
 
+/// The same of the lines that take out routes and set export rules.
+const ROUTE_TWINS: [(&str, &str, &str); 13] = [
+    ("down without a name", "down A", "down"),
+    ("down with an empty name", "down A", "down "),
+    ("down with two names", "down B", "down B C"),
+    ("a digit in front of a name in down", "down B1", "down 1B"),
+    ("a longer word than down", "down B", "downs B"),
+    ("export without a name", "export B x", "export"),
+    ("export with an empty name", "export B x", "export  x"),
+    (
+        "a digit in front of a name in export",
+        "export B1 x",
+        "export 1B x",
+    ),
+    (
+        "two spaces before a name in export",
+        "export B x",
+        "export  B x",
+    ),
+    (
+        "a colon behind a name in export",
+        "export B x",
+        "export B: x",
+    ),
+    ("export without a text", "export B x", "export B"),
+    ("export with an empty text", "export B  ", "export B "),
+    ("export in upper case", "export B x", "EXPORT B x"),
+];
+
 fn is_refused(alloc: Global, line: &str) -> Result<bool, Memory> {
     let event = read_line(alloc, line.as_bytes())?;
     Ok(matches!(event, Some(Event::Bad)))
@@ -237,6 +241,15 @@ fn is_refused(alloc: Global, line: &str) -> Result<bool, Memory> {
 #[test]
 fn a_twin_of_a_line_is_refused(rt: HostRuntime) -> Result<(), Fail> {
     for (why, line, twin) in TWINS {
+        assert!(rt; !is_refused(rt.alloc(), line)?, "{line}");
+        assert!(rt; is_refused(rt.alloc(), twin)?, "{why}");
+    }
+    Ok(())
+}
+
+#[test]
+fn a_twin_of_a_route_line_is_refused(rt: HostRuntime) -> Result<(), Fail> {
+    for (why, line, twin) in ROUTE_TWINS {
         assert!(rt; !is_refused(rt.alloc(), line)?, "{line}");
         assert!(rt; is_refused(rt.alloc(), twin)?, "{why}");
     }
