@@ -9,7 +9,7 @@ use Rattle.std.specs.Ordering.{eq_by_cmp}
 use Rattle.std.proofs.lemmas.Map.Views.{any-filter_same}
 use Rattle.events.proofs.Reached.{owner_declared, runs_declared, runs_sound}
 use Rattle.events.specs.Fits.{FitsBy, IsAccepted, IsSent, IsForwarded, IsTagged, ReachesExporters, bare, destination, tagged_frame}
-use Rattle.events.specs.Headline.{IsAnswered, LeavesFor, LeavesOrAsks, AnswersDrained}
+use Rattle.events.specs.Headline.{IsAnswered, LeavesFor, LeavesOrAsks, AnswersDrained, AnswersTold}
 use Rattle.events.specs.Legal.{state_after}
 use Rattle.events.specs.Resolving.{is_resolved, tag_address}
 use Rattle.events.specs.Sound.{IsSound}
@@ -153,3 +153,20 @@ answers_drained es rs legal port bytes r q none fits at drained =
     let within : q.owner.0 < length s.routing.participants = owner_declared s port q (runs_declared es rs) at in
     let same : longest_of (keys (told_to s q.owner)) d ≡ longest s.routing q.owner d = ap (λ m. longest_of (keys m) d) drained ∙ longest_present s q.owner (runs_sound es rs legal) within d in
     leaves_for s q bytes r drained (longest s.routing q.owner d) (subst (IsSent s q bytes r) same sent)
+
+-- what was sent by the entry told for the longest prefix, whose tag is still the prefix's
+sent_by_entry : (s : State) (q : PortInfo) (bytes : List ℕ) (r : Reply) (p : Prefix) (e : Entry) → get s.tag p ≡ Some e.tag → is_some (best s.routing q.owner p) ≡ true
+    → IsTagged (is_resolved s q.number (tag_address s e.tag)) s q bytes p e r → IsAnswered s q bytes r p
+sent_by_entry s q bytes r p e tagged has sent =
+    let answered : Option Tag → Type 0 = λ o. MatchOption o ⊥ (λ t. LeavesOrAsks (is_resolved s q.number (tag_address s t)) s q bytes r p t) in
+    subst answered (sym tagged) (leaves_or_asks (is_resolved s q.number (tag_address s e.tag)) s q bytes r p e tagged has sent)
+
+pub answers_told : AnswersTold
+answers_told es rs legal port bytes r q p told none fits at longest_is told_is tagged has =
+    let s : State = state_after es rs in
+    let accepted : IsAccepted s (Packet port bytes) r = subst (λ o. FitsBy o s (Packet port bytes) r) none fits in
+    let sent_from : Option PortInfo → Type 0 = λ o. MatchOption o ⊥ (λ x. IsSent s x bytes r (longest_of (keys (told_to s x.owner)) (destination bytes))) in
+    let sent : sent_from (Some q) = subst sent_from at accepted.answer in
+    let by_prefix : IsSent s q bytes r (Some p) = subst (IsSent s q bytes r) longest_is sent in
+    let by_entry : Option Entry → Type 0 = λ o. MatchOption o ⊥ (λ e. IsTagged (is_resolved s q.number (tag_address s e.tag)) s q bytes p e r) in
+    sent_by_entry s q bytes r p told tagged has (subst by_entry told_is by_prefix)

@@ -5,3 +5,4 @@ pub mod OrderedLemmas
 pub mod Candidates
 pub mod Exporters
 pub mod Routed
+pub mod Accepted

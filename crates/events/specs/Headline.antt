@@ -1,13 +1,13 @@
 -- What every legal run of lines promises, in terms of policies and routes alone.
-use Rattle.std.specs.Prelude.{◌≡◌, ℕ, Bool, true, false, List, Some, None, MatchOption}
-use Rattle.std.specs.FinMap.{get}
-use Rattle.events.specs.After.{next}
-use Rattle.events.specs.Fits.{Fits, bare, destination, tagged_frame, ReachesExporters}
+use Rattle.std.specs.Prelude.{◌≡◌, ℕ, ◌≤◌, Bool, true, false, List, Some, None, MatchOption, is_some, sum_by}
+use Rattle.std.specs.FinMap.{get, keys}
+use Rattle.events.specs.After.{after, next}
+use Rattle.events.specs.Fits.{Fits, IsAccepted, bare, cells, destination, tagged_frame, ReachesExporters}
 use Rattle.events.specs.Legal.{Legal, state_after}
-use Rattle.events.specs.Refusals.{refusal}
+use Rattle.events.specs.Refusals.{live_pairs, refusal}
 use Rattle.events.specs.Resolving.{is_resolved, tag_address}
 use Rattle.events.specs.Sound.{IsSound}
-use Rattle.events.specs.State.{State, ArePolicies, IsDrained, port_of}
+use Rattle.events.specs.State.{State, Entry, ArePolicies, IsDrained, port_of, told_to}
 use Rattle.events.specs.Table.{first_match, out}
 use Rattle.events.specs.declared.Event.{Event}
 use Rattle.events.specs.declared.Event.TheVariants.{Drain, Packet}
@@ -16,7 +16,7 @@ use Rattle.events.specs.declared.Reply.{Reply}
 use Rattle.net_types.specs.Answers.{Policies, answer}
 use Rattle.net_types.specs.Exports.{pid_of}
 use Rattle.net_types.specs.Frames.{headers_of}
-use Rattle.net_types.specs.Routes.{longest}
+use Rattle.net_types.specs.Routes.{best, longest, longest_of}
 use Rattle.net_types.specs.declared.address.Pid.{Pid}
 use Rattle.net_types.specs.declared.address.PortNo.{PortNo}
 use Rattle.net_types.specs.declared.address.Tag.{Tag}
@@ -53,6 +53,27 @@ AnswersDrained =
     → refusal (state_after es rs) (Packet port bytes) ≡ None → Fits (state_after es rs) (Packet port bytes) r
     → port_of (state_after es rs) port ≡ Some q → IsDrained (state_after es rs) q.owner
     → MatchOption (longest (state_after es rs).routing q.owner (destination bytes)) (r ≡ bare Unrouted) (IsAnswered (state_after es rs) q bytes r)
+
+-- After any legal run, drained or not: where the longest prefix that the sender was told still has the tag that was told,
+-- and the sender has a best route for it, the datagram is answered for that prefix.
+abbrev pub AnswersTold : Type 0
+AnswersTold =
+    (es : List Event) (rs : List Reply) → Legal es rs → (port : PortNo) (bytes : List ℕ) (r : Reply) (q : PortInfo) (p : Prefix) (told : Entry)
+    → refusal (state_after es rs) (Packet port bytes) ≡ None → Fits (state_after es rs) (Packet port bytes) r
+    → port_of (state_after es rs) port ≡ Some q → longest_of (keys (told_to (state_after es rs) q.owner)) (destination bytes) ≡ Some p
+    → get (told_to (state_after es rs) q.owner) p ≡ Some told → get (state_after es rs).tag p ≡ Some told.tag
+    → is_some (best (state_after es rs).routing q.owner p) ≡ true → IsAnswered (state_after es rs) q bytes r p
+
+-- the table has room for all that the live pairs after a line may want
+abbrev pub HasRoom : State → Event → Type 0
+HasRoom s e = (ps : Policies) × ArePolicies s ps × (sum_by (cells ps (after s e)) (live_pairs (after s e)) ≤ s.capacity)
+
+-- after any legal run, a line that no refusal stops and for which the table has room is accepted
+abbrev pub AcceptsLines : Type 0
+AcceptsLines =
+    (es : List Event) (rs : List Reply) → Legal es rs → (e : Event) (r : Reply)
+    → refusal (state_after es rs) e ≡ None → HasRoom (state_after es rs) e → Fits (state_after es rs) e r
+    → IsAccepted (state_after es rs) e r
 
 -- after any legal run, a participant is drained once its session took what was pending
 abbrev pub DrainDrains : Type 0
