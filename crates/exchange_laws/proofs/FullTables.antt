@@ -1,13 +1,12 @@
 -- Which replies fit a line that no refusal before stops: it is accepted, or the table would be full.
-use Rattle.std.proofs.Common.{◌≡◌, ℕ, ◌+◌, ◌≤◌, ◌<◌, Bool, true, false, List, [], ◌∷◌, length, filter, sum_by, sym, ap, subst, refl, arith, inl, inr}
+use Rattle.std.proofs.Common.{◌≡◌, ℕ, ◌+◌, ◌≤◌, Bool, true, false, List, [], ◌∷◌, length, filter, sum_by, sym, ap, subst, refl, arith, inl, inr}
 use Rattle.std.specs.Option.{option_map_or}
 use Rattle.std.proofs.lemmas.List.Sums.{sum_by-cons}
 use Rattle.events.proofs.OrderedLemmas.{ordered_same}
-use Rattle.events.specs.After.{after}
 use Rattle.events.specs.Fits.{FitsBy, IsAccepted, IsFull, Passes, bare, cells, is_building}
 use Rattle.events.specs.Refusals.{live_pairs, pairs}
 use Rattle.events.specs.Sound.{owners_part, rule_count}
-use Rattle.events.specs.State.{State, ArePolicies}
+use Rattle.events.specs.State.{State}
 use Rattle.events.specs.Tags.{is_live_pair, retagged}
 use Rattle.events.specs.declared.Event.{Event}
 use Rattle.events.specs.declared.Head.TheVariants.{Refused}
@@ -17,7 +16,7 @@ use Rattle.exchange_laws.proofs.Counted.{changes_add_one_each, counted_pairs}
 use Rattle.exchange_laws.proofs.RulesAfter.{default_table, part_kept}
 use Rattle.exchange_laws.proofs.TagsAfter.{tags_stay_pooled}
 use Rattle.exchange_laws.specs.Counts.{ChangesAreCounted, HasOneRuleEach}
-use Rattle.exchange_laws.specs.Fitting.{AcceptedLinesFit, FullTablesAreRefused, LinesAreAccepted}
+use Rattle.exchange_laws.specs.Fitting.{AcceptedLinesFit, FullTablesAreRefused}
 use Rattle.exchange_laws.specs.Rules.{IsChange, with_rules}
 use Rattle.net_types.proofs.MeetLemmas.{IsMeet-everything, IsMeet-meets}
 use Rattle.net_types.proofs.OrderLemmas.{pairs_total}
@@ -43,19 +42,6 @@ passes_accepted false s e r accepted = accepted
 
 pub accepted_lines_fit : AcceptedLinesFit
 accepted_lines_fit s e r none accepted = subst (λ o. FitsBy o s e r) (sym none) (passes_accepted (is_building e) s e r accepted)
-
-passes_with_room : (b : Bool) (s : State) (e : Event) (r : Reply) (ps : Policies) → Passes b s e r → ArePolicies s ps → sum_by (cells ps (after s e)) (live_pairs (after s e)) ≤ s.capacity → IsAccepted s e r
-passes_with_room false s e r ps is are room = is
-passes_with_room true s e r ps is are room = elim is [
-  | inl accepted ↦ accepted
-  | inr full ↦
-      let few : full.rules ≤ sum_by (cells ps (after s e)) (live_pairs (after s e)) = full.few ps are in
-      let over : s.capacity < full.rules = full.over in
-      absurd (omega arith)
-]
-
-pub lines_are_accepted : LinesAreAccepted
-lines_are_accepted s e r ps fits none are room = passes_with_room (is_building e) s e r ps (subst (λ o. FitsBy o s e r) none fits) are room
 
 -- ---- a full table
 

@@ -21,3 +21,7 @@ pub mod QuietLines
 pub mod ListedPairs
 pub mod OneRuleEach
 pub mod FullTables
+pub mod PoolTags
+pub mod Framing
+pub mod Forwarded
+pub mod EveryLine

@@ -11,3 +11,4 @@ pub mod Listed
 pub mod Rerouting
 pub mod Quiet
 pub mod Fitting
+pub mod Replying

@@ -1,15 +1,10 @@
 //! Which replies fit a line that no refusal before stops.
 
-ghost use Rattle.exchange_laws.specs.Fitting.{AcceptedLinesFit, FullTablesAreRefused, LinesAreAccepted};
+ghost use Rattle.exchange_laws.specs.Fitting.{AcceptedLinesFit, FullTablesAreRefused};
 
 /// The reply by which such a line is accepted fits.
 pub fn accepted_lines_fit()
     ensures { AcceptedLinesFit }
-{}
-
-/// Where there is room for the cells of all live pairs, only such a reply fits.
-pub fn lines_are_accepted()
-    ensures { LinesAreAccepted }
 {}
 
 /// Where there is no room for the default rules after a change of routes, the line is refused.

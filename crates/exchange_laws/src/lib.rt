@@ -5,6 +5,7 @@ mod counts;
 mod fitting;
 mod quiet;
 mod replies;
+mod replying;
 mod reroutings;
 mod rules;
 mod steady;
@@ -18,12 +19,13 @@ pub use counts::{
     pairs_are_live, rules_are_counted, steady_states_have_one_each, tags_are_counted,
     telling_leaves_one_each,
 };
-pub use fitting::{accepted_lines_fit, full_tables_are_refused, lines_are_accepted};
+pub use fitting::{accepted_lines_fit, full_tables_are_refused};
 pub use quiet::quiet_lines_are_accepted;
 pub use replies::{
     changes_are_built, defaults_are_rules, gone_pairs_are_dropped, new_pairs_are_added,
     replies_build_tables,
 };
+pub use replying::{lines_have_replies, runs_go_on};
 pub use reroutings::{
     downs_reroute, exports_reroute, nothing_is_rerouted, reroutings_are_accepted,
     reroutings_are_changes, updates_reroute,

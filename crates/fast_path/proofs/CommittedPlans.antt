@@ -1,10 +1,10 @@
 -- A plan can be committed, and what is committed is the state afterwards.
-use Rattle.std.proofs.Common.{true, ◌≡◌, ◌+◌, ◌^◌, ◌≤◌, ◌<◌, ◌||◌, false, List, [], ◌∷◌, length, map, sym, ap, subst, ◌∙◌, refl, arith}
+use Rattle.std.proofs.Common.{true, ◌≡◌, ◌+◌, ◌^◌, ◌≤◌, ◌<◌, ◌||◌, false, List, [], ◌∷◌, length, sym, ap, subst, ◌∙◌, refl, arith}
 use Rattle.std.specs.Prelude.{is_none}
 use Rattle.std.specs.FinMap.{get, keys}
 use Rattle.std.proofs.lemmas.List.{length-map}
 use Rattle.events.specs.After.{next, without_pairs}
-use Rattle.events.specs.Fits.{Fits, added, bare, dropped, none_rebuilt}
+use Rattle.events.specs.Fits.{Fits, bare, none_rebuilt}
 use Rattle.events.specs.Sound.{rule_count}
 use Rattle.events.specs.State.{State}
 use Rattle.events.specs.Tags.{retagged}
@@ -12,13 +12,10 @@ use Rattle.events.specs.declared.Event.{Event}
 use Rattle.events.specs.declared.Flow.{Flow}
 use Rattle.events.specs.declared.Head.TheVariants.{Fine}
 use Rattle.events.specs.declared.Reply.{Reply}
-use Rattle.exchange_laws.proofs.AcceptedChanges.{reroutings_are_accepted}
-use Rattle.exchange_laws.proofs.Built.{defaults_are_rules}
 use Rattle.exchange_laws.proofs.Counted.{live_pairs_are_counted, pairs_are_live}
 use Rattle.exchange_laws.proofs.OneRuleEach.{steady_have_one_each}
-use Rattle.exchange_laws.proofs.RulesAfter.{defaults_are_tables}
 use Rattle.exchange_laws.specs.Rerouting.{IsRerouting}
-use Rattle.exchange_laws.specs.Rules.{IsChange, IsDeclaredAlike, table_after, with_rules}
+use Rattle.exchange_laws.specs.Rules.{IsChange, IsDeclaredAlike, with_rules}
 use Rattle.exchange_laws.specs.Steady.{IsSteady}
 use Rattle.net_types.specs.Exports.{Routing}
 use Rattle.fast_path.proofs.CommittedFresh.{tags_kept}

@@ -1,13 +1,13 @@
 -- Groups, each once, and the tags of their prefixes.
-use Rattle.std.proofs.Common.{◌≡◌, ℕ, zero, suc, ◌+◌, ◌<◌, Bool, true, false, cond, ◌&&◌, ◌||◌, not, List, [], ◌∷◌, ◌++◌, map, length, filter, drop, sym, ap, subst, ◌∙◌, refl, arith}
-use Rattle.std.specs.Prelude.{Option, Some, None, ◌≤◌, nat_lt, slice_get, slice_index_or, unwrap_or}
+use Rattle.std.proofs.Common.{◌≡◌, ℕ, zero, suc, ◌+◌, ◌<◌, Bool, true, false, cond, ◌||◌, List, [], ◌∷◌, ◌++◌, map, length, drop, sym, ap, ◌∙◌, refl, arith}
+use Rattle.std.specs.Prelude.{Option, Some, ◌≤◌, nat_lt, slice_get, slice_index_or, unwrap_or}
 use Rattle.std.proofs.lemmas.Bool.Decides.{nat_tests}
 use Rattle.std.proofs.lemmas.List.{append_assoc, append-nil, map-append, drop_all}
 use Rattle.std.specs.FinMap.{get}
 use Rattle.std.specs.List.{list_any, position_from}
 use Rattle.net_types.specs.Attributes.{same_option}
 use Rattle.events.specs.declared.TagChange.{TagChange}
-use Rattle.events.specs.Tags.{Group, each_once, same_group, same_tag}
+use Rattle.events.specs.Tags.{Group, same_group, same_tag}
 use Rattle.net_types.specs.declared.address.Tag.{Tag}
 use Rattle.net_types.specs.declared.prefix.Prefix.{Prefix}
 use Rattle.net_types.specs.declared.route.Part.{Part}

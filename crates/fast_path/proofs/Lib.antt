@@ -10,5 +10,6 @@ pub mod CommittedPool
 pub mod CommittedTable
 pub mod CommittedReplies
 pub mod CommittedSteps
+pub mod TagOrder
 pub mod PlanFound
 pub mod CommittedPlans

@@ -1,12 +1,8 @@
 -- What is found by the parts of an exchange is the plan of its state.
-use Rattle.std.proofs.Common.{◌≡◌, ℕ, suc, ◌+◌, ◌-◌, ◌^◌, ◌<◌, ◌≤◌, Bool, true, false, cond, min, nat_le, nat_lt, ⊎_elim, inl, inr, List, [], ◌∷◌, length, map, take, not, sym, ap, subst, ◌∙◌, refl, arith}
-use Rattle.std.specs.Prelude.{◌⊎◌, Some, None, unwrap_or}
-use Rattle.std.specs.Cmp.{nat_cmp_is}
-use Rattle.std.specs.Ordering.{eq_by_cmp, is_lt, nat_cmp}
-use Rattle.std.specs.declared.cmp.Ordering.TheVariants.{Equal, Greater}
-use Rattle.std.proofs.lemmas.Bool.{cases_lt, false≢true, lt-ltb}
+use Rattle.std.proofs.Common.{◌≡◌, ℕ, suc, ◌+◌, ◌-◌, ◌^◌, ◌<◌, ◌≤◌, Bool, true, false, cond, min, nat_le, List, [], ◌∷◌, length, map, take, not, sym, ap, subst, ◌∙◌, refl, arith}
+use Rattle.std.specs.Prelude.{Some, None, unwrap_or}
 use Rattle.std.proofs.lemmas.Bool.Decides.{nat_tests}
-use Rattle.std.specs.FinMap.{FinMap, nat_cmp-IsAntisymmetric}
+use Rattle.std.specs.FinMap.{FinMap}
 use Rattle.std.specs.List.{list_any}
 use Rattle.std.specs.Option.{option_map}
 use Rattle.net_types.specs.Exports.{Routing}
@@ -14,10 +10,8 @@ use Rattle.net_types.specs.Keys.{prefix_cmp, tag_cmp}
 use Rattle.net_types.specs.Maps.{ordered}
 use Rattle.net_types.specs.Sets.{IsRising, Member}
 use Rattle.net_types.specs.declared.address.Tag.{Tag}
-use Rattle.net_types.specs.declared.route.Part.{Part}
 use Rattle.net_types.proofs.OrderLemmas.{tags_total}
-use Rattle.net_types.proofs.RisingLemmas.{before, filter-IsRising}
-use Rattle.net_types.proofs.TieLemmas.{tie_Equal}
+use Rattle.net_types.proofs.RisingLemmas.{filter-IsRising}
 use Rattle.events.proofs.OrderedLemmas.{ordered_rises}
 use Rattle.net_types.proofs.SetLemmas.{map-Member}
 use Rattle.events.specs.Fits.{tag_changes}
@@ -55,6 +49,7 @@ use Rattle.fast_path.specs.Plans.{IsAsked, IsDraft, IsFault, IsPlan, too_many}
 use Rattle.fast_path.specs.declared.planned.FastFault.TheVariants.{TableFull}
 use Rattle.fast_path.specs.declared.planned.Plan.{Plan}
 use Rattle.fast_path.proofs.CommittedReplies.{rules_then_counted}
+use Rattle.fast_path.proofs.TagOrder.{rising_tags, tag_tie}
 use Rattle.fast_path.proofs.TagsPlanned.{changes_found, groups_found, known_of}
 
 class_signatures : (fs : List Fresh) → map (λ (f : Fresh). f.sig) fs ≡ map (λ (g : Group). g.after) (groups_of fs)
@@ -83,20 +78,6 @@ min_is : (a b : ℕ) → a ≤ b → min a b ≡ a
 min_is a b h = omega (arith, h)
 
 -- ---- emptied tags ascend
-
-lesser : (a b : ℕ) → is_lt (nat_cmp a b) ≡ true → nat_lt a b ≡ true
-lesser a b e = ⊎_elim (λ lt. lt-ltb a b lt) (λ ge. absurd (not_less (cases_lt b a) ge)) (cases_lt a b)
-  where
-    not_less : (b < a) ⊎ (a ≤ b) → b ≤ a → ⊥
-    not_less (inl gt) ge = let is : Greater ≡ nat_cmp a b = nat_cmp_is a b Greater gt in false≢true (ap is_lt is ∙ e)
-    not_less (inr le) ge = let is : Equal ≡ nat_cmp a b = nat_cmp_is a b Equal (omega arith) in false≢true (ap is_lt is ∙ e)
-
-rising_tags : (ts : List Tag) → IsRising (before tag_cmp) ts → IsRising is_tag_below ts
-rising_tags [] rises = tt
-rising_tags (t ∷ ts) rises = (λ u m. lesser t.0 u.0 (rises.0 u m), rising_tags ts rises.1)
-
-tag_tie : (t u : Tag) → eq_by_cmp tag_cmp t u ≡ true → t ≡ u
-tag_tie t u e = λ i. record { 0 = nat_cmp-IsAntisymmetric t.0 u.0 (tie_Equal (nat_cmp t.0 u.0) e) i }
 
 emptied_rise : (m : FinMap prefix_cmp Tag) (cs : List TagChange) → IsRising is_tag_below (emptied m cs)
 emptied_rise m cs = filter-IsRising is_tag_below (is_left m cs) (ordered tag_cmp (old_tags m cs)) (rising_tags (ordered tag_cmp (old_tags m cs)) (ordered_rises tag_cmp tags_total tag_tie (old_tags m cs)))

@@ -1,12 +1,12 @@
 -- The groups and the tags that are found by what is known of the touched prefixes are those of the state.
-use Rattle.std.proofs.Common.{◌≡◌, ℕ, zero, suc, ◌+◌, ◌<◌, ◌≤◌, Bool, true, false, cond, ◌&&◌, ◌||◌, not, List, [], ◌∷◌, ◌++◌, map, length, filter, take, sym, ap, subst, ◌∙◌, refl, arith}
+use Rattle.std.proofs.Common.{◌≡◌, ℕ, zero, suc, ◌+◌, ◌<◌, Bool, true, false, cond, ◌&&◌, ◌||◌, not, List, [], ◌∷◌, ◌++◌, map, length, filter, take, sym, ap, subst, ◌∙◌, refl, arith}
 use Rattle.std.specs.Prelude.{Option, Some, None, is_some, slice_get}
 use Rattle.std.specs.FinMap.{get}
 use Rattle.std.specs.List.{list_any, filter_map, cons_option, position_from}
 use Rattle.std.specs.Option.{option_and_then, option_map}
 use Rattle.std.proofs.Math.Bool.{or-false}
 use Rattle.std.proofs.lemmas.List.{append_assoc, append-nil}
-use Rattle.net_types.specs.Attributes.{same_option, same_signature}
+use Rattle.net_types.specs.Attributes.{same_option}
 use Rattle.net_types.specs.Exports.{Routing}
 use Rattle.net_types.specs.Routes.{Candidate, best, candidates, pids}
 use Rattle.net_types.specs.Signatures.{offer, part, signature}
@@ -18,12 +18,11 @@ use Rattle.events.specs.Fits.{tag_changes}
 use Rattle.events.specs.State.{State}
 use Rattle.events.specs.Tags.{Group, each_once, free_tags, fresh_tag, group_of, groups, is_carried, is_changed, new_tag, retagged, same_group, same_tag}
 use Rattle.events.specs.declared.TagChange.{TagChange}
-use Rattle.exchange_laws.specs.Fresh.{HasEnoughTags}
-use Rattle.exchange_laws.specs.Touched.{IsTouching, groups_among, tag_changes_among}
+use Rattle.exchange_laws.specs.Touched.{IsTouching, tag_changes_among}
 use Rattle.exchange_laws.proofs.Lists.{clash, some_of}
 use Rattle.exchange_laws.proofs.Sames.{group_itself, group_same}
 use Rattle.exchange_laws.proofs.TouchedPrefixes.{touched_have_changes, touched_have_groups}
-use Rattle.fast_path.specs.Grouping.{Known, change_before, changes_of, group_at, group_before, groups_of, is_empty, is_kept_sig, is_moved, more_groups, moved_groups, one_more, same_class, tag_after}
+use Rattle.fast_path.specs.Grouping.{Known, change_before, changes_of, group_before, groups_of, is_empty, is_kept_sig, is_moved, more_groups, moved_groups, same_class, tag_after}
 use Rattle.live_pairs.specs.declared.forward.Fresh.{Fresh}
 use Rattle.fast_path.proofs.GroupLemmas.{place_among}
 

@@ -10,7 +10,6 @@ use Rattle.exchange_laws.specs.Rules.{default_rules}
 use Rattle.net_types.specs.Exports.{Routing}
 use Rattle.net_types.specs.Sets.{Member}
 use Rattle.net_types.specs.declared.address.Tag.{Tag}
-use Rattle.net_types.specs.declared.route.Part.{Part}
 use Rattle.next_hop_pool.specs.Free.{Tags}
 use Rattle.next_hop_pool.specs.Free as pool
 use Rattle.live_pairs.specs.LiveOnly.{group_signatures, group_tags}

@@ -1,33 +1,33 @@
 -- What a line gives is well formed.
-use Rattle.std.proofs.Common.{◌≡◌, ℕ, ◌+◌, ◌≤◌, ◌<◌, Bool, true, false, cond, ◌&&◌, List, [], ◌∷◌, refl, nat_le, nat_lt, nat_eq, not, take, drop, length, Option, Some, None, codes}
+use Rattle.std.proofs.Common.{◌≡◌, ℕ, ◌+◌, ◌≤◌, Bool, true, false, cond, ◌&&◌, List, [], ◌∷◌, refl, nat_le, nat_lt, nat_eq, not, take, drop, length, Option, Some, None, codes}
 use Rattle.std.specs.Prelude.{IfSome, IsTrue}
 use Rattle.std.specs.Option.{option_map, option_map_or, option_and_then}
 use Rattle.std.proofs.lemmas.Bool.{and_parts, leb-true}
 use Rattle.net_types.specs.declared.address.Ip.{Ip}
 use Rattle.net_types.specs.declared.address.PortNo.{PortNo}
 use Rattle.events.specs.declared.Event.{Event}
-use Rattle.events.specs.declared.Event.TheVariants.{Exchange, Participant, Port, Update, Down, Export, Drain, Arp, Resolve, Packet, Frame}
+use Rattle.events.specs.declared.Event.TheVariants.{Bad, Exchange, Participant, Port, Update, Down, Export, Drain, Arp, Resolve, Packet, Frame, Table}
 use Rattle.events.specs.Fits.{IsWellFormed}
-use Rattle.events.specs.Lines.{only_if, number, number_within, port_number, as_number, address, hardware_address, is_name, name, is_utf8, is_text, bytes, first_space, exchange_event, exchange_line, participant_line, port_line, update_line, export_line, is_word, or_bad, pieces, event_of_word, event_of_words, event_of_verb, event_of_line}
+use Rattle.events.specs.Lines.{only_if, number, number_within, port_number, as_number, address, hardware_address, is_name, name, is_utf8, is_text, bytes, first_space, exchange_event, exchange_line, participant_line, port_line, update_line, arp_line, packet_line, frame_line, export_line, is_word, or_bad, pieces, event_of_word, event_of_words, event_of_verb, event_of_line}
 
-then_holds : {X Y : Type 0} (P : X → Type 0) (Q : Y → Type 0) (o : Option X) (f : X → Option Y) → IfSome o P → ((x : X) → P x → IfSome (f x) Q) → IfSome (option_and_then f o) Q
+pub then_holds : {X Y : Type 0} (P : X → Type 0) (Q : Y → Type 0) (o : Option X) (f : X → Option Y) → IfSome o P → ((x : X) → P x → IfSome (f x) Q) → IfSome (option_and_then f o) Q
 then_holds P Q None f h next = tt
 then_holds P Q (Some x) f h next = next x h
 
-map_holds : {X Y : Type 0} (P : X → Type 0) (Q : Y → Type 0) (o : Option X) (f : X → Y) → IfSome o P → ((x : X) → P x → Q (f x)) → IfSome (option_map f o) Q
+pub map_holds : {X Y : Type 0} (P : X → Type 0) (Q : Y → Type 0) (o : Option X) (f : X → Y) → IfSome o P → ((x : X) → P x → Q (f x)) → IfSome (option_map f o) Q
 map_holds P Q None f h next = tt
 map_holds P Q (Some x) f h next = next x h
 
-any_holds : {X : Type 0} (o : Option X) → IfSome o (λ x. Unit {0})
+pub any_holds : {X : Type 0} (o : Option X) → IfSome o (λ x. Unit {0})
 any_holds None = tt
 any_holds (Some x) = tt
 
-kept : {X : Type 0} (P : X → Type 0) (b : Bool) (x : X) → (b ≡ true → P x) → IfSome (cond b (Some x) None) P
+pub kept : {X : Type 0} (P : X → Type 0) (b : Bool) (x : X) → (b ≡ true → P x) → IfSome (cond b (Some x) None) P
 kept P true x h = h refl
 kept P false x h = tt
 
 -- what passes a test
-only_holds : {X : Type 0} (P Q : X → Type 0) (test : X → Bool) (o : Option X) → IfSome o P → ((x : X) → P x → test x ≡ true → Q x) → IfSome (only_if test o) Q
+pub only_holds : {X : Type 0} (P Q : X → Type 0) (test : X → Bool) (o : Option X) → IfSome o P → ((x : X) → P x → test x ≡ true → Q x) → IfSome (only_if test o) Q
 only_holds P Q test None h next = tt
 only_holds P Q test (Some x) h next = kept Q (test x) x (next x h)
 
@@ -83,9 +83,9 @@ update_formed a b =
     (λ who n. map_holds (λ octets. Unit {0}) IsWellFormed (bytes b) (λ octets. Update who octets) (any_holds (bytes b)) (λ octets any. n))
 
 -- a port and octets, whatever is made of them
-at_port : (f : PortNo → List ℕ → Event) (a b : List ℕ) → ((n : PortNo) (octets : List ℕ) → (1 ≤ n.0) × (n.0 ≤ 65279) → IsWellFormed (f n octets))
+at_port : (f : PortNo → List ℕ → Event) → ((n : PortNo) (octets : List ℕ) → (1 ≤ n.0) × (n.0 ≤ 65279) → IsWellFormed (f n octets)) → (a b : List ℕ)
     → IfSome (option_and_then (λ n. option_map (λ octets. f n octets) (bytes b)) (port_number a)) IsWellFormed
-at_port f a b is =
+at_port f is a b =
     then_holds (λ n. (1 ≤ n.0) × (n.0 ≤ 65279)) IsWellFormed (port_number a) _ (port_holds a)
     (λ n h. map_holds (λ octets. Unit {0}) IsWellFormed (bytes b) (λ octets. f n octets) (any_holds (bytes b)) (λ octets any. is n octets h))
 
@@ -109,42 +109,53 @@ export_formed rest =
     (λ at any. then_holds (λ who. IsTrue (is_name who)) IsWellFormed (name (take at rest)) _ (name_holds (take at rest))
     (λ who n. map_holds (λ t. IsTrue (is_utf8 t)) IsWellFormed (only_if is_text (Some (drop (at + 1) rest))) (λ t. Export who t) (text_holds (drop (at + 1) rest)) (λ t is. (n, is))))
 
-or_bad_formed : (o : Option Event) → IfSome o IsWellFormed → IsWellFormed (or_bad o)
-or_bad_formed None h = tt
-or_bad_formed (Some e) h = h
+-- What is so of the events of all kinds of lines is so of the event of each line.
+module _ (Q : Event → Type 0) (bad : Q Bad) (table : Q Table)
+    (exchange : (a b c : List ℕ) → IfSome (exchange_line a b c) Q) (participant : (a b c : List ℕ) → IfSome (participant_line a b c) Q) (port : (a b c d : List ℕ) → IfSome (port_line a b c d) Q)
+    (update : (a b : List ℕ) → IfSome (update_line a b) Q) (down : (a : List ℕ) → IfSome (option_map (λ who. Down who) (name a)) Q) (export : (rest : List ℕ) → IfSome (export_line rest) Q)
+    (drain : (a : List ℕ) → IfSome (option_map (λ who. Drain who) (name a)) Q) (arp : (a b : List ℕ) → IfSome (arp_line a b) Q) (resolve : (a : List ℕ) → IfSome (option_map (λ n. Resolve n) (port_number a)) Q)
+    (packet : (a b : List ℕ) → IfSome (packet_line a b) Q) (frame : (a b : List ℕ) → IfSome (frame_line a b) Q) where
+  or_bad_holds : (o : Option Event) → IfSome o Q → Q (or_bad o)
+  or_bad_holds None h = bad
+  or_bad_holds (Some e) h = h
 
-if_formed : (b : Bool) (e f : Event) → IsWellFormed e → IsWellFormed f → IsWellFormed (cond b e f)
-if_formed true e f h k = h
-if_formed false e f h k = k
+  if_holds : (b : Bool) (e f : Event) → Q e → Q f → Q (cond b e f)
+  if_holds true e f h k = h
+  if_holds false e f h k = k
 
-words_formed : (ws : List (List ℕ)) → IsWellFormed (event_of_words ws)
-words_formed [] = tt
-words_formed (w ∷ []) = if_formed (is_word w (codes "table")) _ _ tt tt
-words_formed (w ∷ a ∷ []) =
-    if_formed (is_word w (codes "drain")) _ _ (or_bad_formed _ (drain_formed a))
-    (if_formed (is_word w (codes "down")) _ _ (or_bad_formed _ (down_formed a))
-    (if_formed (is_word w (codes "resolve")) _ _ (or_bad_formed _ (resolve_formed a)) tt))
-words_formed (w ∷ a ∷ b ∷ []) =
-    if_formed (is_word w (codes "update")) _ _ (or_bad_formed _ (update_formed a b))
-    (if_formed (is_word w (codes "arp")) _ _ (or_bad_formed _ (at_port (λ n octets. Arp n octets) a b (λ n octets h. h)))
-    (if_formed (is_word w (codes "packet")) _ _ (or_bad_formed _ (at_port (λ n octets. Packet n octets) a b (λ n octets h. h)))
-    (if_formed (is_word w (codes "frame")) _ _ (or_bad_formed _ (at_port (λ n octets. Frame n octets) a b (λ n octets h. h))) tt)))
-words_formed (w ∷ a ∷ b ∷ c ∷ []) =
-    if_formed (is_word w (codes "exchange")) _ _ (or_bad_formed _ (exchange_formed a b c))
-    (if_formed (is_word w (codes "participant")) _ _ (or_bad_formed _ (participant_formed a b c)) tt)
-words_formed (w ∷ a ∷ b ∷ c ∷ d ∷ []) = if_formed (is_word w (codes "port")) _ _ (or_bad_formed _ (port_formed a b c d)) tt
-words_formed (w ∷ a ∷ b ∷ c ∷ d ∷ e ∷ others) = tt
+  words_hold : (ws : List (List ℕ)) → Q (event_of_words ws)
+  words_hold [] = bad
+  words_hold (w ∷ []) = if_holds (is_word w (codes "table")) _ _ table bad
+  words_hold (w ∷ a ∷ []) =
+      if_holds (is_word w (codes "drain")) _ _ (or_bad_holds _ (drain a))
+      (if_holds (is_word w (codes "down")) _ _ (or_bad_holds _ (down a))
+      (if_holds (is_word w (codes "resolve")) _ _ (or_bad_holds _ (resolve a)) bad))
+  words_hold (w ∷ a ∷ b ∷ []) =
+      if_holds (is_word w (codes "update")) _ _ (or_bad_holds _ (update a b))
+      (if_holds (is_word w (codes "arp")) _ _ (or_bad_holds _ (arp a b))
+      (if_holds (is_word w (codes "packet")) _ _ (or_bad_holds _ (packet a b))
+      (if_holds (is_word w (codes "frame")) _ _ (or_bad_holds _ (frame a b)) bad)))
+  words_hold (w ∷ a ∷ b ∷ c ∷ []) =
+      if_holds (is_word w (codes "exchange")) _ _ (or_bad_holds _ (exchange a b c))
+      (if_holds (is_word w (codes "participant")) _ _ (or_bad_holds _ (participant a b c)) bad)
+  words_hold (w ∷ a ∷ b ∷ c ∷ d ∷ []) = if_holds (is_word w (codes "port")) _ _ (or_bad_holds _ (port a b c d)) bad
+  words_hold (w ∷ a ∷ b ∷ c ∷ d ∷ e ∷ others) = bad
 
-verb_formed : (w rest : List ℕ) → IsWellFormed (event_of_verb w rest)
-verb_formed w rest = if_formed (is_word w (codes "export")) _ _ (or_bad_formed _ (export_formed rest)) (words_formed (w ∷ pieces 32 rest))
+  verb_holds : (w rest : List ℕ) → Q (event_of_verb w rest)
+  verb_holds w rest = if_holds (is_word w (codes "export")) _ _ (or_bad_holds _ (export rest)) (words_hold (w ∷ pieces 32 rest))
 
-word_formed : (w : List ℕ) → IsWellFormed (event_of_word w)
-word_formed w = if_formed (is_word w (codes "table")) _ _ tt tt
+  word_holds : (w : List ℕ) → Q (event_of_word w)
+  word_holds w = if_holds (is_word w (codes "table")) _ _ table bad
 
-at_formed : (line : List ℕ) (o : Option ℕ) → IsWellFormed (option_map_or (λ at. event_of_verb (take at line) (drop (at + 1) line)) o (event_of_word line))
-at_formed line None = word_formed line
-at_formed line (Some at) = verb_formed (take at line) (drop (at + 1) line)
+  at_holds : (line : List ℕ) (o : Option ℕ) → Q (option_map_or (λ at. event_of_verb (take at line) (drop (at + 1) line)) o (event_of_word line))
+  at_holds line None = word_holds line
+  at_holds line (Some at) = verb_holds (take at line) (drop (at + 1) line)
+
+  pub line_holds : (line : List ℕ) → Q (event_of_line line)
+  line_holds line = at_holds line (first_space line)
 
 -- whatever a line says
 pub line_formed : (line : List ℕ) → IsWellFormed (event_of_line line)
-line_formed line = at_formed line (first_space line)
+line_formed =
+    line_holds IsWellFormed tt tt exchange_formed participant_formed port_formed update_formed down_formed export_formed drain_formed (at_port (λ n octets. Arp n octets) (λ n octets h. h)) resolve_formed
+    (at_port (λ n octets. Packet n octets) (λ n octets h. h)) (at_port (λ n octets. Frame n octets) (λ n octets h. h))

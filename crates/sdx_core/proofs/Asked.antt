@@ -1,17 +1,14 @@
 -- What a line that changes the routes asks for.
-use Rattle.std.proofs.Common.{◌≡◌, ℕ, zero, suc, ◌+◌, ◌<◌, ◌≤◌, ◌^◌, Bool, true, false, cond, nat_eq, nat_le, not, List, [], ◌∷◌, ◌++◌, length, sym, ap, subst, ◌∙◌, refl, arith, sum_by}
-use Rattle.std.specs.Prelude.{Option, Some, None, Result, Ok, Err, IfOk, IfSome, IsTrue, is_some, nat_lt, filter, flat_map}
-use Rattle.std.specs.FinMap.{FinMap, get}
+use Rattle.std.proofs.Common.{◌≡◌, ℕ, ◌+◌, ◌<◌, ◌≤◌, ◌^◌, Bool, true, false, cond, nat_eq, nat_le, not, List, [], ◌∷◌, ◌++◌, length, sym, ap, subst, ◌∙◌, refl, arith, sum_by}
+use Rattle.std.specs.Prelude.{Option, Some, None, Result, Ok, Err, IfOk, IfSome, nat_lt, filter, flat_map}
 use Rattle.std.specs.Option.{option_and_then}
 use Rattle.std.proofs.lemmas.Bool.{false_from_ne_true, ltb-true}
 use Rattle.std.proofs.lemmas.List.{length-append}
 use Rattle.std.proofs.lemmas.List.Sums.{sum_by-cons}
 use Rattle.net_types.specs.Attributes.{same_option}
-use Rattle.net_types.specs.Changes.{without_routes}
 use Rattle.net_types.specs.ExportReading.{rules_of_text}
 use Rattle.net_types.specs.ExportTexts.{bound}
 use Rattle.net_types.specs.Exports.{Routing, asn_of, pid_of}
-use Rattle.net_types.specs.Keys.{RouteKey, route_cmp}
 use Rattle.net_types.specs.Routes.{hops_of}
 use Rattle.net_types.specs.UpdateReading.{decoded}
 use Rattle.net_types.specs.Octets.{address_octets, word}
@@ -32,47 +29,18 @@ use Rattle.net_types.specs.declared.memory.Memory.{Memory}
 use Rattle.events.specs.Fits.{IsStep, IsWellFormed}
 use Rattle.events.specs.declared.Event.{Event}
 use Rattle.events.specs.declared.Reply.{Reply}
-use Rattle.events.specs.Refusals.{attrs_refusal, bound_refusal, has_next_hop, if_known, or_else, refusal, refusal_in_place, rules_refusal, tags_refusal, text_refusal, unless, update_refusal}
+use Rattle.events.specs.Refusals.{attrs_refusal, bound_refusal, has_next_hop, if_known, or_else, refusal, rules_refusal, tags_refusal, text_refusal, unless, update_refusal}
 use Rattle.events.specs.State.{State}
 use Rattle.events.specs.declared.Event.TheVariants.{Down, Export, Update}
 use Rattle.events.specs.declared.Refusal.{Refusal}
-use Rattle.events.specs.declared.Refusal.TheVariants.{FirstAs, Misplaced, NextHop, TextLong}
-use Rattle.exchange_laws.specs.Steady.{RoutesAreDeclared}
+use Rattle.events.specs.declared.Refusal.TheVariants.{FirstAs, NextHop, TextLong}
 use Rattle.registry.specs.Registered.{Registered, has_address}
 use Rattle.route_server.specs.Admission as admission
 use Rattle.route_server.specs.Proposed.{IsProposal, Proposed}
 use Rattle.route_server.specs.Rows.{ruled}
-use Rattle.route_server.specs.Served.{AreDeclared}
-use Rattle.route_server.specs.declared.fault.RouteFault.{RouteFault}
 use Rattle.route_server.specs.declared.fault.RouteFault.TheVariants as faults
-use Rattle.sdx_core.specs.Changing.{Asks, Leads, bound_or, known_or, read_or, rules_or_refusal, session}
-use Rattle.sdx_core.specs.Placed.{is_declared}
+use Rattle.sdx_core.specs.Changing.{Asks, IsSender, Leads, bound_or, read_or, rules_or_refusal}
 use Rattle.sdx_core.proofs.Steps.{in_place, placed}
-
--- ---- who sends a line
-
--- the sender is declared under the name, and the line is in place
-pub record IsSender (s : State) (name : List ℕ) (who : Pid) : Type 0 where
-  pub ready : is_declared s.phase ≡ true
-  pub known : pid_of s.routing name ≡ Some who
-
-pub sender_of : (s : State) (name : List ℕ) (who : Pid) → session s name ≡ Ok who → IsSender s name who
-sender_of s name who e = by (is_declared s.phase) refl (pid_of s.routing name) refl e
-  where
-    by : (b : Bool) → is_declared s.phase ≡ b → (o : Option Pid) → pid_of s.routing name ≡ o → cond b (known_or o) (Err Misplaced) ≡ Ok who → IsSender s name who
-    by true ready (Some w) known e = let same : w ≡ who = cc in record { ready = ready; known = known ∙ ap (λ x. Some x) same }
-    by true ready None known e = absurd (cc)
-    by false ready o known e = absurd (cc)
-
--- each route is a declared participant's
-pub routes_declared : (names : Registered) (r : Routing) → names.participants ≡ r.participants → RoutesAreDeclared r → AreDeclared names r.routes
-routes_declared names r same all = record {
-  declared = λ k. by k (get r.routes k) refl;
-}
-  where
-    by : (k : RouteKey) (o : Option Attrs) → get r.routes k ≡ o → IfSome o (λ _. k.from.0 < length names.participants)
-    by k None e = tt
-    by k (Some a) e = subst (λ ms. k.from.0 < length ms) (sym same) (all k.from k.prefix a e)
 
 -- ---- an UPDATE
 

@@ -1,11 +1,10 @@
 -- The lines that declare are steps.
-use Rattle.std.proofs.Common.{◌≡◌, ℕ, zero, suc, ◌+◌, ◌<◌, Bool, true, false, cond, not, nat_le, ◌||◌, List, [], ◌∷◌, ◌++◌, length, map, filter, replicate, ap, refl, subst, sym, ◌∙◌, arith}
+use Rattle.std.proofs.Common.{◌≡◌, ℕ, zero, suc, ◌+◌, ◌<◌, Bool, true, false, cond, not, nat_le, ◌||◌, List, [], ◌∷◌, ◌++◌, length, map, filter, replicate, ap, refl, subst, sym, ◌∙◌}
 use Rattle.std.specs.Prelude.{Option, Some, None, codes}
 use Rattle.std.specs.FinMap.{FinMap, empty, values}
-use Rattle.std.specs.List.{list_any, position_from}
-use Rattle.std.specs.Option.{option_map, option_map_or}
-use Rattle.net_types.specs.Octets.{same_octets}
+use Rattle.std.specs.List.{list_any}
 use Rattle.std.proofs.lemmas.Bool.{lt-leb}
+use Rattle.events.proofs.Reached.{declared_pid}
 use Rattle.events.specs.After.{with_known, with_participant, with_port}
 use Rattle.events.specs.Fits.{IsStep, IsWellFormed, bare}
 use Rattle.events.specs.Refusals.{if_known, is_name_taken, is_placed, is_port_taken, or_else, refusal, refusal_in_place, unless}
@@ -21,6 +20,7 @@ use Rattle.match_switch.specs.Installed.{Installed}
 use Rattle.prefix_classes.specs.Classes.{Classes}
 use Rattle.registry.specs.Registered as registered
 use Rattle.registry.specs.Registered.{Registered}
+use Rattle.route_server.specs.Rows.{ruled}
 use Rattle.route_server.specs.Served.{Served}
 use Rattle.net_types.proofs.SetLemmas.{map-append}
 use Rattle.events.specs.declared.Refusal.{Refusal}
@@ -143,24 +143,9 @@ full_refused {s} kept declaring st is name asn id absent many r reply =
 
 -- ---- a port
 
-position_within : {X : Type 0} (test : X → Bool) (low : ℕ) (xs : List X) (n : ℕ) → position_from test low xs ≡ Some n → n < low + length xs
-position_within test low [] n e = absurd (cc)
-position_within test low (x ∷ xs) n e =
-    elim (test x) as (λ b. cond b (Some low) (position_from test (low + 1) xs) ≡ Some n → n < low + suc (length xs)) [
-      | true ↦ λ is. let same : low ≡ n = cc in omega arith
-      | false ↦ λ is. let later : n < low + 1 + length xs = position_within test (low + 1) xs n is in omega arith
-    ] e
-
 -- who has a name is declared
 pub named_within : (names : Registered) (name : List ℕ) (who : Pid) → registered.named names name ≡ Some who → who.0 < length names.participants
-named_within names name who e = by (position_from (λ (m : Participant). same_octets m.name name) 0 names.participants) refl e
-  where
-    by : (o : Option ℕ) → position_from (λ (m : Participant). same_octets m.name name) 0 names.participants ≡ o → option_map (λ n. let w : Pid = record { 0 = n } in w) o ≡ Some who → who.0 < length names.participants
-    by None at e = absurd (cc)
-    by (Some n) at e =
-        let below : n < 0 + length names.participants = position_within (λ (m : Participant). same_octets m.name name) 0 names.participants n at in
-        let same : n ≡ who.0 = (let f : Option Pid → ℕ = λ o. option_map_or (λ (w : Pid). w.0) o 0 in ap f e) in
-        omega arith
+named_within names name who e = declared_pid (ruled names []) name who e
 
 abbrev port_by : Pid → PortNo → Ip → Mac → PortInfo
 port_by who number ip mac = record { owner = who; number = number; ip = ip; mac = mac }

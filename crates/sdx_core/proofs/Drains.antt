@@ -1,21 +1,18 @@
 -- Where a participant takes all that is pending, the signatures and the pool become those of the state afterwards.
 use Rattle.std.specs.Prelude.{slice_get, slice_index_or, unwrap_or}
-use Rattle.std.proofs.Common.{inl, inr, zero, suc}
-use Rattle.std.specs.Cmp.{nat_cmp_is}
-use Rattle.std.specs.declared.cmp.Ordering.TheVariants.{Equal, Greater}
-use Rattle.std.proofs.lemmas.Bool.{cases_lt, false≢true, lt-ltb}
-use Rattle.std.proofs.Common.{◌≡◌, ℕ, ◌+◌, ◌<◌, ◌≤◌, Bool, true, false, cond, drop, map, not, take, List, [], ◌∷◌, length, sym, ap, subst, ◌∙◌, refl, arith, nat_lt, ⊎_elim}
-use Rattle.std.specs.Prelude.{IfSome, Option, Some, None, is_some, ◌⊎◌}
+use Rattle.std.proofs.Common.{zero, suc}
+use Rattle.std.proofs.Common.{◌≡◌, ℕ, ◌+◌, ◌<◌, Bool, true, false, cond, drop, map, not, take, List, [], ◌∷◌, length, sym, ap, ◌∙◌, refl, arith}
+use Rattle.std.specs.Prelude.{None}
 use Rattle.std.specs.FinMap.{FinMap, get, remove, same_map, values}
-use Rattle.std.specs.Ordering.{eq_by_cmp, is_lt, nat_cmp}
 use Rattle.advert_queue.specs.Telling.{tags_of}
 use Rattle.events.proofs.OrderedLemmas.{ordered_rises}
+use Rattle.events.proofs.Reached.{declared_pid}
 use Rattle.events.specs.After.{next, without_pairs}
-use Rattle.events.specs.Fits.{IsAccepted, IsStep, IsTaken, IsWellFormed, adverts, bare}
+use Rattle.events.specs.Fits.{IsAccepted, IsStep, IsTaken, adverts, bare}
 use Rattle.events.specs.Refusals.{if_known}
 use Rattle.events.specs.Sound.{IsSound}
 use Rattle.events.specs.State.{State, present, told_to}
-use Rattle.events.specs.Tags.{is_live, same_tag, tags}
+use Rattle.events.specs.Tags.{is_live, tags}
 use Rattle.events.specs.declared.Entry.{Entry}
 use Rattle.events.specs.declared.Event.TheVariants.{Drain}
 use Rattle.events.specs.declared.Head.TheVariants.{Fine}
@@ -23,66 +20,47 @@ use Rattle.events.specs.declared.Reply.{Reply}
 use Rattle.exchange_laws.proofs.FullTables.{accepted_lines_fit}
 use Rattle.exchange_laws.proofs.ListedPairs.{gone_are_dropped}
 use Rattle.exchange_laws.proofs.Lists.{clash}
-use Rattle.exchange_laws.proofs.LivePairs.{present_tag}
-use Rattle.exchange_laws.proofs.Sames.{tag_itself}
-use Rattle.exchange_laws.proofs.TagsAfter.{live_of}
 use Rattle.exchange_laws.proofs.ToldAnew.{drains_are_accepted, get_retained, present_are_known, tag_was_live, telling_stays_sound}
 use Rattle.exchange_laws.specs.Retagging.{KeptAreLive, TagsArePooled}
 use Rattle.exchange_laws.specs.Telling.{told_anew}
 use Rattle.fast_path.proofs.CommittedMaps.{get_without_others, get_without_those, without_all}
-use Rattle.fast_path.proofs.CommittedPool.{AreTags, in_range, is_tag, marked_all_base, marked_all_length, marked_others, marked_those, same_free, taken_in_turn, taken_is_live}
+use Rattle.fast_path.proofs.CommittedPool.{AreTags, is_tag, marked_all_base, marked_all_length, marked_others, marked_those, same_free, taken_in_turn, taken_is_live}
 use Rattle.fast_path.proofs.CommittedSignatures.{nothing}
+use Rattle.fast_path.proofs.TagOrder.{rising_tags, tag_tie}
 use Rattle.fast_path.specs.Committing.{AreTaken, kept_without, marked_all}
 use Rattle.fast_path.specs.Planned.{IsPoolOf, is_tag_below}
 use Rattle.live_pairs.specs.LiveOnly.{AreDead, registered}
 use Rattle.live_pairs.specs.Pairs.{is_told, untold}
-use Rattle.net_types.proofs.OrderLemmas.{prefixes_total, tags_total}
+use Rattle.net_types.proofs.OrderLemmas.{tags_total}
 use Rattle.net_types.proofs.RisingLemmas.{before, filter-IsRising}
-use Rattle.net_types.proofs.ValueLemmas.{any_value}
-use Rattle.net_types.proofs.TieLemmas.{same_from_tie, tag_cmp-IsAntisymmetric}
+use Rattle.net_types.proofs.TieLemmas.{tag_cmp-IsAntisymmetric}
 use Rattle.net_types.specs.Keys.{prefix_cmp, tag_cmp}
 use Rattle.net_types.specs.Sets.{IsRising, Member}
 use Rattle.net_types.specs.declared.address.Pid.{Pid}
 use Rattle.net_types.specs.declared.address.Tag.{Tag}
-use Rattle.net_types.specs.declared.prefix.Prefix.{Prefix}
 use Rattle.net_types.specs.declared.route.Part.{Part}
 use Rattle.net_types.specs.declared.rule.Pair.{Pair}
 use Rattle.next_hop_pool.specs.Free.{Tags, is_taken}
 use Rattle.registry.specs.Registered.{ports_of}
 use Rattle.sdx_core.proofs.Steps.{in_place, placed, steady_after}
-use Rattle.sdx_core.proofs.Taken.{gone_tags, pairs_go, tags_go}
-use Rattle.sdx_core.proofs.Told.{IsTaker}
-use Rattle.sdx_core.specs.Taking.{all_pairs, dead_tags, has_none}
+use Rattle.sdx_core.proofs.Taken.{pairs_go, tags_go, tags_unused}
+use Rattle.sdx_core.specs.Changing.{IsSender}
+use Rattle.sdx_core.specs.Taking.{IsTaker, all_pairs, dead_tags, gone_for, has_none}
 use Rattle.sdx_core.specs.View.{IsKept, state_of}
 use Rattle.std.specs.Prelude.{codes}
 use Rattle.events.specs.declared.Phase.{Phase}
 use Rattle.events.specs.declared.Phase.TheVariants.{Running}
 use Rattle.match_switch.specs.Installed.{Installed}
 use Rattle.net_types.specs.declared.address.Ip.{Ip}
-use Rattle.prefix_classes.specs.Classes.{Classes}
+use Rattle.prefix_classes.specs.Classes.{Classes, members}
 use Rattle.registry.specs.Registered.{Registered}
 use Rattle.route_server.specs.Served.{Served}
-
-tag_tie : (x y : Tag) → eq_by_cmp tag_cmp x y ≡ true → x ≡ y
-tag_tie = same_from_tie tag_cmp tag_cmp-IsAntisymmetric
 
 -- what is read at a place of a list
 pub read_at : {A : Type 0} (xs : List A) (k : ℕ) (y d : A) → k < length xs → y ≡ slice_index_or xs k y → y ≡ unwrap_or (slice_get xs k) d
 read_at [] k y d below is = absurd (omega arith)
 read_at (x ∷ xs) zero y d below is = is
 read_at (x ∷ xs) (suc k) y d below is = read_at xs k y d (omega arith) is
-
--- tags that rise are numbers that rise
-lesser : (a b : ℕ) → is_lt (nat_cmp a b) ≡ true → nat_lt a b ≡ true
-lesser a b e = ⊎_elim (λ lt. lt-ltb a b lt) (λ ge. absurd (not_less (cases_lt b a) ge)) (cases_lt a b)
-  where
-    not_less : (b < a) ⊎ (a ≤ b) → b ≤ a → ⊥
-    not_less (inl gt) ge = let is : Greater ≡ nat_cmp a b = nat_cmp_is a b Greater gt in false≢true (ap is_lt is ∙ e)
-    not_less (inr le) ge = let is : Equal ≡ nat_cmp a b = nat_cmp_is a b Equal (omega arith) in false≢true (ap is_lt is ∙ e)
-
-rising_tags : (ts : List Tag) → IsRising (before tag_cmp) ts → IsRising is_tag_below ts
-rising_tags [] rises = tt
-rising_tags (t ∷ ts) rises = (λ u m. lesser t.0 u.0 (rises.0 u m), rising_tags ts rises.1)
 
 without_is : (m : FinMap tag_cmp (List Part)) (ts : List Tag) → kept_without m ts ≡ without_all tag_cmp tags_total tag_tie m ts
 without_is m [] = refl
@@ -140,7 +118,13 @@ module _ (s : State) (who : Pid) (dead : List Tag) (are : AreDead s (told_anew s
 
 -- ---- the line
 
-module _ (s : State) (name : List ℕ) (who : Pid) (pool : Tags) (kept : IsKept s pool) (formed : IsWellFormed (Drain name)) (taker : IsTaker s name who) (place : who.0 < length s.told) where
+module _ (s : State) (who : Pid) (pool : Tags) (kept : IsKept s pool) (taker : IsTaker s who) where
+  pub place : who.0 < length s.told
+  place =
+      let within : who.0 < length s.routing.participants = declared_pid s.routing taker.name who taker.sender.known in
+      let same : length s.told ≡ length s.routing.participants = kept.steady.told in
+      omega (arith, within, same)
+
   abbrev told : FinMap prefix_cmp Entry
   told = told_to s who
 
@@ -151,18 +135,19 @@ module _ (s : State) (name : List ℕ) (who : Pid) (pool : Tags) (kept : IsKept 
   s2 = told_anew s who now
 
   abbrev drops : List Pair
-  drops = all_pairs (ports_of (registered s) who) (gone_tags told now)
+  drops = all_pairs (ports_of (registered s) who) (gone_for s who)
 
   abbrev dead : List Tag
-  dead = dead_tags s.tag s.told who.0 (gone_tags told now)
+  dead = dead_tags s.tag s.told who.0 (gone_for s who)
 
-  abbrev reply : Reply
-  reply = record (bare Fine) { drops = drops; adverts = adverts s who }
+  -- what it is told, and the pairs that go
+  abbrev pub drain_reply : Reply
+  drain_reply = record (bare Fine) { drops = drops; adverts = adverts s who }
 
   sound2 : IsSound s2
   sound2 = telling_stays_sound s who now kept.steady.sound (present_are_known s who)
 
-  taken : IsTaken s s2 who reply
+  taken : IsTaken s s2 who drain_reply
   taken = record {
     head = refl;
     tags = refl;
@@ -173,58 +158,52 @@ module _ (s : State) (name : List ℕ) (who : Pid) (pool : Tags) (kept : IsKept 
     frames = refl;
   }
 
-  law : (next s (Drain name) reply ≡ s2) × IsAccepted s (Drain name) reply
-  law = drains_are_accepted s name who reply kept.steady.sound taker.known taken
+  law : (name : List ℕ) → IsSender s name who → (next s (Drain name) drain_reply ≡ s2) × IsAccepted s (Drain name) drain_reply
+  law name sender = drains_are_accepted s name who drain_reply kept.steady.sound sender.known taken
 
   -- the reply is a step to the state in which the participant was told what is present
-  pub drain_step : IsStep s (Drain name) reply s2
-  drain_step = record {
-    fits = accepted_lines_fit s (Drain name) reply (in_place s (Drain name) (placed (Drain name) refl refl s.phase taker.ready) ∙ ap (λ o. if_known o (λ w. None)) taker.known) law.1;
-    next = sym law.0;
+  pub drain_step : (name : List ℕ) → IsSender s name who → IsStep s (Drain name) drain_reply s2
+  drain_step name sender = record {
+    fits = accepted_lines_fit s (Drain name) drain_reply (in_place s (Drain name) (placed (Drain name) refl refl s.phase sender.ready) ∙ ap (λ o. if_known o (λ w. None)) sender.known) (law name sender).1;
+    next = sym (law name sender).0;
   }
 
   pub table_then : without_pairs s.table drops ≡ s2.table
-  table_then = ap (λ (x : State). x.table) law.0
+  table_then = ap (λ (x : State). x.table) (law taker.name taker.sender).0
+
+  are_dead : AreDead s s2 dead
+  are_dead = tags_go s who kept.steady.apart place
+
+  -- no prefix has one of the dead tags
+  pub dead_unused : (t : Tag) → Member t dead → members s.tag t ≡ 0
+  dead_unused = tags_unused s who kept.steady.apart place
 
   pub kept_after_drain : kept_without s.kept dead ≡ s2.kept
-  kept_after_drain = kept_then s who dead (tags_go s who kept.steady.apart place) kept.steady.kept
+  kept_after_drain = kept_then s who dead are_dead kept.steady.kept
 
   of_pool : IsPoolOf s pool
   of_pool = record { free = sym kept.free; size = kept.size; base = kept.base }
 
-  pub dead_rise : IsRising is_tag_below dead
+  dead_rise : IsRising is_tag_below dead
   dead_rise =
-      filter-IsRising is_tag_below (has_none s.tag) (untold (drop (who.0 + 1) s.told) (untold (take who.0 s.told) (gone_tags told now)))
-      (filter-IsRising is_tag_below (λ u. not (is_told (drop (who.0 + 1) s.told) u)) (untold (take who.0 s.told) (gone_tags told now))
-      (filter-IsRising is_tag_below (λ u. not (is_told (take who.0 s.told) u)) (gone_tags told now)
+      filter-IsRising is_tag_below (has_none s.tag) (untold (drop (who.0 + 1) s.told) (untold (take who.0 s.told) (gone_for s who)))
+      (filter-IsRising is_tag_below (λ u. not (is_told (drop (who.0 + 1) s.told) u)) (untold (take who.0 s.told) (gone_for s who))
+      (filter-IsRising is_tag_below (λ u. not (is_told (take who.0 s.told) u)) (gone_for s who)
       (filter-IsRising is_tag_below (λ u. not (is_told (now ∷ []) u)) (tags_of told)
       (rising_tags (tags_of told) (ordered_rises tag_cmp tags_total tag_tie (map (λ (e : Entry). e.tag) (values told)))))))
 
   pub given_back : AreTaken pool dead
-  given_back = given_in_turn s who dead (tags_go s who kept.steady.apart place) kept.steady.pooled pool of_pool dead_rise
+  given_back = given_in_turn s who dead are_dead kept.steady.pooled pool of_pool dead_rise
 
   -- what is kept holds of it
   pub drain_kept : IsKept s2 (marked_all pool dead false)
   drain_kept =
-      let of = pool_then s who dead (tags_go s who kept.steady.apart place) kept.steady.pooled pool of_pool in record {
-        steady = steady_after s (Drain name) reply s2 kept.steady formed drain_step;
+      let of = pool_then s who dead are_dead kept.steady.pooled pool of_pool in record {
+        steady = steady_after s (Drain taker.name) drain_reply s2 kept.steady taker.formed (drain_step taker.name taker.sender);
         free = sym of.free;
         base = of.base;
         size = of.size;
       }
-
-  -- each tag that is present is one of the pool's
-  pub small : (p : Prefix) → IfSome (get now p) (λ e. e.tag.0 ≤ 65536)
-  small p = by (get now p) refl
-    where
-      by : (o : Option Entry) → get now p ≡ o → IfSome o (λ e. e.tag.0 ≤ 65536)
-      by None is = tt
-      by (Some e) is =
-          let here = present_tag s who e.tag (any_value prefix_cmp prefixes_total (λ (x : Entry). same_tag x.tag e.tag) now p e is (tag_itself e.tag)) in
-          let range = in_range s e.tag (kept.steady.pooled e.tag (live_of s here.0 e.tag here.1.tagged)) in
-          let few : s.size ≤ 65536 = kept.steady.sized.small in
-          let below : e.tag.0 ≤ s.size = range.1 in
-          omega (arith, few, below)
 
 -- the parts make the state in which the participant was told what is present
 pub told_then : (phase : Phase) (base : Ip) (size : ℕ) (names : Registered) (served : Served) (resolved : List (List Ip)) (classes : Classes) (heard : List (FinMap prefix_cmp Entry)) (installed : Installed) (who : Pid)

@@ -1,6 +1,6 @@
 -- The lines that show the table, and by which a frame leaves, are steps.
-use Rattle.std.proofs.Common.{◌≡◌, ℕ, true, nat_eq, List, ap, refl, subst, sym, ◌∙◌}
-use Rattle.std.specs.Prelude.{Option, Some, None, MatchOption}
+use Rattle.std.proofs.Common.{◌≡◌, ℕ, true, List, ap, refl, subst, sym, ◌∙◌}
+use Rattle.std.specs.Prelude.{Some, None, MatchOption}
 use Rattle.events.specs.After.{running}
 use Rattle.events.specs.Fits.{IsStep, IsWellFormed, all_flows, bare, by_table}
 use Rattle.events.specs.Refusals.{if_known}

@@ -1,5 +1,5 @@
 -- Carrying out a proposal is a step, and so is its refusal for want of tags or rules.
-use Rattle.std.proofs.Common.{◌≡◌, ℕ, ◌<◌, ◌≤◌, Bool, true, false, List, length, map, sym, ap, subst, ◌∙◌, refl, arith}
+use Rattle.std.proofs.Common.{◌≡◌, ℕ, ◌<◌, true, false, List, length, map, sym, ap, subst, ◌∙◌, arith}
 use Rattle.std.specs.Prelude.{Some, None, codes}
 use Rattle.std.specs.FinMap.{FinMap}
 use Rattle.std.proofs.lemmas.Bool.{false_from_ne_true, lt-ltb, ltb-true}
@@ -18,7 +18,6 @@ use Rattle.events.specs.declared.Event.{Event}
 use Rattle.events.specs.declared.Head.TheVariants.{Fine, Refused}
 use Rattle.events.specs.declared.Phase.{Phase}
 use Rattle.events.specs.declared.Phase.TheVariants.{Running}
-use Rattle.events.specs.declared.Refusal.{Refusal}
 use Rattle.events.specs.declared.Refusal.TheVariants.{NoNextHop, TableFull}
 use Rattle.events.specs.declared.Reply.{Reply}
 use Rattle.exchange_laws.specs.Fresh.{HasEnoughTags}
@@ -27,14 +26,14 @@ use Rattle.exchange_laws.specs.Rules.{IsChange, IsDeclaredAlike, with_rules}
 use Rattle.exchange_laws.specs.Steady.{IsSteady}
 use Rattle.exchange_laws.proofs.FullTables.{full_tables_are_refused}
 use Rattle.exchange_laws.proofs.OneRuleEach.{steady_have_one_each}
-use Rattle.fast_path.specs.Committing.{CanCommit, marked_all, tags_of}
+use Rattle.fast_path.specs.Committing.{marked_all, tags_of}
 use Rattle.fast_path.specs.Planned.{IsPoolOf}
 use Rattle.fast_path.specs.Plans.{IsAsked, IsPlan}
 use Rattle.fast_path.specs.declared.planned.Changes.{Changes}
 use Rattle.fast_path.specs.declared.planned.Plan.{Plan}
 use Rattle.fast_path.proofs.CommittedPlans.{line_committed, pool_committed}
 use Rattle.match_switch.specs.Installed.{Installed}
-use Rattle.next_hop_pool.specs.Free.{Tags, free_tags}
+use Rattle.next_hop_pool.specs.Free.{Tags}
 use Rattle.prefix_classes.specs.Classes.{Classes}
 use Rattle.registry.specs.Registered.{Registered}
 use Rattle.route_server.specs.Proposed.{Proposed}

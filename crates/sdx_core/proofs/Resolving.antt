@@ -1,13 +1,13 @@
 -- The lines by which routers resolve next hops are steps.
-use Rattle.std.proofs.Common.{◌≡◌, ℕ, zero, suc, ◌+◌, ◌<◌, ◌≤◌, Bool, true, false, cond, ◌&&◌, not, List, [], ◌∷◌, ◌++◌, map, filter, ap, ◌∙◌, refl, sym, subst, arith, inl, inr, ⊎_elim}
-use Rattle.std.specs.Prelude.{Some, None, All, MatchOption, nat_eq, ◌⊎◌, find, slice_get, slice_set, slice_index_or, unwrap_or}
-use Rattle.std.specs.FinMap.{FinMap, empty, nat_cmp-IsAntisymmetric, values}
-use Rattle.std.specs.List.{list_any, position_from}
+use Rattle.std.proofs.Common.{◌≡◌, ℕ, ◌+◌, ◌<◌, ◌≤◌, Bool, true, false, cond, ◌&&◌, not, List, [], ◌∷◌, ◌++◌, map, filter, ap, ◌∙◌, refl, sym, subst, arith}
+use Rattle.std.specs.Prelude.{Some, None, All, MatchOption, slice_get, slice_set, slice_index_or, unwrap_or}
+use Rattle.std.specs.FinMap.{FinMap, empty, values}
+use Rattle.std.specs.List.{list_any}
 use Rattle.std.specs.Option.{option_map_or}
 use Rattle.std.specs.Cmp.{nat_cmp_is}
-use Rattle.std.specs.Ordering.{eq_by_cmp, is_lt, nat_cmp}
-use Rattle.std.specs.declared.cmp.Ordering.TheVariants.{Less, Equal, Greater}
-use Rattle.std.proofs.lemmas.Bool.{cases_lt, eq-eqb, false≢true, or_right}
+use Rattle.std.specs.Ordering.{is_lt}
+use Rattle.std.specs.declared.cmp.Ordering.TheVariants.{Less}
+use Rattle.std.proofs.lemmas.Bool.{eq-eqb}
 use Rattle.std.proofs.lemmas.Option.{cond_some}
 use Rattle.arp_frame.specs.declared.read.ArpRequest.{ArpRequest}
 use Rattle.events.specs.After.{running, with_known}
@@ -15,7 +15,7 @@ use Rattle.events.specs.Fits.{IsStep, IsWellFormed, asks_for, bare, responder_re
 use Rattle.events.specs.Refusals.{if_known}
 use Rattle.events.specs.Resolving.{is_answered, port_place, resolved_at, tag_address, unresolved, with_answer, with_resolved}
 use Rattle.events.specs.State.{State, port_of, told_to}
-use Rattle.events.specs.Tags.{is_live, same_tag, tells}
+use Rattle.events.specs.Tags.{same_tag}
 use Rattle.events.specs.declared.Entry.{Entry}
 use Rattle.events.specs.declared.Event.TheVariants.{Arp, Resolve}
 use Rattle.events.specs.declared.Head.TheVariants.{Fine, Refused, Silent}
@@ -28,74 +28,26 @@ use Rattle.net_types.specs.Attributes.{same_ip}
 use Rattle.net_types.specs.Keys.{ip_cmp, prefix_cmp, tag_cmp}
 use Rattle.net_types.specs.Maps.{ordered}
 use Rattle.net_types.specs.Octets.{same_octets}
-use Rattle.net_types.specs.Routes.{numbers}
 use Rattle.net_types.specs.Sets.{IsRising, Member}
 use Rattle.net_types.specs.declared.address.Ip.{Ip}
 use Rattle.net_types.specs.declared.address.PortNo.{PortNo}
 use Rattle.net_types.specs.declared.address.Tag.{Tag}
 use Rattle.net_types.specs.declared.route.PortInfo.{PortInfo}
-use Rattle.net_types.proofs.FindLemmas.{any_at, slice_get-Member}
+use Rattle.net_types.proofs.FindLemmas.{any_at}
 use Rattle.net_types.proofs.MemberLemmas.{Member-at}
 use Rattle.net_types.proofs.OrderLemmas.{tags_total}
 use Rattle.net_types.proofs.RisingLemmas.{before, filter-Member}
 use Rattle.net_types.proofs.SetLemmas.{map-Member, map-map, same_map}
-use Rattle.net_types.proofs.TieLemmas.{tie_Equal}
 use Rattle.next_hop_pool.specs.Free.{Tags}
 use Rattle.sdx_core.specs.Placed.{is_declared}
 use Rattle.sdx_core.specs.Resolved.{address_of, exchange_for, is_before, missing_hops, pool_request, reply_to}
 use Rattle.sdx_core.specs.View.{IsKept}
 use Rattle.sdx_core.proofs.AddressSets.{ips_tie, ips_total}
-use Rattle.sdx_core.proofs.Packets.{same_number}
+use Rattle.fast_path.proofs.TagOrder.{less_from, tag_tie}
+use Rattle.exchange_laws.proofs.PoolTags.{live_small, told_live}
+use Rattle.exchange_laws.proofs.Forwarded.{numbered}
+use Rattle.sdx_core.proofs.Ports.{found_nowhere, own_place}
 use Rattle.sdx_core.proofs.Steps.{in_place, kept_after, placed, quiet_step, refused_at}
-
--- ---- places of ports
-
-position_above : {X : Type 0} (test : X → Bool) (low : ℕ) (xs : List X) (n : ℕ) → position_from test low xs ≡ Some n → low ≤ n
-position_above test low [] n e = absurd (cc)
-position_above test low (x ∷ xs) n e =
-    elim (test x) as (λ b. cond b (Some low) (position_from test (low + 1) xs) ≡ Some n → low ≤ n) [
-      | true ↦ λ is. let same : low ≡ n = cc in omega arith
-      | false ↦ λ is. let later : low + 1 ≤ n = position_above test (low + 1) xs n is in omega arith
-    ] e
-
--- what is found stands at its place
-found_at : {X : Type 0} (test : X → Bool) (low : ℕ) (xs : List X) (n : ℕ) → position_from test low xs ≡ Some n → (k : ℕ) → n ≡ low + k → find test xs ≡ slice_get xs k
-found_at test low [] n e k place = absurd (cc)
-found_at test low (x ∷ xs) n e k place =
-    elim (test x) as (λ b. cond b (Some low) (position_from test (low + 1) xs) ≡ Some n → cond b (Some x) (find test xs) ≡ slice_get (x ∷ xs) k) [
-      | true ↦ λ is. let same : low ≡ n = cc in first k (omega arith)
-      | false ↦ λ is. later k (position_above test (low + 1) xs n is) (found_at test (low + 1) xs n is) place
-    ] e
-  where
-    first : (k : ℕ) → k ≡ 0 → Some x ≡ slice_get (x ∷ xs) k
-    first zero e = refl
-    first (suc k) e = absurd (omega arith)
-
-    later : (k : ℕ) → low + 1 ≤ n → ((j : ℕ) → n ≡ low + 1 + j → find test xs ≡ slice_get xs j) → n ≡ low + k → find test xs ≡ slice_get (x ∷ xs) k
-    later zero le rest at = absurd (omega arith)
-    later (suc k) le rest at = rest k (omega arith)
-
-found_nowhere : {X : Type 0} (test : X → Bool) (low : ℕ) (xs : List X) → position_from test low xs ≡ None → find test xs ≡ None
-found_nowhere test low [] e = refl
-found_nowhere test low (x ∷ xs) e =
-    elim (test x) as (λ b. cond b (Some low) (position_from test (low + 1) xs) ≡ None → cond b (Some x) (find test xs) ≡ None) [
-      | true ↦ λ is. absurd (cc)
-      | false ↦ λ is. found_nowhere test (low + 1) xs is
-    ] e
-
--- a port has the number
-abbrev numbered : PortNo → PortInfo → Bool
-numbered n q = nat_eq q.number.0 n.0
-
--- what is read where there is no port
-abbrev pub no_port : PortInfo
-no_port = record { owner = record { 0 = 0 }; number = record { 0 = 0 }; ip = record { 0 = 0 }; mac = record { 0 = [] } }
-
-pub port_at : (s : State) (port : PortNo) (place : ℕ) (q : PortInfo) → port_place s port ≡ Some place → slice_get s.routing.ports place ≡ Some q → port_of s port ≡ Some q
-port_at s port place q at here = found_at (numbered port) 0 s.routing.ports place at place (omega arith) ∙ here
-
-own_place : (s : State) (port : PortNo) (place : ℕ) (q : PortInfo) → port_place s port ≡ Some place → slice_get s.routing.ports place ≡ Some q → port_place s q.number ≡ Some place
-own_place s port place q at here = ap (port_place s) (same_number s.routing.ports port q (port_at s port place q at here)) ∙ at
 
 -- ---- ports that aren't declared
 
@@ -203,18 +155,8 @@ module _ (s : State) (bytes : List ℕ) where
 
 -- ---- addresses of tags
 
-less_from : (a b : ℕ) → is_lt (nat_cmp a b) ≡ true → a < b
-less_from a b e = ⊎_elim (λ lt. lt) (λ ge. absurd (not_less (cases_lt b a) ge)) (cases_lt a b)
-  where
-    not_less : (b < a) ⊎ (a ≤ b) → b ≤ a → ⊥
-    not_less (inl gt) ge = let is : Greater ≡ nat_cmp a b = nat_cmp_is a b Greater gt in false≢true (ap is_lt is ∙ e)
-    not_less (inr le) ge = let is : Equal ≡ nat_cmp a b = nat_cmp_is a b Equal (omega arith) in false≢true (ap is_lt is ∙ e)
-
 before_from : (x y : Ip) → x.0 < y.0 → is_before x y ≡ true
 before_from x y less = ap is_lt (sym (nat_cmp_is x.0 y.0 Less less))
-
-tags_tie : (x y : Tag) → eq_by_cmp tag_cmp x y ≡ true → x ≡ y
-tags_tie x y e = λ i. record { 0 = nat_cmp-IsAntisymmetric x.0 y.0 (tie_Equal (nat_cmp x.0 y.0) e) i }
 
 address_before : (base : Ip) (t u : Tag) → before tag_cmp t u ≡ true → is_before (address_of base t) (address_of base u) ≡ true
 address_before base t u e = let less : t.0 < u.0 = less_from t.0 u.0 e in before_from (address_of base t) (address_of base u) (omega arith)
@@ -230,7 +172,7 @@ addresses_rise base (t ∷ ts) rises = (
 addresses_ordered : (base : Ip) (ts : List Tag) → map (address_of base) (ordered tag_cmp ts) ≡ ordered ip_cmp (map (address_of base) ts)
 addresses_ordered base ts =
     ordered_is ip_cmp ips_total ips_tie (map (address_of base) (ordered tag_cmp ts)) (map (address_of base) ts)
-    (addresses_rise base (ordered tag_cmp ts) (ordered_rises tag_cmp tags_total tags_tie ts)) (same_map (address_of base) (ordered_same tag_cmp tags_total tags_tie ts))
+    (addresses_rise base (ordered tag_cmp ts) (ordered_rises tag_cmp tags_total tag_tie ts)) (same_map (address_of base) (ordered_same tag_cmp tags_total tag_tie ts))
 
 -- ---- next hops that are missing
 
@@ -241,20 +183,9 @@ tags_told entries = ordered tag_cmp (map (λ (e : Entry). e.tag) (values entries
 -- each is one of the pool's
 tag_small : {s : State} {pool : Tags} → IsKept s pool → (k : ℕ) (entries : FinMap prefix_cmp Entry) → slice_get s.told k ≡ Some entries → (t : Tag) → Member t (tags_told entries) → t.0 ≤ 65536
 tag_small {s} kept k entries at t m =
-    let image = map-Member (λ (e : Entry). e.tag) (values entries) t ((ordered_same tag_cmp tags_total tags_tie (map (λ (e : Entry). e.tag) (values entries))).onto t m) in
+    let image = map-Member (λ (e : Entry). e.tag) (values entries) t ((ordered_same tag_cmp tags_total tag_tie (map (λ (e : Entry). e.tag) (values entries))).onto t m) in
     let equal : image.of.tag.0 ≡ t.0 = sym (ap (λ (x : Tag). x.0) image.is) in
-    let told : tells entries t ≡ true = any_at (λ (e : Entry). same_tag e.tag t) (values entries) image.of image.stands (eq-eqb image.of.tag.0 t.0 equal) in
-    let live : is_live s t ≡ true = or_right _ _ (any_at (λ es. tells es t) s.told entries (slice_get-Member s.told k entries at) told) in
-    let number = map-Member (λ n. let x : Tag = record { 0 = n } in x) (numbers 1 s.size) t (kept.steady.pooled t live) in
-    let low : number.of < 1 + s.size = numbers_below 1 s.size number.of number.stands in
-    let same : t.0 ≡ number.of = ap (λ (x : Tag). x.0) number.is in
-    let small : s.size ≤ 65536 = kept.steady.sized.small in
-    omega arith
-  where
-    numbers_below : (low count : ℕ) (n : ℕ) → Member n (numbers low count) → n < low + count
-    numbers_below low zero n m = elim m [ ]
-    numbers_below low (suc count) n (inl e) = omega arith
-    numbers_below low (suc count) n (inr m) = let later : n < low + 1 + count = numbers_below (low + 1) count n m in omega arith
+    live_small kept.steady t (told_live s k entries at t (any_at (λ (e : Entry). same_tag e.tag t) (values entries) image.of image.stands (eq-eqb image.of.tag.0 t.0 equal)))
 
 pub tags_small : {s : State} {pool : Tags} → IsKept s pool → (k : ℕ) (entries : FinMap prefix_cmp Entry) → slice_get s.told k ≡ Some entries → (tags : List Tag) → tags ≡ tags_told entries → All (λ (t : Tag). t.0 ≤ 65536) tags
 tags_small {s} kept k entries at tags are j d less =

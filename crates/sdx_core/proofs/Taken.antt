@@ -1,13 +1,12 @@
 -- The pairs and tags that go where a participant is told what is present.
-use Rattle.std.proofs.Common.{◌≡◌, ◌⊎◌, ℕ, zero, suc, ◌+◌, ◌<◌, Bool, true, false, cond, ◌&&◌, ◌||◌, not, filter, take, drop, nat_eq, List, [], ◌∷◌, ◌++◌, length, map, sym, ap, subst, ◌∙◌, refl, inl, inr, arith}
-use Rattle.std.specs.Prelude.{Option, Some, None, slice_get, slice_set, unwrap_or}
-use Rattle.std.specs.FinMap.{FinMap, empty, get, values}
+use Rattle.std.proofs.Common.{◌≡◌, ℕ, zero, suc, ◌+◌, ◌<◌, Bool, true, false, ◌||◌, not, take, drop, nat_eq, List, [], ◌∷◌, length, map, sym, ap, subst, ◌∙◌, refl, inl, inr, arith}
+use Rattle.std.specs.Prelude.{Some, slice_get, slice_set, unwrap_or}
+use Rattle.std.specs.FinMap.{FinMap, empty}
 use Rattle.std.specs.List.{list_any}
-use Rattle.std.specs.Ordering.{eq_by_cmp}
 use Rattle.std.proofs.lemmas.Bool.{eqb-true, false_from_ne_true, or_cases, or_left, or_parts, or_right}
 use Rattle.events.proofs.OrderedLemmas.{any_member, member_any, ordered_rises, ordered_same}
 use Rattle.events.specs.State.{State, port_of, present, told_to}
-use Rattle.events.specs.Tags.{is_live, is_live_pair, same_tag, tells}
+use Rattle.events.specs.Tags.{is_live, is_live_pair, tells}
 use Rattle.events.specs.declared.Entry.{Entry}
 use Rattle.exchange_laws.proofs.Lists.{clash, not_true, some_of}
 use Rattle.exchange_laws.proofs.LivePairs.{live_at, live_from, port_Member, told_live}
@@ -20,11 +19,11 @@ use Rattle.advert_queue.proofs.PendingLemmas.{told_among}
 use Rattle.advert_queue.specs.Telling.{tags_of}
 use Rattle.live_pairs.proofs.PortsAndTags.{IsPortOf, found_number, has_prefix_of, number_listed, port_listed, prefix_with, tie}
 use Rattle.live_pairs.specs.LiveOnly.{AreDead, has_prefix, registered}
-use Rattle.live_pairs.specs.Pairs.{Told, is_told, pair_at, untold}
+use Rattle.live_pairs.specs.Pairs.{is_told, pair_at, untold}
 use Rattle.net_types.proofs.OrderLemmas.{pairs_total, tags_total}
-use Rattle.net_types.proofs.RisingLemmas.{Member-filter, filter-IsRising, filter-Member}
+use Rattle.net_types.proofs.RisingLemmas.{Member-filter, filter-Member}
 use Rattle.net_types.proofs.SetLemmas.{Member-map, Member-union, map-Member, union-Member}
-use Rattle.net_types.proofs.TieLemmas.{same_from_tie, tag_cmp-IsAntisymmetric}
+use Rattle.fast_path.proofs.TagOrder.{tag_tie}
 use Rattle.net_types.specs.Keys.{pair_cmp, prefix_cmp, tag_cmp}
 use Rattle.net_types.specs.Sets.{Member, union_over}
 use Rattle.net_types.specs.declared.address.Pid.{Pid}
@@ -35,21 +34,14 @@ use Rattle.net_types.specs.declared.rule.Pair.{Pair}
 use Rattle.prefix_classes.proofs.MemberLemmas.{no_members}
 use Rattle.prefix_classes.specs.Classes.{members}
 use Rattle.registry.specs.Registered.{ports_of}
-use Rattle.sdx_core.specs.Taking.{all_pairs, dead_tags, has_none, pairs_at}
+use Rattle.sdx_core.specs.Taking.{all_pairs, dead_tags, gone_tags, has_none, pairs_at}
 
 -- ---- tags that were told and are told no more
-
--- those of the tags in the one map that the other doesn't tell
-abbrev pub gone_tags : FinMap prefix_cmp Entry → FinMap prefix_cmp Entry → List Tag
-gone_tags told now = untold (now ∷ []) (tags_of told)
 
 -- the tag is told in the one and not in the other
 pub record IsGone (told now : FinMap prefix_cmp Entry) (t : Tag) : Type 0 where
   pub was : tells told t ≡ true
   pub not_now : tells now t ≡ false
-
-tag_tie : (x y : Tag) → eq_by_cmp tag_cmp x y ≡ true → x ≡ y
-tag_tie = same_from_tie tag_cmp tag_cmp-IsAntisymmetric
 
 alone : (b : Bool) → (b || false) ≡ b
 alone true = refl

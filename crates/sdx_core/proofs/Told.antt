@@ -1,15 +1,14 @@
 -- The entries of a participant's best routes are what is present for it.
-use Rattle.std.proofs.Common.{◌≡◌, Bool, true, false, ℕ, ◌<◌, length, cond, List, [], ◌∷◌, map, sym, ap, subst, ◌∙◌, refl, inl, inr, ◌&&◌}
-use Rattle.std.specs.Prelude.{Option, Some, None, Result, Ok, Err, IfOk, IfSome}
+use Rattle.std.proofs.Common.{◌≡◌, true, cond, List, [], ◌∷◌, map, sym, ap, subst, ◌∙◌, refl, inl, inr, ◌&&◌}
+use Rattle.std.specs.Prelude.{Option, Some, None, Result, Ok, Err, IfOk}
 use Rattle.std.specs.FinMap.{FinMap, get, same_map}
 use Rattle.std.specs.FinMap.Entries.{below_all, find, is_sorted}
-use Rattle.std.specs.List.{cons_option, filter_map}
+use Rattle.std.specs.List.{cons_option}
 use Rattle.std.specs.Option.{option_and_then, option_map}
 use Rattle.std.specs.Ordering.{eq_by_cmp}
 use Rattle.std.proofs.lemmas.Bool.{false_from_ne_true}
 use Rattle.events.specs.State.{State, present, present_entry}
 use Rattle.events.specs.declared.Entry.{Entry}
-use Rattle.exchange_laws.proofs.Lists.{clash}
 use Rattle.exchange_laws.proofs.LivePairs.{present_is}
 use Rattle.advert_queue.proofs.EntryLists.{found_itself}
 use Rattle.net_types.proofs.OrderLemmas.{prefix_tie, prefixes_total}
@@ -23,14 +22,7 @@ use Rattle.net_types.specs.declared.address.Pid.{Pid}
 use Rattle.net_types.specs.declared.address.Tag.{Tag}
 use Rattle.net_types.specs.declared.prefix.Prefix.{Prefix}
 use Rattle.net_types.specs.declared.route.Attrs.{Attrs}
-use Rattle.exchange_laws.specs.Steady.{RoutesAreDeclared}
-use Rattle.net_types.specs.Exports.{Routing, pid_of}
-use Rattle.net_types.specs.Keys.{RouteKey}
-use Rattle.events.specs.declared.Refusal.TheVariants.{Misplaced}
-use Rattle.registry.specs.Registered.{Registered}
-use Rattle.route_server.specs.Served.{AreBests, AreDeclared}
-use Rattle.sdx_core.specs.Changing.{known_or, session}
-use Rattle.sdx_core.specs.Placed.{is_declared}
+use Rattle.route_server.specs.Served.{AreBests}
 use Rattle.sdx_core.specs.Taking.{entries_at, entry_at}
 
 -- the entry of a route with this tag
@@ -134,26 +126,3 @@ pub told_shown : {E : Type 0} (s st : State) (who : Pid) (es : List (Prefix × A
     → (r : Result (FinMap prefix_cmp Entry) E) → IfOk r (λ told. (p : Prefix) → get told p ≡ find prefix_cmp p xs) → IfOk r (λ told. told ≡ present st who)
 told_shown {E} s st who es xs at are is (Ok told) same = told_is_present s who es are told (λ p. same p ∙ ap (find prefix_cmp p) is) ∙ ap (λ x. present x who) at
 told_shown {E} s st who es xs at are is (Err e) same = tt
-
--- ---- who takes what is pending
-
--- the participant is declared under the name, and the line is in place
-pub record IsTaker (s : State) (name : List ℕ) (who : Pid) : Type 0 where
-  pub ready : is_declared s.phase ≡ true
-  pub known : pid_of s.routing name ≡ Some who
-
-pub taker_of : (s : State) (name : List ℕ) (who : Pid) → session s name ≡ Ok who → IsTaker s name who
-taker_of s name who e = by (is_declared s.phase) refl (pid_of s.routing name) refl e
-  where
-    by : (b : Bool) → is_declared s.phase ≡ b → (o : Option Pid) → pid_of s.routing name ≡ o → cond b (known_or o) (Err Misplaced) ≡ Ok who → IsTaker s name who
-    by true ready (Some w) known e = let same : w ≡ who = cc in record { ready = ready; known = known ∙ ap (λ x. Some x) same }
-    by true ready None known e = absurd (cc)
-    by false ready o known e = absurd (cc)
-
--- each route is a declared participant's
-pub routes_declared : (names : Registered) (r : Routing) → names.participants ≡ r.participants → RoutesAreDeclared r → AreDeclared names r.routes
-routes_declared names r same all = record { declared = λ k. by k (get r.routes k) refl }
-  where
-    by : (k : RouteKey) (o : Option Attrs) → get r.routes k ≡ o → IfSome o (λ _. k.from.0 < length names.participants)
-    by k None e = tt
-    by k (Some a) e = subst (λ ms. k.from.0 < length ms) (sym same) (all k.from k.prefix a e)

@@ -7,7 +7,7 @@ use Rattle.net_types.specs.declared.address.Pid.{Pid}
 use Rattle.net_types.specs.declared.export.ExportRule.{ExportRule}
 use Rattle.net_types.specs.declared.named_rule.NamedRule.{NamedRule}
 use Rattle.events.specs.After.{after}
-use Rattle.events.specs.Fits.{IsWellFormed, is_building}
+use Rattle.events.specs.Fits.{is_building}
 use Rattle.events.specs.Refusals.{refusal, tags_refusal}
 use Rattle.events.specs.State.{State}
 use Rattle.events.specs.Tags.{retagged}
@@ -26,6 +26,11 @@ known_or (Some who) = Ok who
 -- the participant that sends a line, once the pool is declared
 abbrev pub session : State → List ℕ → Result Pid Refusal
 session s name = if is_declared s.phase then known_or (pid_of s.routing name) else Err Misplaced
+
+-- the sender is declared under the name, and the line is in place
+pub record IsSender (s : State) (name : List ℕ) (who : Pid) : Type 0 where
+  pub ready : is_declared s.phase ≡ true
+  pub known : pid_of s.routing name ≡ Some who
 
 -- The line would leave this routing, refused at most for want of tags or rules, and the proposal is for it.
 pub record Leads (s : State) (e : Event) (r : Routing) (p : Proposed) : Type 0 where

@@ -1,19 +1,28 @@
 -- What a participant is told anew, and the pairs and tags that go with what it was told (this exchange's own rule).
-use Rattle.std.specs.Prelude.{ℕ, ◌+◌, Bool, nat_eq, List, map, filter, take, drop, Option}
+use Rattle.std.specs.Prelude.{◌≡◌, ℕ, ◌+◌, Bool, nat_eq, List, [], ◌∷◌, map, filter, take, drop, Option}
 use Rattle.std.specs.FinMap.{FinMap, get}
 use Rattle.std.specs.List.{filter_map}
 use Rattle.std.specs.Option.{option_map}
+use Rattle.advert_queue.specs.Telling.{tags_of}
+use Rattle.events.specs.Fits.{IsWellFormed, adverts}
+use Rattle.events.specs.State.{State, present, told_to}
 use Rattle.events.specs.declared.Entry.{Entry}
+use Rattle.events.specs.declared.Event.TheVariants.{Drain}
+use Rattle.live_pairs.specs.LiveOnly.{registered}
 use Rattle.live_pairs.specs.Pairs.{Told, pair_at, untold}
 use Rattle.net_types.specs.Keys.{pair_cmp, prefix_cmp}
 use Rattle.net_types.specs.Maps.{ordered}
 use Rattle.net_types.specs.Sets.{union_over}
+use Rattle.net_types.specs.declared.address.Pid.{Pid}
 use Rattle.net_types.specs.declared.address.PortNo.{PortNo}
 use Rattle.net_types.specs.declared.address.Tag.{Tag}
 use Rattle.net_types.specs.declared.prefix.Prefix.{Prefix}
 use Rattle.net_types.specs.declared.route.Attrs.{Attrs}
 use Rattle.net_types.specs.declared.rule.Pair.{Pair}
 use Rattle.prefix_classes.specs.Classes.{members}
+use Rattle.registry.specs.Registered.{ports_of}
+use Rattle.sdx_core.specs.Changing.{IsSender}
+use Rattle.sdx_core.specs.declared.sdx.take.Taking.{Taking}
 
 -- the entry of a route, where its prefix has a tag
 abbrev pub entry_at : FinMap prefix_cmp Tag → Prefix × Attrs → Option (Prefix × Entry)
@@ -38,3 +47,24 @@ has_none m t = nat_eq (members m t) 0
 -- those of the tags that no prefix has, and that nobody at another place was told
 abbrev pub dead_tags : FinMap prefix_cmp Tag → Told → ℕ → List Tag → List Tag
 dead_tags m told at ts = filter (has_none m) (untold (drop (at + 1) told) (untold (take at told) ts))
+
+-- those of the tags in the one map that the other doesn't tell
+abbrev pub gone_tags : FinMap prefix_cmp Entry → FinMap prefix_cmp Entry → List Tag
+gone_tags told now = untold (now ∷ []) (tags_of told)
+
+-- the tags that a participant was told, and that it won't be told any more
+abbrev pub gone_for : State → Pid → List Tag
+gone_for s who = gone_tags (told_to s who) (present s who)
+
+-- What a participant that takes all is told, the messages by which it is, and the pairs and tags that go.
+pub record IsTaking (s : State) (who : Pid) (taking : Taking) : Type 0 where
+  pub present : taking.present ≡ present s who
+  pub adverts : taking.adverts ≡ adverts s who
+  pub drops : taking.drops ≡ all_pairs (ports_of (registered s) who) (gone_for s who)
+  pub dead : taking.dead ≡ dead_tags s.tag s.told who.0 (gone_for s who)
+
+-- a line by which the participant takes all is in place
+pub record IsTaker (s : State) (who : Pid) : Type 0 where
+  pub name : List ℕ
+  pub formed : IsWellFormed (Drain name)
+  pub sender : IsSender s name who

@@ -7,22 +7,7 @@ use std::alloc::Global;
 use std::test::Fail;
 
 /// What is wrong with the second line, a line that is read, and the second line.
-const TWINS: [(&str, &str, &str); 67] = [
-    (
-        "a leading zero",
-        "exchange 172.16.0.0 4096 100000",
-        "exchange 172.16.0.0 4096 0100000",
-    ),
-    (
-        "two spaces",
-        "exchange 172.16.0.0 4096 100000",
-        "exchange 172.16.0.0 4096  100000",
-    ),
-    (
-        "a tab",
-        "exchange 172.16.0.0 4096 100000",
-        "exchange 172.16.0.0 4096\t100000",
-    ),
+const TWINS: [(&str, &str, &str); 14] = [
     ("a space in front", "drain A", " drain A"),
     ("a space behind", "drain A", "drain A "),
     ("a carriage return", "drain AB", "drain A\r"),
@@ -41,6 +26,25 @@ const TWINS: [(&str, &str, &str); 67] = [
     ),
     ("a digit in front of a name", "drain A1", "drain 1A"),
     ("a dot in a name", "drain A-1", "drain A.1"),
+];
+
+/// The same of the line that declares the exchange.
+const EXCHANGE_TWINS: [(&str, &str, &str); 11] = [
+    (
+        "a leading zero",
+        "exchange 172.16.0.0 4096 100000",
+        "exchange 172.16.0.0 4096 0100000",
+    ),
+    (
+        "two spaces",
+        "exchange 172.16.0.0 4096 100000",
+        "exchange 172.16.0.0 4096  100000",
+    ),
+    (
+        "a tab",
+        "exchange 172.16.0.0 4096 100000",
+        "exchange 172.16.0.0 4096\t100000",
+    ),
     (
         "SIZE 0",
         "exchange 172.16.0.0 1 1",
@@ -81,6 +85,10 @@ const TWINS: [(&str, &str, &str); 67] = [
         "exchange 223.255.255.254 1 1",
         "exchange 223.255.255.255 1 1",
     ),
+];
+
+/// The same of the lines that declare participants and ports.
+const PARTICIPANT_TWINS: [(&str, &str, &str); 16] = [
     (
         "an address with 256",
         "participant A 65001 1.0.0.255",
@@ -157,6 +165,10 @@ const TWINS: [(&str, &str, &str); 67] = [
         "port A 1 1.0.0.1 02:00:00:00:00:01",
         "port A 1 1.0.0.1 02:00:00:00:00-01",
     ),
+];
+
+/// The same of lines with octets.
+const UPDATE_TWINS: [(&str, &str, &str); 10] = [
     ("no octets", "update B 00", "update B"),
     ("empty octets", "update B 00", "update B "),
     ("odd digits", "update B 0000", "update B 000"),
@@ -167,6 +179,10 @@ const TWINS: [(&str, &str, &str); 67] = [
     ("two spaces before digits", "update B 00", "update B  00"),
     ("a space behind digits", "update B 00", "update B 00 "),
     ("digits for a name", "update B 00", "update 1 00"),
+];
+
+/// The same of the lines of few parts.
+const SHORT_TWINS: [(&str, &str, &str); 16] = [
     ("resolve without a port", "resolve 1", "resolve"),
     ("resolve with an empty port", "resolve 1", "resolve "),
     ("resolve 0", "resolve 1", "resolve 0"),
@@ -241,6 +257,42 @@ fn is_refused(alloc: Global, line: &str) -> Result<bool, Memory> {
 #[test]
 fn a_twin_of_a_line_is_refused(rt: HostRuntime) -> Result<(), Fail> {
     for (why, line, twin) in TWINS {
+        assert!(rt; !is_refused(rt.alloc(), line)?, "{line}");
+        assert!(rt; is_refused(rt.alloc(), twin)?, "{why}");
+    }
+    Ok(())
+}
+
+#[test]
+fn a_twin_of_the_line_exchange_is_refused(rt: HostRuntime) -> Result<(), Fail> {
+    for (why, line, twin) in EXCHANGE_TWINS {
+        assert!(rt; !is_refused(rt.alloc(), line)?, "{line}");
+        assert!(rt; is_refused(rt.alloc(), twin)?, "{why}");
+    }
+    Ok(())
+}
+
+#[test]
+fn a_twin_of_a_declaring_line_is_refused(rt: HostRuntime) -> Result<(), Fail> {
+    for (why, line, twin) in PARTICIPANT_TWINS {
+        assert!(rt; !is_refused(rt.alloc(), line)?, "{line}");
+        assert!(rt; is_refused(rt.alloc(), twin)?, "{why}");
+    }
+    Ok(())
+}
+
+#[test]
+fn a_twin_of_an_update_is_refused(rt: HostRuntime) -> Result<(), Fail> {
+    for (why, line, twin) in UPDATE_TWINS {
+        assert!(rt; !is_refused(rt.alloc(), line)?, "{line}");
+        assert!(rt; is_refused(rt.alloc(), twin)?, "{why}");
+    }
+    Ok(())
+}
+
+#[test]
+fn a_twin_of_a_short_line_is_refused(rt: HostRuntime) -> Result<(), Fail> {
+    for (why, line, twin) in SHORT_TWINS {
         assert!(rt; !is_refused(rt.alloc(), line)?, "{line}");
         assert!(rt; is_refused(rt.alloc(), twin)?, "{why}");
     }

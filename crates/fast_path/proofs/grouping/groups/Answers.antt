@@ -1,4 +1,4 @@
-use Rattle.std.proofs.Common.{◌≡◌, ◌+◌, sym, ap, ◌∙◌, drop}
+use Rattle.std.proofs.Common.{◌+◌, sym, ap, ◌∙◌, drop}
 use Rattle.std.specs.Prelude.{slice_get}
 use Rattle.fast_path.specs.Grouping.{groups_of, known, more_groups, moved_groups}
 use Rattle.fast_path.proofs.GroupLemmas.{item_at, moved_step}

@@ -1,5 +1,4 @@
-use Rattle.std.proofs.Common.{◌≡◌, sym, subst}
-use Rattle.std.specs.Prelude.{slice_index_or}
+use Rattle.std.proofs.Common.{sym, subst}
 use Rattle.net_types.specs.Sets.{Member}
 use Rattle.fast_path.specs.Committing.{HasKept}
 use Rattle.fast_path.proofs.CommitLemmas.{at_Member}

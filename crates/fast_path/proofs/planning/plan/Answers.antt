@@ -1,6 +1,6 @@
-use Rattle.std.proofs.Common.{◌≡◌, ◌≤◌, ◌<◌, ◌^◌, length, sym, ap, subst, ◌∙◌}
+use Rattle.std.proofs.Common.{◌≤◌, ◌<◌, ◌^◌, length, sym, ap, subst, ◌∙◌}
 use Rattle.next_hop_pool.specs.Free.{free_tags}
-use Rattle.fast_path.specs.Plans.{IsDraft, IsFault, IsPlan, too_many}
+use Rattle.fast_path.specs.Plans.{IsDraft, IsFault, too_many}
 use Rattle.fast_path.specs.declared.planned.FastFault.TheVariants.{TableFull}
 use Rattle.match_switch.specs.Installed.{rule_count}
 use Rattle.fast_path.proofs.PlanFound.{draft_full, draft_planned, free_is, need_is}

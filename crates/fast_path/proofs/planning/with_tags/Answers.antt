@@ -1,4 +1,4 @@
-use Rattle.std.proofs.Common.{◌≡◌, ◌+◌, ◌++◌, ◌∷◌, [], length, map, drop, sym, ap, ◌∙◌}
+use Rattle.std.proofs.Common.{◌+◌, ◌++◌, ◌∷◌, [], length, map, drop, sym, ap, ◌∙◌}
 use Rattle.std.specs.Prelude.{is_some, slice_index_or}
 use Rattle.net_types.specs.declared.address.Tag.{Tag}
 use Rattle.live_pairs.specs.declared.forward.Fresh.{Fresh}

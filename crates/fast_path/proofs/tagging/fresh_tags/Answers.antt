@@ -1,8 +1,7 @@
-use Rattle.std.proofs.Common.{◌≡◌, ℕ, ◌+◌, ◌<◌, ◌≤◌, [], ◌∷◌, length, take, sym, ap, ◌∙◌, arith}
-use Rattle.std.specs.Prelude.{Some, find, slice_get}
-use Rattle.std.specs.Vec.{vec_len}
+use Rattle.std.proofs.Common.{◌≡◌, ◌+◌, ◌<◌, ◌≤◌, [], ◌∷◌, length, take, sym, ap, ◌∙◌, arith}
+use Rattle.std.specs.Prelude.{Some, slice_get}
 use Rattle.std.proofs.lemmas.List.{length-append}
-use Rattle.next_hop_pool.specs.Free.{free_tags, is_above}
+use Rattle.next_hop_pool.specs.Free.{free_tags}
 use Rattle.fast_path.proofs.FreeLemmas.{first_above, front_grows, next_above, there_is}
 use Rattle.fast_path.proofs.tagging.fresh_tags.Goals as goal
 

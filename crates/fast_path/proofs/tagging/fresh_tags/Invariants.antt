@@ -1,4 +1,4 @@
-use Rattle.std.proofs.Common.{◌≡◌, ℕ, ◌-◌, ◌≤◌, length}
+use Rattle.std.proofs.Common.{◌≡◌, ◌-◌, ◌≤◌, length}
 use Rattle.std.specs.Prelude.{find, slice_get, take}
 use Rattle.std.specs.Vec.{vec_len}
 use Rattle.next_hop_pool.specs.Free.{free_tags, is_above}

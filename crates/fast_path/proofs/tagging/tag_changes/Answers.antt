@@ -1,4 +1,4 @@
-use Rattle.std.proofs.Common.{◌≡◌, ◌+◌, ◌++◌, [], sym, ap, ◌∙◌, drop}
+use Rattle.std.proofs.Common.{◌+◌, ◌++◌, [], sym, ap, ◌∙◌, drop}
 use Rattle.std.specs.Prelude.{slice_get}
 use Rattle.std.specs.FinMap.{get}
 use Rattle.fast_path.specs.Grouping.{change_before, changes_of, known}

@@ -8,6 +8,7 @@ use Rattle.replay_run.proofs.Bytes.{Appends_then, Consumes_then}
 use Rattle.replay_run.proofs.Parts.{along}
 use Rattle.replay_run.proofs.Takes.{length_take}
 use Rattle.replay_run.proofs.Ends.{taken_few, kept_whole, whole_run, replayed_end, no_read_fault, Consumes_keeps, limited, taken_parts}
+use Rattle.replay_run.proofs.Begun.{begins}
 use Rattle.replay_run.proofs.command.run_source.Goals as goal
 
 pub returns-in_default-clause-replay : goal.returns-in_default-clause-replay
@@ -96,7 +97,8 @@ returns-in-Err-Failed-clause-replay g c =
       Consumes_then _ _ _ i.0 (take count buffer) i.2 c.in-Ok.ensures.bytes.0,
       Appends_then _ _ _ i.1 more.0 i.3 more.1,
       taken_few i.0 buffer count c.in-Ok.ensures.bound (omega (arith, i.4, c.in-Ok.ensures.most)),
-      subst (λ b. IsPartOf first b (i.1 ++ more.0)) (sym (taken_parts limit i.0 buffer count c.min-within.result few within)) (more.2 (drop c.min-within.result (take count buffer))),
+      begins (i.0 ++ take count buffer) (i.1 ++ more.0)
+          (subst (λ b. IsPartOf first b (i.1 ++ more.0)) (sym (taken_parts limit i.0 buffer count c.min-within.result few within)) (more.2 (drop c.min-within.result (take count buffer)))),
     )
 
 pub returns-in-Err-Memory-clause-replay : goal.returns-in-Err-Memory-clause-replay
@@ -112,7 +114,8 @@ returns-in-Err-Memory-clause-replay g c =
       Consumes_then _ _ _ i.0 (take count buffer) i.2 c.in-Ok.ensures.bytes.0,
       Appends_then _ _ _ i.1 more.0 i.3 more.1,
       taken_few i.0 buffer count c.in-Ok.ensures.bound (omega (arith, i.4, c.in-Ok.ensures.most)),
-      subst (λ b. IsPartOf first b (i.1 ++ more.0)) (sym (taken_parts limit i.0 buffer count c.min-within.result few within)) (more.2 (drop c.min-within.result (take count buffer))),
+      begins (i.0 ++ take count buffer) (i.1 ++ more.0)
+          (subst (λ b. IsPartOf first b (i.1 ++ more.0)) (sym (taken_parts limit i.0 buffer count c.min-within.result few within)) (more.2 (drop c.min-within.result (take count buffer)))),
     )
 
 pub returns-clause-replay : goal.returns-clause-replay

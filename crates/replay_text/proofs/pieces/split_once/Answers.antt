@@ -1,4 +1,4 @@
-use Rattle.std.proofs.Common.{rules, ap, sym, ◌∙◌, ◌+◌, ◌≡◌, arith, length, take, drop, length-take}
+use Rattle.std.proofs.Common.{rules}
 use Rattle.std.proofs.lemmas.List.{take_rest}
 use Rattle.replay_text.proofs.PieceSplits.{pieces_none, pieces_at_first, place_none, place_of_first}
 use Rattle.replay_text.proofs.pieces.split_once.Goals as goal

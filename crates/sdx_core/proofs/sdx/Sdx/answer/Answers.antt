@@ -1,13 +1,5 @@
-use Rattle.std.proofs.Common.{◌≡◌, sym, ap, subst, ◌∙◌}
-use Rattle.std.specs.Prelude.{Result, Ok, IfOk}
-use Rattle.net_types.specs.declared.memory.Memory.{Memory}
-use Rattle.events.specs.Fits.{IsStep, IsWellFormed}
-use Rattle.events.specs.State.{State}
-use Rattle.events.specs.declared.Event.{Event}
-use Rattle.events.specs.declared.Reply.{Reply}
-use Rattle.net_types.specs.Exports.{Routing}
-use Rattle.route_server.specs.Proposed.{Proposed}
-use Rattle.sdx_core.specs.Changing.{Asks, Leads}
+use Rattle.std.proofs.Common.{subst}
+use Rattle.sdx_core.specs.Changing.{Asks}
 use Rattle.sdx_core.proofs.Asked.{for_asked}
 use Rattle.sdx_core.proofs.sdx.Sdx.answer.Goals as goal
 

@@ -6,7 +6,8 @@ use Rattle.events.specs.State.{State}
 use Rattle.events.specs.declared.Event.TheVariants.{Arp}
 use Rattle.events.specs.declared.Exchange.{Exchange}
 use Rattle.net_types.specs.declared.route.PortInfo.{PortInfo}
-use Rattle.sdx_core.proofs.Resolving.{answer_reply, arp_kept, arp_refused, arp_step, no_port, other_state, own_state, port_at, silent_reply, silent_state}
+use Rattle.sdx_core.proofs.Ports.{no_port, port_at}
+use Rattle.sdx_core.proofs.Resolving.{answer_reply, arp_kept, arp_refused, arp_step, other_state, own_state, silent_reply, silent_state}
 use Rattle.sdx_core.proofs.Steps.{step_from}
 use Rattle.sdx_core.specs.View.{state_of}
 use Rattle.sdx_core.proofs.sdx.Sdx.arp.Goals as goal

@@ -1,10 +1,9 @@
-use Rattle.std.proofs.Common.{◌≡◌, ◌≤◌, cond, sym, ap, subst, ◌∙◌, length, List}
-use Rattle.std.specs.Prelude.{Err, None, Ok, Some, nat_lt}
+use Rattle.std.proofs.Common.{◌≡◌, ◌≤◌, sym, ap, subst, ◌∙◌, length, List}
+use Rattle.std.specs.Prelude.{None, Ok, Some}
 use Rattle.net_types.specs.declared.export.ExportRule.{ExportRule}
 use Rattle.events.specs.State.{State}
-use Rattle.events.specs.declared.Refusal.TheVariants.{TextLong}
 use Rattle.net_types.specs.ExportReading.{rules_of_text}
-use Rattle.sdx_core.specs.Changing.{bound_or, read_or, rules_or_refusal}
+use Rattle.sdx_core.specs.Changing.{bound_or, rules_or_refusal}
 use Rattle.sdx_core.specs.View.{state_of}
 use Rattle.std.specs.Prelude.{IsUtf8}
 use Rattle.sdx_core.proofs.Utf8.{passed_is_utf8}

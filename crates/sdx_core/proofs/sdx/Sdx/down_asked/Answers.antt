@@ -1,11 +1,12 @@
-use Rattle.std.proofs.Common.{◌≡◌, sym, ap, subst, ◌∙◌, refl}
+use Rattle.std.proofs.Common.{sym, ap, subst, ◌∙◌, refl}
 use Rattle.net_types.specs.Exports.{Routing}
 use Rattle.events.specs.After.{without_from}
 use Rattle.events.specs.State.{State}
 use Rattle.events.specs.declared.Event.TheVariants.{Down}
-use Rattle.sdx_core.specs.Changing.{Leads, session}
+use Rattle.sdx_core.specs.Changing.{IsSender, Leads, session}
 use Rattle.sdx_core.specs.View.{state_of}
-use Rattle.sdx_core.proofs.Asked.{IsSender, down_leads, routes_declared, sender_of}
+use Rattle.sdx_core.proofs.Asked.{down_leads}
+use Rattle.sdx_core.proofs.Senders.{routes_declared, sender_of}
 use Rattle.sdx_core.proofs.sdx.Sdx.down_asked.Goals as goal
 
 pub propose_down-requires : goal.propose_down-requires

@@ -1,12 +1,13 @@
-use Rattle.std.proofs.Common.{◌≡◌, ◌<◌, length, sym, ap, subst, ◌∙◌, refl, arith}
+use Rattle.std.proofs.Common.{◌<◌, length, sym, ap, subst, ◌∙◌, refl, arith}
 use Rattle.net_types.specs.Exports.{Routing}
 use Rattle.events.specs.After.{with_rules}
 use Rattle.events.specs.State.{State}
 use Rattle.events.specs.declared.Event.TheVariants.{Export}
 use Rattle.events.proofs.Reached.{declared_pid}
-use Rattle.sdx_core.specs.Changing.{Leads, rules_or_refusal, session}
+use Rattle.sdx_core.specs.Changing.{IsSender, Leads, rules_or_refusal, session}
 use Rattle.sdx_core.specs.View.{state_of}
-use Rattle.sdx_core.proofs.Asked.{IsSender, export_leads, routes_declared, sender_of}
+use Rattle.sdx_core.proofs.Asked.{export_leads}
+use Rattle.sdx_core.proofs.Senders.{routes_declared, sender_of}
 use Rattle.sdx_core.proofs.sdx.Sdx.export_asked.Goals as goal
 
 pub propose_rules-requires-clause-listed : goal.propose_rules-requires-clause-listed

@@ -10,7 +10,9 @@ use Rattle.net_types.specs.Arp.{no_mac}
 use Rattle.net_types.specs.declared.prefix.Prefix.{Prefix}
 use Rattle.sdx_core.specs.Leaving.{sent_by}
 use Rattle.sdx_core.specs.View.{state_of}
-use Rattle.sdx_core.proofs.Packets.{no_packet, owner_below, packet_kept, packet_refused, packet_step, reply_by, told_small}
+use Rattle.sdx_core.proofs.Packets.{no_packet, packet_kept, packet_refused, packet_step, reply_by}
+use Rattle.exchange_laws.proofs.PoolTags.{told_small}
+use Rattle.exchange_laws.proofs.Forwarded.{owner_below}
 use Rattle.sdx_core.proofs.Steps.{step_from}
 use Rattle.sdx_core.proofs.sdx.Sdx.packet.Goals as goal
 use Rattle.sdx_core.proofs.sdx.Sdx.packet.Goals.{in-Some-longest+in_ok-reply-in-Some-longest, in-None}
@@ -28,7 +30,7 @@ returns-in_default-headers c =
 
 pub bounds-as_slice-owner : goal.bounds-as_slice-owner
 bounds-as_slice-owner c =
-    let less : c.in-Some.source.owner.0 < length c.self.inside.registry.participants = owner_below c.self.invariant c.args.port c.in-Some.source (sym c.port.ensures ∙ sym c.copied.ensures ∙ c.in-Some.is) in
+    let less : c.in-Some.source.owner.0 < length c.self.inside.registry.participants = owner_below c.self.invariant.steady c.args.port c.in-Some.source (sym c.port.ensures ∙ sym c.copied.ensures ∙ c.in-Some.is) in
     let even : length c.self.inside.told.items ≡ length c.self.inside.registry.participants = c.self.invariant.steady.told in
     rw c.as_slice-3.ensures.value (omega arith)
 
@@ -36,9 +38,9 @@ pub sent-requires-clause-small : goal.sent-requires-clause-small
 sent-requires-clause-small c =
     let a = c.self.inside in
     let owner = c.in-Some.source.owner.0 in
-    let less : owner < length a.registry.participants = owner_below c.self.invariant c.args.port c.in-Some.source (sym c.port.ensures ∙ sym c.copied.ensures ∙ c.in-Some.is) in
+    let less : owner < length a.registry.participants = owner_below c.self.invariant.steady c.args.port c.in-Some.source (sym c.port.ensures ∙ sym c.copied.ensures ∙ c.in-Some.is) in
     let even : length a.told.items ≡ length a.registry.participants = c.self.invariant.steady.told in
-    told_small c.self.invariant owner c.index-as_slice-owner.result
+    told_small c.self.invariant.steady owner c.index-as_slice-owner.result
     (slice_get-get_or a.told.items owner c.index-as_slice-owner.result (omega arith) ∙ ap Some (sym (rw c.as_slice-3.ensures.value at c.index-as_slice-owner.is)))
     c.in-Some-longest.field-0-0 c.in-Some-longest.entry.now (sym c.in-Some-longest.ensures.value)
 
@@ -48,7 +50,7 @@ invariant_of-self c =
     let source = c.in-Some.source in
     let owner = source.owner.0 in
     let found = sym c.port.ensures ∙ sym c.copied.ensures ∙ c.in-Some.is in
-    let less : owner < length a.registry.participants = owner_below c.self.invariant c.args.port source found in
+    let less : owner < length a.registry.participants = owner_below c.self.invariant.steady c.args.port source found in
     let even : length a.told.items ≡ length a.registry.participants = c.self.invariant.steady.told in
     let low : c.args.port.0 < 65536 = search rules in
     packet_kept _ a.pool c.self.invariant c.args.port source found c.index-as_slice-owner.result
@@ -63,7 +65,7 @@ returns c =
     let source = c.in-Some.source in
     let owner = source.owner.0 in
     let found = sym c.port.ensures ∙ sym c.copied.ensures ∙ c.in-Some.is in
-    let less : owner < length a.registry.participants = owner_below c.self.invariant c.args.port source found in
+    let less : owner < length a.registry.participants = owner_below c.self.invariant.steady c.args.port source found in
     let even : length a.told.items ≡ length a.registry.participants = c.self.invariant.steady.told in
     let low : c.args.port.0 < 65536 = search rules in
     let s : State = state_of a.phase a.base a.size a.registry a.server a.resolved.items a.classes a.told.items a.switch in

@@ -1,10 +1,10 @@
-use Rattle.std.proofs.Common.{◌≡◌, ap, refl, subst, sym, ◌∙◌}
-use Rattle.std.specs.Prelude.{IfOk, IsTrue}
+use Rattle.std.proofs.Common.{refl, subst, sym}
+use Rattle.std.specs.Prelude.{IsTrue}
 use Rattle.std.specs.FinMap.{is_sorted}
-use Rattle.events.specs.State.{present}
 use Rattle.net_types.specs.Keys.{prefix_cmp}
 use Rattle.route_server.specs.Served.{routing}
-use Rattle.sdx_core.proofs.Told.{entries_sorted, routes_declared, told_shown}
+use Rattle.sdx_core.proofs.Senders.{routes_declared}
+use Rattle.sdx_core.proofs.Told.{entries_sorted, told_shown}
 use Rattle.sdx_core.proofs.sdx.Sdx.present_to.Goals as goal
 
 pub bests-requires : goal.bests-requires

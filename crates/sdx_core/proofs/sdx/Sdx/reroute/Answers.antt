@@ -1,9 +1,9 @@
-use Rattle.std.proofs.Common.{◌≡◌, true, false, sym, ap, subst, ◌∙◌, refl}
+use Rattle.std.proofs.Common.{sym, ap, subst, ◌∙◌, refl}
 use Rattle.events.specs.After.{without_pairs}
 use Rattle.events.specs.Fits.{IsStep}
 use Rattle.events.specs.State.{State}
 use Rattle.events.specs.declared.Phase.TheVariants.{Running}
-use Rattle.fast_path.specs.Committing.{kept_with, kept_without, marked_all, tags_of, tags_with, with_blocks}
+use Rattle.fast_path.specs.Committing.{kept_with, kept_without, tags_with, with_blocks}
 use Rattle.fast_path.specs.Plans.{IsFault}
 use Rattle.fast_path.proofs.CommittedPlans.{can_commit, kept_committed, table_committed, tags_committed}
 use Rattle.sdx_core.specs.Changing.{Leads}

@@ -5,8 +5,9 @@ use Rattle.events.specs.Resolving.{port_place}
 use Rattle.events.specs.State.{State, port_of}
 use Rattle.events.specs.declared.Event.TheVariants.{Resolve}
 use Rattle.net_types.specs.declared.route.PortInfo.{PortInfo}
-use Rattle.sdx_core.proofs.Packets.{owner_below}
-use Rattle.sdx_core.proofs.Resolving.{hops_reply, hops_state, hops_within, no_port, port_at, resolve_kept, resolve_refused, resolve_step, tags_small}
+use Rattle.exchange_laws.proofs.Forwarded.{owner_below}
+use Rattle.sdx_core.proofs.Ports.{no_port, port_at}
+use Rattle.sdx_core.proofs.Resolving.{hops_reply, hops_state, hops_within, resolve_kept, resolve_refused, resolve_step, tags_small}
 use Rattle.sdx_core.proofs.Steps.{step_from}
 use Rattle.sdx_core.specs.View.{state_of}
 use Rattle.sdx_core.proofs.sdx.Sdx.resolve.Goals as goal
@@ -24,7 +25,7 @@ overflow_cast-owner c =
     let place : port_place s c.args.port ≡ Some c.in-Some.place = sym c.port_place.ensures.place ∙ c.in-Some.is in
     let here : slice_get a.registry.ports c.in-Some.place ≡ Some q = slice_get-get_or a.registry.ports c.in-Some.place no_port c.in-Some.ensures.within in
     let found : port_of s c.args.port ≡ Some q = port_at s c.args.port c.in-Some.place q place here in
-    let owner : q.owner.0 < length a.registry.participants = owner_below c.self.invariant c.args.port q found in
+    let owner : q.owner.0 < length a.registry.participants = owner_below c.self.invariant.steady c.args.port q found in
     let few : length a.registry.participants ≤ 256 = c.self.invariant.steady.few in
     let small : q.owner.0 ≤ 256 = omega (arith, owner, few) in
     rw c.ports.ensures (omega (arith, small))
@@ -37,7 +38,7 @@ offset_bounds-as_slice-owner c =
     let place : port_place s c.args.port ≡ Some c.in-Some.place = sym c.port_place.ensures.place ∙ c.in-Some.is in
     let here : slice_get a.registry.ports c.in-Some.place ≡ Some q = slice_get-get_or a.registry.ports c.in-Some.place no_port c.in-Some.ensures.within in
     let found : port_of s c.args.port ≡ Some q = port_at s c.args.port c.in-Some.place q place here in
-    let owner : q.owner.0 < length a.registry.participants = owner_below c.self.invariant c.args.port q found in
+    let owner : q.owner.0 < length a.registry.participants = owner_below c.self.invariant.steady c.args.port q found in
     let few : length a.registry.participants ≤ 256 = c.self.invariant.steady.few in
     let small : q.owner.0 ≤ 256 = omega (arith, owner, few) in
     rw c.ports.ensures (omega (arith, small))
@@ -50,7 +51,7 @@ bounds-as_slice-owner c =
     let place : port_place s c.args.port ≡ Some c.in-Some.place = sym c.port_place.ensures.place ∙ c.in-Some.is in
     let here : slice_get a.registry.ports c.in-Some.place ≡ Some q = slice_get-get_or a.registry.ports c.in-Some.place no_port c.in-Some.ensures.within in
     let found : port_of s c.args.port ≡ Some q = port_at s c.args.port c.in-Some.place q place here in
-    let owner : q.owner.0 < length a.registry.participants = owner_below c.self.invariant c.args.port q found in
+    let owner : q.owner.0 < length a.registry.participants = owner_below c.self.invariant.steady c.args.port q found in
     let told : length a.told.items ≡ length a.registry.participants = c.self.invariant.steady.told in
     rw (c.ports.ensures, c.as_slice.ensures.value) (let less : q.owner.0 < length a.told.items = omega arith in less)
 
@@ -62,7 +63,7 @@ missing_hops-requires-clause-small c =
     let place : port_place s c.args.port ≡ Some c.in-Some.place = sym c.port_place.ensures.place ∙ c.in-Some.is in
     let here : slice_get a.registry.ports c.in-Some.place ≡ Some q = slice_get-get_or a.registry.ports c.in-Some.place no_port c.in-Some.ensures.within in
     let found : port_of s c.args.port ≡ Some q = port_at s c.args.port c.in-Some.place q place here in
-    let owner : q.owner.0 < length a.registry.participants = owner_below c.self.invariant c.args.port q found in
+    let owner : q.owner.0 < length a.registry.participants = owner_below c.self.invariant.steady c.args.port q found in
     let told : length a.told.items ≡ length a.registry.participants = c.self.invariant.steady.told in
     let entries = c.index-as_slice-owner.result in
     let entries_is : entries ≡ get_or a.told.items q.owner.0 entries = c.index-as_slice-owner.is ∙ (λ i. get_or (c.as_slice.ensures.value i) (get_or (c.ports.ensures i) c.in-Some.place no_port).owner.0 entries) in
@@ -77,7 +78,7 @@ exchanges-requires c =
     let place : port_place s c.args.port ≡ Some c.in-Some.place = sym c.port_place.ensures.place ∙ c.in-Some.is in
     let here : slice_get a.registry.ports c.in-Some.place ≡ Some q = slice_get-get_or a.registry.ports c.in-Some.place no_port c.in-Some.ensures.within in
     let found : port_of s c.args.port ≡ Some q = port_at s c.args.port c.in-Some.place q place here in
-    let owner : q.owner.0 < length a.registry.participants = owner_below c.self.invariant c.args.port q found in
+    let owner : q.owner.0 < length a.registry.participants = owner_below c.self.invariant.steady c.args.port q found in
     let told : length a.told.items ≡ length a.registry.participants = c.self.invariant.steady.told in
     let entries = c.index-as_slice-owner.result in
     let entries_is : entries ≡ get_or a.told.items q.owner.0 entries = c.index-as_slice-owner.is ∙ (λ i. get_or (c.as_slice.ensures.value i) (get_or (c.ports.ensures i) c.in-Some.place no_port).owner.0 entries) in
@@ -92,7 +93,7 @@ invariant_of-self c =
     let place : port_place s c.args.port ≡ Some c.in-Some.place = sym c.port_place.ensures.place ∙ c.in-Some.is in
     let here : slice_get a.registry.ports c.in-Some.place ≡ Some q = slice_get-get_or a.registry.ports c.in-Some.place no_port c.in-Some.ensures.within in
     let found : port_of s c.args.port ≡ Some q = port_at s c.args.port c.in-Some.place q place here in
-    let owner : q.owner.0 < length a.registry.participants = owner_below c.self.invariant c.args.port q found in
+    let owner : q.owner.0 < length a.registry.participants = owner_below c.self.invariant.steady c.args.port q found in
     let told : length a.told.items ≡ length a.registry.participants = c.self.invariant.steady.told in
     let entries = c.index-as_slice-owner.result in
     let entries_is : entries ≡ get_or a.told.items q.owner.0 entries = c.index-as_slice-owner.is ∙ (λ i. get_or (c.as_slice.ensures.value i) (get_or (c.ports.ensures i) c.in-Some.place no_port).owner.0 entries) in
@@ -115,7 +116,7 @@ returns c =
     let place : port_place s c.args.port ≡ Some c.in-Some.place = sym c.port_place.ensures.place ∙ c.in-Some.is in
     let here : slice_get a.registry.ports c.in-Some.place ≡ Some q = slice_get-get_or a.registry.ports c.in-Some.place no_port c.in-Some.ensures.within in
     let found : port_of s c.args.port ≡ Some q = port_at s c.args.port c.in-Some.place q place here in
-    let owner : q.owner.0 < length a.registry.participants = owner_below c.self.invariant c.args.port q found in
+    let owner : q.owner.0 < length a.registry.participants = owner_below c.self.invariant.steady c.args.port q found in
     let told : length a.told.items ≡ length a.registry.participants = c.self.invariant.steady.told in
     let entries = c.index-as_slice-owner.result in
     let entries_is : entries ≡ get_or a.told.items q.owner.0 entries = c.index-as_slice-owner.is ∙ (λ i. get_or (c.as_slice.ensures.value i) (get_or (c.ports.ensures i) c.in-Some.place no_port).owner.0 entries) in

@@ -1,4 +1,4 @@
-use Rattle.std.proofs.Common.{◌≡◌, ◌<◌, length, sym, ap, subst, ◌∙◌, refl}
+use Rattle.std.proofs.Common.{◌≡◌, sym, ap, subst, ◌∙◌, refl}
 use Rattle.net_types.specs.Exports.{Routing}
 use Rattle.net_types.specs.UpdateReading.{decoded}
 use Rattle.events.specs.After.{with_update}
@@ -10,9 +10,10 @@ use Rattle.std.specs.Prelude.{Result, Err, Some}
 use Rattle.route_server.specs.Proposed.{Proposed}
 use Rattle.route_server.specs.declared.fault.RouteFault.{RouteFault}
 use Rattle.events.proofs.Reached.{declared_pid}
-use Rattle.sdx_core.specs.Changing.{Leads, session}
+use Rattle.sdx_core.specs.Changing.{IsSender, Leads, session}
 use Rattle.sdx_core.specs.View.{state_of}
-use Rattle.sdx_core.proofs.Asked.{IsSender, first_refused, none_refused, routes_declared, sender_of, short_path, update_faulty, update_leads}
+use Rattle.sdx_core.proofs.Asked.{first_refused, none_refused, short_path, update_faulty, update_leads}
+use Rattle.sdx_core.proofs.Senders.{routes_declared, sender_of}
 use Rattle.sdx_core.proofs.sdx.Sdx.update_asked.Goals as goal
 
 pub propose_update-requires-clause-known : goal.propose_update-requires-clause-known

@@ -1,0 +1,51 @@
+-- Each line has a reply that fits, so legal replies to the first lines of a run go on (this exchange's own rule).
+use Rattle.std.specs.Prelude.{◌≡◌, ℕ, ◌<◌, List, ◌++◌, length, slice_index}
+use Rattle.events.specs.Fits.{Fits, IsWellFormed}
+use Rattle.events.specs.Legal.{Legal}
+use Rattle.events.specs.State.{State}
+use Rattle.events.specs.declared.Event.{Event}
+use Rattle.events.specs.declared.Event.TheVariants.{Bad, Exchange, Participant as DeclaresParticipant, Port as DeclaresPort, Update, Down, Export, Drain, Arp, Resolve, Packet, Frame, Table}
+use Rattle.events.specs.declared.Reply.{Reply}
+use Rattle.exchange_laws.specs.Steady.{IsSteady}
+use Rattle.net_types.specs.Sets.{Member}
+use Rattle.net_types.specs.declared.address.Mac.{Mac}
+use Rattle.net_types.specs.declared.route.PortInfo.{PortInfo}
+
+-- each is an octet
+abbrev pub AreOctets : List ℕ → Type 0
+AreOctets xs = (k : ℕ) → slice_index xs k < 256
+
+-- a MAC is six octets
+pub record IsMac (mac : Mac) : Type 0 where
+  pub six : length mac.0 ≡ 6
+  pub octets : AreOctets mac.0
+
+-- what a line says in hexadecimal of a port or a datagram are octets
+abbrev pub HasOctets : Event → Type 0
+HasOctets (DeclaresPort name number ip mac) = IsMac mac
+HasOctets (Packet port bytes) = AreOctets bytes
+HasOctets Bad = Unit {0}
+HasOctets (Exchange base size capacity) = Unit {0}
+HasOctets (DeclaresParticipant name asn id) = Unit {0}
+HasOctets (Update name bytes) = Unit {0}
+HasOctets (Down name) = Unit {0}
+HasOctets (Export name text) = Unit {0}
+HasOctets (Drain name) = Unit {0}
+HasOctets (Arp port bytes) = Unit {0}
+HasOctets (Resolve port) = Unit {0}
+HasOctets (Frame port bytes) = Unit {0}
+HasOctets Table = Unit {0}
+
+-- each declared port has a MAC
+abbrev pub PortsHaveMacs : State → Type 0
+PortsHaveMacs s = (q : PortInfo) → Member q s.routing.ports → IsMac q.mac
+
+-- in a steady state some reply to each line fits
+abbrev pub LinesHaveReplies : Type 0
+LinesHaveReplies = (s : State) (e : Event) → IsSteady s → PortsHaveMacs s → IsWellFormed e → HasOctets e → (r : Reply) × Fits s e r
+
+-- so legal replies to the first lines of a run go on
+abbrev pub RunsGoOn : Type 0
+RunsGoOn =
+    (es fs : List Event) (rs : List Reply) → ((e : Event) → Member e (es ++ fs) → IsWellFormed e × HasOctets e) → Legal es rs
+    → (more : List Reply) × Legal (es ++ fs) (rs ++ more)

@@ -1,0 +1,13 @@
+//! Each line has a reply.
+
+ghost use Rattle.exchange_laws.specs.Replying.{LinesHaveReplies, RunsGoOn};
+
+/// In a steady state some reply to each line fits.
+pub fn lines_have_replies()
+    ensures { LinesHaveReplies }
+{}
+
+/// Legal replies to the first lines of a run go on to all of its lines.
+pub fn runs_go_on()
+    ensures { RunsGoOn }
+{}
