@@ -3,6 +3,8 @@
 
 mod ascending;
 mod queue;
+#[cfg(test)]
+mod tests;
 mod told;
 
 pub use queue::{adverts, pending};

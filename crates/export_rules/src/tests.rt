@@ -66,19 +66,21 @@ fn bound(alloc: Global, names: &Registry, text: &str) -> Result<Bound, Fail> {
 #[test]
 fn the_first_rule_that_applies_decides(rt: HostRuntime) -> Result<(), Fail> {
     let names = declared(rt.alloc())?;
+    let (ten, eleven) = (Ip(0x0A010000), Ip(0x0B010000));
     let rows = [
-        ("deny C 10.0.0.0/8+; allow * *", 2, 10, 16, false),
-        ("deny C 10.0.0.0/8+; allow * *", 1, 10, 16, true),
-        ("deny C 10.0.0.0/8+; allow * *", 2, 11, 16, true),
-        ("deny C 10.0.0.0/8+", 2, 10, 8, false),
-        ("deny C 10.0.0.0/8", 2, 10, 16, true),
-        ("deny C 10.0.0.0/8", 2, 10, 8, false),
-        ("deny * *; allow C *", 2, 10, 16, false),
-        ("allow B *; deny * *", 1, 10, 16, true),
+        ("deny C 10.0.0.0/8+; allow * *", 2, ten, 16, false),
+        ("deny C 10.0.0.0/8+; allow * *", 1, ten, 16, true),
+        ("deny C 10.0.0.0/8+; allow * *", 2, eleven, 16, true),
+        ("deny C 10.0.0.0/8+", 2, ten, 8, false),
+        ("deny C 10.0.0.0/8", 2, ten, 16, true),
+        ("deny C 10.0.0.0/8", 2, ten, 8, false),
+        ("deny * *; allow C *", 2, ten, 16, false),
+        ("allow C *; deny * *", 2, ten, 16, true),
+        ("allow B *; deny * *", 1, ten, 16, true),
     ];
-    for (text, to, first, len, allowed) in rows {
+    for (text, to, ip, len, allowed) in rows {
         let rules = bound(rt.alloc(), &names, text)?;
-        let prefix = Prefix::new(Ip(first * 16777216), len)?;
+        let prefix = Prefix::new(ip, len)?;
         assert_eq!(rt; rules.allows(Pid(to), prefix), allowed, "{text}");
     }
     Ok(())

@@ -1,6 +1,5 @@
 -- The atoms of policies as sets, and cubes behind the paths of policies.
-use Rattle.std.proofs.Common.{◌≡◌, ◌≤◌, ◌<◌, arith, length, Option, Some, None, List, [], ◌∷◌, ◌++◌, map, append_assoc, refl, inl, inr, sym, ap, ◌∙◌, subst}
-use Rattle.std.specs.HashSet.{HashSet}
+use Rattle.std.proofs.Common.{◌≡◌, ◌≤◌, arith, length, Option, Some, None, List, [], ◌∷◌, ◌++◌, map, append_assoc, refl, inl, inr, sym, ap, ◌∙◌, subst}
 use Rattle.std.specs.Option.{option_to_list}
 use Rattle.net_types.specs.declared.cube.Cube.{Cube}
 use Rattle.net_types.specs.declared.headers.Headers.{Headers}
@@ -11,7 +10,7 @@ use Rattle.net_types.specs.Sets.{Member, SameMembers, union_over}
 use Rattle.net_types.specs.Meets.{behind, behind_one, meets}
 use Rattle.net_types.specs.Policies as model
 use Rattle.net_types.specs.Policies.{Policy, Both, Then, mods, atoms}
-use Rattle.net_types.specs.Widths.{parts, HasManyMeets}
+use Rattle.net_types.specs.Widths.{parts}
 use Rattle.net_types.proofs.SetLemmas
 use Rattle.net_types.proofs.CubeLemmas.{option_ext, has-pull, has_option}
 use Rattle.net_types.proofs.MeetLemmas.{behind-Member, Member-behind}
@@ -19,14 +18,10 @@ use Rattle.net_types.proofs.WidthLemmas.{meets-fewer}
 use Rattle.classifier.specs.Seen.{cube_eq}
 use Rattle.classifier.proofs.ResultLemmas.{apply-followed_by}
 use Rattle.policy_compile.specs.Sets.{adds}
-use Rattle.policy_compile.specs.Narrow.{DecidesMeets, HasWideMeets, IsNarrow, IsWhole, IsChain}
-use Rattle.policy_compile.proofs.SetsLemmas.{cubes-same}
+use Rattle.policy_compile.specs.Narrow.{HasWideMeets}
+use Rattle.policy_compile.proofs.SetsLemmas.{append-nil, cubes-same}
 
 -- ---- cubes behind the paths of a policy
-
-append-nil : {A : Type 0} (xs : List A) → xs ++ [] ≡ xs
-append-nil [] = refl
-append-nil (x ∷ xs) = ap (λ ws. x ∷ ws) (append-nil xs)
 
 -- behind one assignment
 pub behind-one : (set : Assign) (cubes : List Cube) → SameMembers (adds cube_eq [] (behind_one set cubes)) (behind (set ∷ []) cubes)
@@ -113,33 +108,12 @@ wide-left w p q e m = record { part = m.part; stands = subst (Member m.part) (sy
 pub wide-right : (w p q : Policy) → HasParts w p q → HasWideMeets q → HasWideMeets w
 wide-right w p q e m = record { part = m.part; stands = subst (Member m.part) (sym e) (inr (SetLemmas.Member-append_right (parts p) (parts q) m.part m.stands)); many = m.many }
 
-decides-parts : (w p q : Policy) (ks ls whole : List Cube) → HasParts w p q → SameMembers whole (atoms w) → DecidesMeets p ks → DecidesMeets q ls → (HasManyMeets p → HasManyMeets w) → (HasManyMeets q → HasManyMeets w) → DecidesMeets w whole
-decides-parts w p q ks ls whole e same f g left right = record {
-  same = same;
-  decides = λ r stands many. elim (subst (Member r) e stands) [
-    | inl here ↦ subst HasManyMeets here many
-    | inr below ↦ elim (SetLemmas.Member-append_cases (parts p) (parts q) r below) [ inl k ↦ left (f.decides r k many) | inr k ↦ right (g.decides r k many) ]
-  ];
-}
-
 -- the meets of a part of a sum, and of the first part of a chain, are among those of the whole
 pub meets-left : (xs ys : List Cube) → length (meets xs) ≤ length (meets (xs ++ ys))
 meets-left xs ys = meets-fewer xs (xs ++ ys) (SetLemmas.Member-append_left xs ys)
 
 pub meets-right : (xs ys : List Cube) → length (meets ys) ≤ length (meets (xs ++ ys))
 meets-right xs ys = meets-fewer ys (xs ++ ys) (SetLemmas.Member-append_right xs ys)
-
-pub both-decides : (p q : Policy) (ks ls whole : List Cube) → DecidesMeets p ks → DecidesMeets q ls → SameMembers whole (ks ++ ls) → DecidesMeets (Both p q) whole
-both-decides p q ks ls whole f g same =
-    decides-parts (Both p q) p q ks ls whole refl (SetLemmas.same_trans same (SetLemmas.same_append f.same g.same)) f g
-    (λ many. omega (arith, many, meets-left (atoms p) (atoms q))) (λ many. omega (arith, many, meets-right (atoms p) (atoms q)))
-
-pub then-decides : (p q : Policy) (ks ls whole : List Cube) → DecidesMeets p ks → DecidesMeets q ls → IsWhole p ks ls whole → DecidesMeets (Then p q) whole
-then-decides p q ks ls whole f g w =
-    let same = atoms-then p q ks ls whole f.same g.same w.same in
-    decides-parts (Then p q) p q ks ls whole refl same f g
-    (λ many. omega (arith, many, meets-left (atoms p) (behind (mods p) (atoms q))))
-    (λ many. omega (arith, same_count whole (atoms (Then p q)) same, w.held (omega (arith, many, same_count ls (atoms q) g.same))))
 
 -- a policy is one of its parts
 pub itself : (p : model.Policy) → Member p (parts p)
@@ -151,16 +125,6 @@ itself (model.Match p) = inl refl
 itself (model.Set set span) = inl refl
 itself (model.Both p q) = inl refl
 itself (model.Then p q) = inl refl
-
-pub chain-narrow : {S : Type 0} (p q : Policy) (ks ls : List Cube) → DecidesMeets p ks → DecidesMeets q ls → (found : Option (HashSet Cube S)) → IsChain p ks ls found → IsNarrow (Then p q) found
-chain-narrow p q ks ls f g None many = record { part = q; stands = inr (SetLemmas.Member-append_right (parts p) (parts q) q (itself q)); many = omega (arith, many, same_count ls (atoms q) g.same) }
-chain-narrow p q ks ls f g (Some s) w = then-decides p q ks ls s.keys f g w
-
-pub only-decides : (p : Policy) (keys : List Cube) → SameMembers keys (atoms p) → parts p ≡ p ∷ [] → DecidesMeets p keys
-only-decides p keys same none = record {
-  same = same;
-  decides = λ r stands many. elim (subst (Member r) none stands) [ inl here ↦ subst HasManyMeets here many | inr nothing ↦ elim nothing [ ] ];
-}
 
 -- ---- the atoms of predicates
 
@@ -182,7 +146,3 @@ atoms-found p found e = as_list found ∙ ap (λ o. model.atoms_where_plain o (m
 -- and else those of the parts
 pub atoms-apart : (p : model.Pred) → model.plain p ≡ None → model.part_atoms p ≡ model.pred_atoms p
 atoms-apart p e = ap (λ o. model.atoms_where_plain o (model.part_atoms p)) (sym e) ∙ sym (pred-atoms-is p)
-
--- too many meets of the whole
-pub whole-decides : (p : Policy) (keys : List Cube) → DecidesMeets p keys → 65536 < length (meets keys) → HasWideMeets p
-whole-decides p keys f many = record { part = p; stands = itself p; many = omega (arith, many, same_count keys (atoms p) f.same) }

@@ -64,6 +64,31 @@ module _ {A : Type 0} (eq : A → A → Bool) (exact : (x y : A) → eq x y ≡ 
       apart (x ∷ xs) (inl e) a = false≢true (sym a.0 ∙ ap (eq k) (sym e) ∙ reflexive k)
       apart (x ∷ xs) (inr h) a = apart xs h a.1
 
+pub append-nil : {A : Type 0} (xs : List A) → xs ++ [] ≡ xs
+append-nil [] = refl
+append-nil (x ∷ xs) = ap (λ ws. x ∷ ws) (append-nil xs)
+
+-- what stands behind others that differ from it isn't among them
+differ-apart : {A : Type 0} (ks xs : List A) (x : A) → Differ (ks ++ x ∷ xs) → Member x ks → ⊥
+differ-apart [] xs x d h = elim h [ ]
+differ-apart (k ∷ ks) xs x d (inl e) = d.0 (subst (λ y. Member y (ks ++ x ∷ xs)) e (SetLemmas.Member-append_right ks (x ∷ xs) x (inl refl)))
+differ-apart (k ∷ ks) xs x d (inr h) = differ-apart ks xs x d.1 h
+
+module _ {A : Type 0} (eq : A → A → Bool) (exact : (x y : A) → eq x y ≡ true → x ≡ y) (reflexive : (x : A) → eq x x ≡ true) where
+  insert-new : (ks : List A) (x : A) → (Member x ks → ⊥) → insert_key eq ks x ≡ ks ++ x ∷ []
+  insert-new ks x new = elim (cases_Bool (list_any (eq x) ks)) [
+    | inl there ↦ absurd (new (any-Member eq exact reflexive ks x there))
+    | inr absent ↦ ap (λ b. cond b ks (ks ++ x ∷ [])) absent
+  ]
+
+  -- values that differ are put last as they are
+  pub adds-Differ : (ks xs : List A) → Differ (ks ++ xs) → adds eq ks xs ≡ ks ++ xs
+  adds-Differ ks [] d = sym (append-nil ks)
+  adds-Differ ks (x ∷ xs) d =
+      ap (λ ws. adds eq ws xs) (insert-new ks x (differ-apart ks xs x d))
+      ∙ adds-Differ (ks ++ x ∷ []) xs (subst Differ (sym (append_assoc ks (x ∷ []) xs)) d)
+      ∙ append_assoc ks (x ∷ []) xs
+
 pub adds_append : {A : Type 0} (eq : A → A → Bool) (ks xs ys : List A) → adds eq ks (xs ++ ys) ≡ adds eq (adds eq ks xs) ys
 adds_append eq ks [] ys = refl
 adds_append eq ks (x ∷ xs) ys = adds_append eq (insert_key eq ks x) xs ys
@@ -84,6 +109,10 @@ any-has_cube [] c = refl
 any-has_cube (k ∷ ks) c =
     ap (λ b. b || list_any (cube_eq c) ks) (cube_eq_is c k ∙ and_swap (lies_within_cube c k) (lies_within_cube k c))
     ∙ ap (λ b. (lies_within_cube k c && lies_within_cube c k) || b) (any-has_cube ks c)
+
+-- cubes that no test finds equal, put into an empty set
+pub cubes-copied : (ks : List Cube) → IsDistinct cube_eq ks → adds cube_eq [] ks ≡ ks
+cubes-copied ks d = adds-Differ cube_eq cube_eq_exact cube_eq_refl [] ks (IsDistinct-Differ cube_eq cube_eq_exact cube_eq_refl ks d)
 
 -- a cube put last, unless it is there, as a meet that is found
 pub insert_found : (ks : List Cube) (c : Cube) → insert_key cube_eq ks c ≡ add_found ks (Some c)

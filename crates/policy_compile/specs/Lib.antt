@@ -1,4 +1,5 @@
 pub mod Compiled
 pub mod Sets
 pub mod Narrow
+pub mod Apart
 pub mod Measures

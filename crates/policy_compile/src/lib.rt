@@ -1,6 +1,7 @@
 //! Policies compiled to classifiers, and how wide they are.
 #![tactic(auto)]
 
+mod apart;
 mod atoms;
 mod fields;
 mod meets;

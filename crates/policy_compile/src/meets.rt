@@ -1,10 +1,11 @@
 //! The meets of a list of cubes, counted as far as a limit.
 
-ghost use Rattle.std.specs.Prelude.{◌≡◌, ◌∷◌, List, length, IfOk, OnOk};
+ghost use Rattle.std.specs.Prelude.{◌≡◌, ◌∷◌, ◌++◌, [], List, length, IfOk, OnOk};
 ghost use Rattle.net_types.specs.declared.cube.Cube.{Cube as AnyCube};
 ghost use Rattle.net_types.specs.Meets.{meets, add_found, add_meets};
 ghost use Rattle.policy_compile.specs.Sets.{IsUpTo, IsCount};
 
+use crate::sets::copy_of;
 use indexmap::IndexSet;
 use net_types::{Cube, Memory};
 use std::alloc::Global;
@@ -54,19 +55,56 @@ fn push_atom(
     Ok(())
 }
 
+/// Puts the meets of more cubes with those that are there last, until there are more than `limit`.
+fn push_cubes(
+    alloc: Global,
+    kept: &mut IndexSet<Cube>,
+    cubes: &[Cube],
+    limit: usize,
+) -> Result<(), Memory>
+    ensures { OnOk result ((others : List AnyCube) → kept.old.keys ≡ meets others
+        → IsUpTo limit kept.new.keys (meets (cubes.now ++ others))) }
+{
+    let mut left = cubes.len();
+    while left > 0 {
+        if kept.len() > limit {
+            return Ok(());
+        }
+        left -= 1;
+        push_atom(alloc, kept, &cubes[left], limit)?;
+    }
+    Ok(())
+}
+
+/// The one meet of no cubes.
+pub fn no_meets(alloc: Global) -> Result<IndexSet<Cube>, Memory>
+    ensures { IfOk result (λ kept. kept.keys ≡ meets []) }
+{
+    let mut kept = IndexSet::new(alloc);
+    kept.insert(Cube::everything())?;
+    Ok(kept)
+}
+
+/// The meets of more cubes with those that are there, as far as a limit.
+pub fn more_meets(
+    alloc: Global,
+    kept: &IndexSet<Cube>,
+    cubes: &[Cube],
+    limit: usize,
+) -> Result<IndexSet<Cube>, Memory>
+    ensures { IfOk result (λ s. (others : List AnyCube) → kept.now.keys ≡ meets others
+        → IsUpTo limit s.keys (meets (cubes.now ++ others))) }
+{
+    let mut more = copy_of(alloc, kept)?;
+    push_cubes(alloc, &mut more, cubes, limit)?;
+    Ok(more)
+}
+
 /// How many meets the cubes have: their number, or one above `limit` where there are more.
 pub fn count_of(alloc: Global, cubes: &[Cube], limit: usize) -> Result<usize, Memory>
     ensures { IfOk result (λ count. IsCount limit (length (meets cubes.now)) count) }
 {
-    let mut kept = IndexSet::new(alloc);
-    kept.insert(Cube::everything())?;
-    let mut left = cubes.len();
-    while left > 0 {
-        if kept.len() > limit {
-            return Ok(kept.len());
-        }
-        left -= 1;
-        push_atom(alloc, &mut kept, &cubes[left], limit)?;
-    }
+    let mut kept = no_meets(alloc)?;
+    push_cubes(alloc, &mut kept, cubes, limit)?;
     Ok(kept.len())
 }

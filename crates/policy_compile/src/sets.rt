@@ -1,6 +1,6 @@
 //! Sets of values in the order in which they were put.
 
-ghost use Rattle.std.specs.Prelude.{◌≡◌, OnOk};
+ghost use Rattle.std.specs.Prelude.{◌≡◌, IfOk, OnOk};
 ghost use Rattle.std.specs.List.{list_all};
 ghost use Rattle.indexmap.specs.IndexSet.{contains};
 ghost use Rattle.net_types.specs.Meets.{behind_one};
@@ -9,6 +9,7 @@ ghost use Rattle.policy_compile.specs.Sets.{adds};
 
 use indexmap::IndexSet;
 use net_types::{Assign, Cube, Memory};
+use std::alloc::Global;
 use std::hash::Hash;
 
 /// Puts each value last, unless it is there.
@@ -22,6 +23,15 @@ pub fn push_all<T: Copy + Eq + Hash + Drop>(
         set.insert(*value)?;
     }
     Ok(())
+}
+
+/// The same set once more.
+pub fn copy_of(alloc: Global, set: &IndexSet<Cube>) -> Result<IndexSet<Cube>, Memory>
+    ensures { IfOk result (λ s. s.keys ≡ set.now.keys) }
+{
+    let mut copy = IndexSet::new(alloc);
+    push_all(&mut copy, set.as_slice())?;
+    Ok(copy)
 }
 
 /// Puts each cube behind an assignment last, where it has headers and isn't there.

@@ -207,7 +207,7 @@ fn sent(octet: u8, sport: Option<u16>, dport: Option<u16>) -> Packet {
 }
 
 // Every construct stands in one of them, alone and in parts.
-const POLICIES: [&str; 16] = [
+const POLICIES: [&str; 18] = [
     "drop + pass",
     "block",
     "fwd(C) + fwd(2)",
@@ -223,6 +223,8 @@ const POLICIES: [&str; 16] = [
     "modify(dstip=10.0.0.1) >> modify(dstip=11.0.0.1) >> match(dstip=11.0.0.0/8)",
     "(pass + block) >> (fwd(B) >> (drop + pass) + match(proto=10)) >> match(inport=1)",
     "match(dstport=80) + match(srcport=7) + modify(srcport=7, dstport=80)",
+    "fwd(C) >> block + block >> fwd(2) >> pass",
+    "modify(dstport=1, dstport=80, srcport=9) >> (match(dstport=80) + match(dstport=1) >> block)",
     "match(inport=2) + match(srcip=0.0.0.0/0 & dstip=10.0.0.0/7) >> modify(dstip=9.9.9.9)",
 ];
 

@@ -1,127 +1,50 @@
 //! How wide policies are.
 
-ghost use Rattle.std.specs.Prelude.{◌≡◌, ◌↔◌, ◌<◌, ◌≤◌, ◌^◌, ◌+◌, ◌∷◌, [], IsTrue, length, IfOk};
+ghost use Rattle.std.specs.Prelude.{◌≡◌, ◌↔◌, ◌<◌, ◌≤◌, ◌^◌, ◌+◌, IsTrue, length, IfOk};
 ghost use Rattle.net_types.specs.Meets.{meets};
-ghost use Rattle.net_types.specs.Policies.{Policy, Both, Then, atoms};
-ghost use Rattle.net_types.specs.Widths.{IsTooWide, parts};
+ghost use Rattle.net_types.specs.Policies.{atoms};
+ghost use Rattle.net_types.specs.Widths.{IsTooWide};
 ghost use Rattle.policy_syntax.specs.Views.{policy_of};
-ghost use Rattle.policy_compile.specs.Narrow.{HasWideMods, HasWideMeets, IsNarrow, IsChain, IsApart};
+ghost use Rattle.policy_compile.specs.Narrow.{HasWideMods, HasWideMeets};
+ghost use Rattle.policy_compile.specs.Apart.{IsNarrowed};
 
+use crate::apart::{has_some_many, push_apart};
 use crate::atoms::{atoms_of, chain_of, sum_of};
-use crate::meets::count_of;
+use crate::meets::{count_of, no_meets};
 use crate::mods::mods_of;
-use crate::sets::has_all;
 use indexmap::IndexSet;
 use net_types::{Cube, Memory};
 use policy_syntax::{Node, Tree};
 use std::alloc::Global;
 
-/// How many meets a part of a policy may have.
-const MOST: usize = 65536;
-
-/// Whether the cubes have too many meets.
-fn has_many(alloc: Global, cubes: &[Cube]) -> Result<bool, Memory>
-    ensures { IfOk result (λ many. IsTrue many ↔ (65536 < length (meets cubes.now))) }
-{
-    let count = count_of(alloc, cubes, MOST)?;
-    Ok(count > MOST)
-}
-
-/// Whether the second part of a chain has too many meets by itself. Those of cubes that are all in the whole are counted there.
-fn is_wide_apart(
-    alloc: Global,
-    whole: &IndexSet<Cube>,
-    part: &IndexSet<Cube>,
-) -> Result<bool, Memory>
-    ensures { IfOk result (λ wide. IsApart wide whole.now.keys part.now.keys) }
-{
-    if has_all(whole, part.as_slice()) {
-        return Ok(false);
-    }
-    has_many(alloc, part.as_slice())
-}
-
-/// The atoms of a sum, where no second part of a chain was too wide.
-fn either(
-    first: Option<IndexSet<Cube>>,
-    second: Option<IndexSet<Cube>>,
-) -> Result<Option<IndexSet<Cube>>, Memory>
-    ensures { IfOk result (λ found. (p q : Policy) → IsNarrow p first → IsNarrow q second → IsNarrow (Both p q) found) }
-{
-    match first {
-        None => Ok(None),
-        Some(first) => match second {
-            None => Ok(None),
-            Some(second) => Ok(Some(sum_of(first, &second)?)),
-        },
-    }
-}
-
-/// The atoms of a chain, unless its second part is too wide by itself.
-fn chain(
+/// The atoms of a policy. Of its parts only the second one of a chain can have more meets than the whole; such parts are noted.
+fn narrow(
     alloc: Global,
     tree: &Tree<'_>,
-    first: IndexSet<Cube>,
-    second: &IndexSet<Cube>,
-) -> Result<Option<IndexSet<Cube>>, Memory>
-    ensures { IfOk result (λ found. IsChain (policy_of tree.now) first.keys second.now.keys found) }
-{
-    let whole = chain_of(alloc, tree, first, second)?;
-    if is_wide_apart(alloc, &whole, second)? {
-        Ok(None)
-    } else {
-        Ok(Some(whole))
-    }
-}
-
-/// The same, where no second part of a chain was too wide.
-fn behind(
-    alloc: Global,
-    tree: &Tree<'_>,
-    first: Option<IndexSet<Cube>>,
-    second: Option<IndexSet<Cube>>,
-) -> Result<Option<IndexSet<Cube>>, Memory>
-    ensures { IfOk result (λ found. (q : Policy) → IsNarrow (policy_of tree.now) first → IsNarrow q second
-        → IsNarrow (Then (policy_of tree.now) q) found) }
-{
-    match first {
-        None => Ok(None),
-        Some(first) => match second {
-            None => Ok(None),
-            Some(second) => {
-                let found = chain(alloc, tree, first, &second)?;
-                Ok(found)
-            }
-        },
-    }
-}
-
-/// The atoms of a policy without parts.
-fn only(alloc: Global, tree: &Tree<'_>) -> Result<Option<IndexSet<Cube>>, Memory>
-    ensures { IfOk result (λ found. parts (policy_of tree.now) ≡ policy_of tree.now ∷ [] → IsNarrow (policy_of tree.now) found) }
-{
-    let cubes = atoms_of(alloc, tree)?;
-    Ok(Some(cubes))
-}
-
-/// The atoms of a policy; none where the second part of a chain has too many meets by itself. No other part can have more than the whole.
-fn narrow(alloc: Global, tree: &Tree<'_>) -> Result<Option<IndexSet<Cube>>, Memory>
-    ensures { IfOk result (λ found. IsNarrow (policy_of tree.now) found) }
+    apart: &mut Vec<IndexSet<Cube>>,
+) -> Result<IndexSet<Cube>, Memory>
+    ensures { IfOk result (λ s. IsNarrowed (policy_of tree.now) apart.old.items apart.new.items s.keys) }
 {
     match tree.node() {
-        Node::Drop => only(alloc, tree),
-        Node::Pass => only(alloc, tree),
-        Node::Block => only(alloc, tree),
-        Node::Fwd(_, _) => only(alloc, tree),
-        Node::Set(_, _) => only(alloc, tree),
-        Node::Test(_) => only(alloc, tree),
-        Node::Both(first, second) => either(narrow(alloc, first)?, narrow(alloc, second)?),
-        Node::Then(first, second) => behind(
-            alloc,
-            first,
-            narrow(alloc, first)?,
-            narrow(alloc, second)?,
-        ),
+        Node::Drop => atoms_of(alloc, tree),
+        Node::Pass => atoms_of(alloc, tree),
+        Node::Block => atoms_of(alloc, tree),
+        Node::Fwd(_, _) => atoms_of(alloc, tree),
+        Node::Set(_, _) => atoms_of(alloc, tree),
+        Node::Test(_) => atoms_of(alloc, tree),
+        Node::Both(first, second) => {
+            let left = narrow(alloc, first, apart)?;
+            let right = narrow(alloc, second, apart)?;
+            let both = sum_of(left, &right)?;
+            Ok(both)
+        }
+        Node::Then(first, second) => {
+            let left = narrow(alloc, first, apart)?;
+            let right = narrow(alloc, second, apart)?;
+            let whole = chain_of(alloc, first, left, &right)?;
+            push_apart(apart, &whole, right)?;
+            Ok(whole)
+        }
     }
 }
 
@@ -158,14 +81,12 @@ fn has_wide_mods(alloc: Global, tree: &Tree<'_>) -> Result<bool, Memory>
 fn has_wide_meets(alloc: Global, tree: &Tree<'_>) -> Result<bool, Memory>
     ensures { IfOk result (λ wide. IsTrue wide ↔ HasWideMeets (policy_of tree.now)) }
 {
-    let found = narrow(alloc, tree)?;
-    match found {
-        None => Ok(true),
-        Some(cubes) => {
-            let wide = has_many(alloc, cubes.as_slice())?;
-            Ok(wide)
-        }
-    }
+    let mut sets = Vec::new(alloc);
+    let whole = narrow(alloc, tree, &mut sets)?;
+    sets.push(whole)?;
+    let nothing = no_meets(alloc)?;
+    let wide = has_some_many(alloc, &nothing, &sets)?;
+    Ok(wide)
 }
 
 /// Whether some part of a policy has more than 65536 meets or more than 1024 different assignments.

@@ -72,6 +72,25 @@ fn just_too_wide_or_just_not(rt: HostRuntime) -> Result<(), Fail> {
             format!(in rt.alloc(); "modify(srcport=1) >> ({FIELDS} + match(srcport=16))")?,
             true,
         ),
+        // So is that of one of two chains, whichever, and that of a chain within another.
+        (
+            format!(in rt.alloc();
+                "modify(srcport=1) >> (match(srcport=2) + pass) + modify(srcport=1) >> ({FIELDS} + match(srcport=16))"
+            )?,
+            true,
+        ),
+        (
+            format!(in rt.alloc();
+                "modify(srcport=1) >> ({FIELDS} + match(srcport=16)) + modify(srcport=1) >> (match(srcport=2) + pass)"
+            )?,
+            true,
+        ),
+        (
+            format!(in rt.alloc();
+                "modify(dstport=1) >> (match(dstport=99) + modify(srcport=1) >> ({FIELDS} + match(srcport=16)))"
+            )?,
+            true,
+        ),
         // So is the first part here.
         (
             format!(in rt.alloc();

@@ -1,10 +1,14 @@
-use Rattle.std.proofs.Common.{length, arith, subst, sym}
+use Rattle.std.proofs.Common.{[], length, sym, subst}
 use Rattle.net_types.specs.Meets.{meets}
-use Rattle.policy_compile.specs.Sets.{IsCount}
-use Rattle.policy_compile.proofs.CountLemmas.{counted_part}
+use Rattle.policy_compile.specs.Sets.{IsUpTo, IsCount}
+use Rattle.policy_compile.proofs.SetsLemmas.{append-nil}
+use Rattle.policy_compile.proofs.CountLemmas.{counted_all}
 use Rattle.policy_compile.proofs.meets.count_of.Goals as goal
 
-pub returns-then-len-limit : goal.returns-then-len-limit
-returns-then-len-limit c =
-    subst (IsCount c.args.limit (length (meets c.args.cubes.now))) (sym c.len-then-len-limit.ensures.len)
-    (counted_part c.args.limit c.loop-left.left c.loop-left.kept.keys c.args.cubes.now c.loop-left.invariant.kept (omega (arith, c.if-len-limit.true, c.len.ensures.len)))
+pub returns : goal.returns
+returns c =
+    let limit = c.args.limit in
+    let cubes = c.args.cubes.now in
+    let keys = c.push_cubes.new.kept.keys in
+    let all = subst (λ xs. IsUpTo limit keys (meets xs)) (append-nil cubes) (c.in_ok-push_cubes.ensures [] c.in_ok-kept.ensures) in
+    subst (IsCount limit (length (meets cubes))) (sym c.len.ensures.len) (counted_all limit keys cubes all)
