@@ -3,7 +3,6 @@ use Rattle.std.proofs.Common.{◌≤◌, Bool, true, false, subst, arith, sum_by
 use Rattle.events.specs.After.{after}
 use Rattle.events.specs.Fits.{FitsBy, IsAccepted, Passes, cells, is_building}
 use Rattle.events.specs.Headline.{AcceptsLines, HasRoom}
-use Rattle.events.specs.Legal.{state_after}
 use Rattle.events.specs.Refusals.{live_pairs}
 use Rattle.events.specs.State.{State}
 use Rattle.events.specs.declared.Event.{Event}
@@ -17,6 +16,4 @@ passed_accepted s e r true room passed = elim passed [
 ]
 
 pub accepts_lines : AcceptsLines
-accepts_lines es rs legal e r none room fits =
-    let s : State = state_after es rs in
-    passed_accepted s e r (is_building e) room (subst (λ o. FitsBy o s e r) none fits)
+accepts_lines s e r none room fits = passed_accepted s e r (is_building e) room (subst (λ o. FitsBy o s e r) none fits)

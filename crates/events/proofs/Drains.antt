@@ -15,7 +15,8 @@ use Rattle.net_types.specs.Exports.{pid_of}
 use Rattle.net_types.specs.Keys.{prefix_cmp}
 use Rattle.net_types.specs.declared.address.Pid.{Pid}
 
-get_set : {A : Type 0} (xs : List A) (k : ℕ) (x d : A) → k < length xs → unwrap_or (slice_get (slice_set xs k x) k) d ≡ x
+-- what was set at a place stands there
+pub get_set : {A : Type 0} (xs : List A) (k : ℕ) (x d : A) → k < length xs → unwrap_or (slice_get (slice_set xs k x) k) d ≡ x
 get_set [] k x d below = absurd (omega arith)
 get_set (y ∷ xs) zero x d below = refl
 get_set (y ∷ xs) (suc k) x d below = get_set xs k x d (omega arith)

@@ -68,12 +68,9 @@ AnswersTold =
 abbrev pub HasRoom : State → Event → Type 0
 HasRoom s e = (ps : Policies) × ArePolicies s ps × (sum_by (cells ps (after s e)) (live_pairs (after s e)) ≤ s.capacity)
 
--- after any legal run, a line that no refusal stops and for which the table has room is accepted
+-- in any state, a line that no refusal stops and for which the table has room is accepted
 abbrev pub AcceptsLines : Type 0
-AcceptsLines =
-    (es : List Event) (rs : List Reply) → Legal es rs → (e : Event) (r : Reply)
-    → refusal (state_after es rs) e ≡ None → HasRoom (state_after es rs) e → Fits (state_after es rs) e r
-    → IsAccepted (state_after es rs) e r
+AcceptsLines = (s : State) (e : Event) (r : Reply) → refusal s e ≡ None → HasRoom s e → Fits s e r → IsAccepted s e r
 
 -- after any legal run, a participant is drained once its session took what was pending
 abbrev pub DrainDrains : Type 0

@@ -1,4 +1,4 @@
-//! What every legal run of lines promises: laws over the definitions, with nothing to run.
+//! What the definitions promise of replies that fit and of legal runs of lines: laws, with nothing to run.
 
 ghost use Rattle.events.specs.Headline.{AcceptsLines, AnswersDrained, AnswersTold, DrainDrains, RunsStaySound};
 
@@ -14,7 +14,7 @@ pub fn told_tags_are_answered()
     ensures { AnswersTold }
 {}
 
-/// A line whose content meets no condition of a refusal, and for which the table has room, is accepted.
+/// In any state, a line whose content meets no condition of a refusal, and for which the table has room, is accepted.
 pub fn lines_are_accepted()
     ensures { AcceptsLines }
 {}

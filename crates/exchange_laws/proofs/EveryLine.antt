@@ -29,6 +29,7 @@ use Rattle.exchange_laws.proofs.Framing.{readdressed, tagged_octets}
 use Rattle.exchange_laws.proofs.FullTables.{accepted_lines_fit, full_tables_are_refused}
 use Rattle.exchange_laws.proofs.OneRuleEach.{steady_have_one_each}
 use Rattle.exchange_laws.proofs.PoolTags.{told_small}
+use Rattle.exchange_laws.proofs.Octets.{no_octets, octets_append, octets_more}
 use Rattle.exchange_laws.proofs.QuietLines.{quiet_lines_are_accepted}
 use Rattle.exchange_laws.proofs.Rerouted.{Rerouted, known, passes, rerouted}
 use Rattle.exchange_laws.proofs.RulesAfter.{defaults_are_tables}
@@ -58,17 +59,6 @@ use Rattle.net_types.specs.declared.prefix.Prefix.{Prefix}
 use Rattle.net_types.specs.declared.route.PortInfo.{PortInfo}
 
 -- ---- octets
-
-octets_more : (x : ℕ) (xs : List ℕ) → x < 256 → AreOctets xs → AreOctets (x ∷ xs)
-octets_more x xs here rest zero = here
-octets_more x xs here rest (suc k) = rest k
-
-octets_append : (xs ys : List ℕ) → AreOctets xs → AreOctets ys → AreOctets (xs ++ ys)
-octets_append [] ys front rest = rest
-octets_append (x ∷ xs) ys front rest = octets_more x (xs ++ ys) (front zero) (octets_append xs ys (λ k. front (suc k)) rest)
-
-no_octets : AreOctets []
-no_octets k = omega arith
 
 no_mac_octets : AreOctets no_mac.0
 no_mac_octets =

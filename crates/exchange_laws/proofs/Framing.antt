@@ -1,11 +1,13 @@
 -- A datagram in a frame: whether it has headers and which destination doesn't depend on the MACs, and a tag can be read from
 -- the frame to its MAC.
 use Rattle.std.proofs.Common.{◌≡◌, ℕ, zero, suc, ◌+◌, ◌*◌, ◌/◌, ◌%◌, ◌<◌, ◌≤◌, Bool, true, false, cond, List, [], ◌∷◌, ◌++◌, length, drop, ap, subst, ◌∙◌, refl, sym, arith}
-use Rattle.std.specs.Prelude.{Some, None, slice_index}
+use Rattle.std.specs.Prelude.{Some, None}
 use Rattle.std.proofs.lemmas.Option.{cond_some}
 use Rattle.events.specs.Fits.{destination, tagged_frame}
 use Rattle.events.specs.Refusals.{is_datagram}
 use Rattle.events.specs.Table.{framed, tag_at}
+use Rattle.exchange_laws.proofs.Octets.{octets_more}
+use Rattle.exchange_laws.specs.Replying.{AreOctets}
 use Rattle.net_types.specs.Frames.{has_headers, headers_of, tag_mac}
 use Rattle.net_types.specs.Octets.{address_at}
 use Rattle.net_types.specs.declared.address.Mac.{Mac}
@@ -91,21 +93,17 @@ tagged_headers q t datagram six_from is =
 
 -- ---- octets
 
-one_more : (x : ℕ) (xs : List ℕ) → x < 256 → ((k : ℕ) → slice_index xs k < 256) → (k : ℕ) → slice_index (x ∷ xs) k < 256
-one_more x xs here rest zero = here
-one_more x xs here rest (suc k) = rest k
-
-left_over : (n : ℕ) (xs : List ℕ) → ((k : ℕ) → slice_index xs k < 256) → (k : ℕ) → slice_index (drop n xs) k < 256
-left_over zero xs all k = all k
-left_over (suc n) [] all k = all k
-left_over (suc n) (x ∷ xs) all k = left_over n xs (λ j. all (suc j)) k
+octets_left : (n : ℕ) (xs : List ℕ) → AreOctets xs → AreOctets (drop n xs)
+octets_left zero xs all k = all k
+octets_left (suc n) [] all k = all k
+octets_left (suc n) (x ∷ xs) all k = octets_left n xs (λ j. all (suc j)) k
 
 -- a frame to a tag's MAC is one of octets
-pub tagged_octets : (t : Tag) (frame : List ℕ) → t.0 ≤ 65536 → ((k : ℕ) → slice_index frame k < 256) → (k : ℕ) → slice_index (tag_mac t ++ drop 6 frame) k < 256
+pub tagged_octets : (t : Tag) (frame : List ℕ) → t.0 ≤ 65536 → AreOctets frame → AreOctets (tag_mac t ++ drop 6 frame)
 tagged_octets t frame small all =
     let rest : List ℕ = drop 6 frame in
     let low : List ℕ = t.0 % 256 ∷ rest in
     let middle : List ℕ = t.0 / 256 % 256 ∷ low in
     let high : List ℕ = t.0 / 65536 ∷ middle in
-    one_more 2 (83 ∷ 68 ∷ high) (omega arith) (one_more 83 (68 ∷ high) (omega arith) (one_more 68 high (omega arith)
-    (one_more (t.0 / 65536) middle (omega arith) (one_more (t.0 / 256 % 256) low (omega arith) (one_more (t.0 % 256) rest (omega arith) (left_over 6 frame all))))))
+    octets_more 2 (83 ∷ 68 ∷ high) (omega arith) (octets_more 83 (68 ∷ high) (omega arith) (octets_more 68 high (omega arith)
+    (octets_more (t.0 / 65536) middle (omega arith) (octets_more (t.0 / 256 % 256) low (omega arith) (octets_more (t.0 % 256) rest (omega arith) (octets_left 6 frame all))))))

@@ -22,6 +22,7 @@ pub mod ListedPairs
 pub mod OneRuleEach
 pub mod FullTables
 pub mod PoolTags
+pub mod Octets
 pub mod Framing
 pub mod Forwarded
 pub mod EveryLine

@@ -4,6 +4,7 @@ use Rattle.std.specs.Prelude.{Some, slice_get, slice_set, unwrap_or}
 use Rattle.std.specs.FinMap.{FinMap, empty}
 use Rattle.std.specs.List.{list_any}
 use Rattle.std.proofs.lemmas.Bool.{eqb-true, false_from_ne_true, or_cases, or_left, or_parts, or_right}
+use Rattle.events.proofs.Drains.{get_set}
 use Rattle.events.proofs.OrderedLemmas.{any_member, member_any, ordered_rises, ordered_same}
 use Rattle.events.specs.State.{State, port_of, present, told_to}
 use Rattle.events.specs.Tags.{is_live, is_live_pair, tells}
@@ -61,11 +62,6 @@ tag_gone told now t was none =
 
 -- ---- a list with another member at a place
 
-get_placed : {A : Type 0} (xs : List A) (k : ℕ) (x d : A) → k < length xs → unwrap_or (slice_get (slice_set xs k x) k) d ≡ x
-get_placed [] k x d below = absurd (omega arith)
-get_placed (y ∷ xs) zero x d below = refl
-get_placed (y ∷ xs) (suc k) x d below = get_placed xs k x d (omega arith)
-
 one_more : (k : ℕ) → k + 1 ≡ suc k
 one_more k = omega arith
 
@@ -104,7 +100,7 @@ module _ (s : State) (who : Pid) (apart : PortsDiffer s.routing.ports) (place : 
   ports = ports_of (registered s) who
 
   told_now : told_to s1 who ≡ present s who
-  told_now = get_placed s.told who.0 (present s who) empty place
+  told_now = get_set s.told who.0 (present s who) empty place
 
   -- ---- the pairs that go
 
