@@ -1,16 +1,10 @@
 -- Items behind an assignment, added to others one by one.
-use Rattle.std.proofs.Common.{◌≡◌, ℕ, ◌+◌, ◌<◌, true, Some, None, List, [], ◌∷◌, ◌++◌, map, length, get_or, drop, append_assoc, refl, inl, inr, sym, ap, ◌∙◌}
-use Rattle.std.specs.Option.{option_map}
-use Rattle.std.proofs.lemmas.List.{at_drop_more}
+use Rattle.std.proofs.Common.{◌≡◌, true, List, [], ◌∷◌, ◌++◌, map, refl, inl, inr, sym, ap, ◌∙◌}
 use Rattle.std.proofs.lemmas.Bool.{cases_Bool}
-use Rattle.net_types.specs.Cubes.{pull_cube}
 use Rattle.net_types.proofs.SetLemmas
-use Rattle.classifier.specs.declared.line.Line.{Line}
-use Rattle.classifier.specs.declared.composition.Behind.{Behind}
 use Rattle.classifier.specs.declared.join.Join.TheVariants.{Union}
 use Rattle.classifier.specs.Items.{Item, is_among, add, add_all}
-use Rattle.classifier.specs.Behind.{behind_line}
-use Rattle.classifier.specs.Lines.{joined, line, cons_line, after, after_all, pulled}
+use Rattle.classifier.specs.Lines.{joined, after, after_all}
 use Rattle.classifier.proofs.ItemLemmas.{among-member, member-among}
 use Rattle.classifier.proofs.DecideLemmas.{same_add_all}
 
@@ -36,24 +30,3 @@ add_all-twice xs ys (z ∷ zs) = add_all-twice xs (add ys z) zs ∙ ap (λ ws. a
 -- items behind an assignment are added one by one as they are added together
 pub add_all_after : (first : Item) (xs items : List Item) → add_all xs (map (after first) items) ≡ joined Union xs (after_all first items)
 add_all_after first xs items = sym (add_all-twice xs [] (map (after first) items))
-
--- ---- rules behind an assignment
-
-module _ (first : Item) (ys : List Line) (i : ℕ) (y : Line) (lt : i < length ys) (at : y ≡ get_or ys i y) where
-  pulled_at : pulled first (drop i ys) ≡ pulled first (y ∷ drop (i + 1) ys)
-  pulled_at = at_drop_more (pulled first) ys i y lt ∙ ap (λ z. pulled first (z ∷ drop (i + 1) ys)) (sym at)
-
-  -- where there is no cube behind it, the rule is left out
-  pub pulled_skipped : pull_cube y.cube first.0 ≡ None → pulled first (drop (i + 1) ys) ≡ pulled first (drop i ys)
-  pulled_skipped e = sym (pulled_at ∙ ap (λ o. cons_line (option_map (line (after_all first y.results)) o) (pulled first (drop (i + 1) ys))) e)
-
-  -- where there is one, the rule with it is next
-  pub pulled_next : (kept : List Behind) (next : Behind) → pull_cube y.cube first.0 ≡ Some next.cube → next.results.now ≡ y.results → map (behind_line first) (kept ++ next ∷ []) ++ pulled first (drop (i + 1) ys) ≡ map (behind_line first) kept ++ pulled first (drop i ys)
-  pulled_next kept next e same =
-      let rest = pulled first (drop (i + 1) ys) in
-      let made : line (after_all first next.results.now) next.cube ∷ rest ≡ pulled first (drop i ys) =
-      ap (λ items. line (after_all first items) next.cube ∷ rest) same
-      ∙ sym (pulled_at ∙ ap (λ o. cons_line (option_map (line (after_all first y.results)) o) rest) e) in
-      ap (λ xs. xs ++ rest) (SetLemmas.map-append (behind_line first) kept (next ∷ []))
-      ∙ append_assoc (map (behind_line first) kept) (behind_line first next ∷ []) rest
-      ∙ ap (λ xs. map (behind_line first) kept ++ xs) made

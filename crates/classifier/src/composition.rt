@@ -1,41 +1,27 @@
 //! One list of rules after another.
 
-ghost use Rattle.std.specs.Prelude.{◌≡◌, IfOk, OnOk, [], ◌∷◌, map};
-ghost use Rattle.classifier.specs.Behind.{behind_line};
+ghost use Rattle.std.specs.Prelude.{◌≡◌, IfOk, OnOk, [], ◌∷◌};
+ghost use Rattle.classifier.specs.Behind.{meet_behind};
 ghost use Rattle.classifier.specs.Lines.{add_line, add_lines, joined, row, product, pulled, block, composed, after_all, line};
+ghost use Rattle.classifier.specs.Runs.{lines_in};
 ghost use Rattle.classifier.specs.Seen.{Agrees};
 
 use crate::join::Join;
 use crate::line::Line;
 use crate::results::Results;
+use crate::run::Run;
+use crate::runs::runs_of;
 use crate::seen::{is_hidden, push_line, push_reached};
 use net_types::{Assign, Cube, Loc, Memory, TryCopy};
 use std::alloc::Global;
 use std::collections::HashSet;
 
-/// A rule behind an assignment: its cube before the assignment, and what it gives after it.
-#[derive(Clone, Copy)]
-pub struct Behind<'a> {
-    pub cube: Cube,
-    pub results: &'a [(Assign, Loc)],
-}
-
-/// The rules behind an assignment, whose results aren't made yet.
-fn pulled_lines<'a>(
-    alloc: Global,
-    first: (Assign, Loc),
-    ys: &'a [Line],
-) -> Result<Vec<Behind<'a>>, Memory>
-    ensures { IfOk result (λ v. map (behind_line first) v.items ≡ pulled first ys.now) }
+/// The cube of the headers that lie in one cube and that an assignment takes into another; none where none do.
+fn meet_behind(a: &Cube, b: &Cube, set: &Assign) -> Option<Cube>
+    ensures { result ≡ meet_behind a.now b.now set.now }
 {
-    let mut lines = Vec::new(alloc);
-    for y in ys {
-        if let Some(cube) = cube::pull(&y.cube, &first.0) {
-            let results = y.results.items();
-            lines.push(Behind { cube, results })?;
-        }
-    }
-    Ok(lines)
+    let before = cube::pull(b, set)?;
+    cube::meet(a, &before)
 }
 
 /// The results of a rule and, behind an assignment, those of another.
@@ -74,42 +60,61 @@ fn push_behind(
     Ok(())
 }
 
-/// Adds a rule joined with each of those behind an assignment.
+/// Adds a rule joined with each of a run behind an assignment.
 fn push_row_behind(
     lines: &mut Vec<Line>,
     seen: &mut HashSet<Cube>,
     x: &Line,
     first: (Assign, Loc),
-    behind: &[Behind<'_>],
+    ys: &[Line],
 ) -> Result<(), Memory>
     requires { Agrees lines.old.items seen.old }
-    ensures lines { OnOk result (lines.new.items ≡ add_lines lines.old.items (row Join.Union x.now (map (behind_line first) behind.now))) }
+    ensures lines { OnOk result (lines.new.items ≡ add_lines lines.old.items (row Join.Union x.now (pulled first ys.now))) }
     ensures agrees { OnOk result (Agrees lines.new.items seen.new) }
 {
-    for y in behind {
-        if let Some(cube) = cube::meet(&x.cube, &y.cube) {
-            push_behind(lines, seen, cube, x, first, y.results)?;
+    for y in ys {
+        if let Some(cube) = meet_behind(&x.cube, &y.cube, &first.0) {
+            push_behind(lines, seen, cube, x, first, y.results.items())?;
         }
     }
     Ok(())
 }
 
-/// Adds each of some rules joined with each of a list behind an assignment.
+/// Adds a rule joined with each of the runs behind an assignment. A run is passed over where its cube tells that none of its
+/// rules has headers in common with this one.
+fn push_rows_behind(
+    lines: &mut Vec<Line>,
+    seen: &mut HashSet<Cube>,
+    x: &Line,
+    first: (Assign, Loc),
+    runs: &[Run<'_>],
+) -> Result<(), Memory>
+    requires { Agrees lines.old.items seen.old }
+    ensures lines { OnOk result (lines.new.items ≡ add_lines lines.old.items (row Join.Union x.now (pulled first (lines_in runs.now)))) }
+    ensures agrees { OnOk result (Agrees lines.new.items seen.new) }
+{
+    for run in runs {
+        if meet_behind(&x.cube, &run.hull, &first.0).is_some() {
+            push_row_behind(lines, seen, x, first, run.lines)?;
+        }
+    }
+    Ok(())
+}
+
+/// Adds each of some rules joined with each of the runs behind an assignment.
 fn push_product_behind(
-    alloc: Global,
     lines: &mut Vec<Line>,
     seen: &mut HashSet<Cube>,
     xs: &[Line],
     first: (Assign, Loc),
-    ys: &[Line],
+    runs: &[Run<'_>],
 ) -> Result<(), Memory>
     requires { Agrees lines.old.items seen.old }
-    ensures lines { OnOk result (lines.new.items ≡ add_lines lines.old.items (product Join.Union xs.now (pulled first ys.now))) }
+    ensures lines { OnOk result (lines.new.items ≡ add_lines lines.old.items (product Join.Union xs.now (pulled first (lines_in runs.now)))) }
     ensures agrees { OnOk result (Agrees lines.new.items seen.new) }
 {
-    let behind = pulled_lines(alloc, first, ys)?;
     for x in xs {
-        push_row_behind(lines, seen, x, first, &behind)?;
+        push_rows_behind(lines, seen, x, first, runs)?;
     }
     Ok(())
 }
@@ -119,9 +124,9 @@ fn block_of(
     alloc: Global,
     cube: Cube,
     results: &[(Assign, Loc)],
-    ys: &[Line],
+    runs: &[Run<'_>],
 ) -> Result<Vec<Line>, Memory>
-    ensures { IfOk result (λ v. v.items ≡ block (line [] cube ∷ []) results.now ys.now) }
+    ensures { IfOk result (λ v. v.items ≡ block (line [] cube ∷ []) results.now (lines_in runs.now)) }
 {
     let nothing = Results::new(alloc);
     let mut lines = vec![in alloc;
@@ -133,7 +138,7 @@ fn block_of(
     for pair in results {
         let mut joined = Vec::new(alloc);
         let mut seen = HashSet::new(alloc);
-        push_product_behind(alloc, &mut joined, &mut seen, &lines, *pair, ys)?;
+        push_product_behind(&mut joined, &mut seen, &lines, *pair, runs)?;
         lines = joined;
     }
     Ok(lines)
@@ -146,10 +151,10 @@ fn push_block(
     lines: &mut Vec<Line>,
     seen: &mut HashSet<Cube>,
     x: &Line,
-    ys: &[Line],
+    runs: &[Run<'_>],
 ) -> Result<(), Memory>
     requires { Agrees lines.old.items seen.old }
-    ensures lines { OnOk result (lines.new.items ≡ add_lines lines.old.items (block (line [] x.now.cube ∷ []) x.now.results ys.now)) }
+    ensures lines { OnOk result (lines.new.items ≡ add_lines lines.old.items (block (line [] x.now.cube ∷ []) x.now.results (lines_in runs.now))) }
     ensures agrees { OnOk result (Agrees lines.new.items seen.new) }
 {
     match x.results.items().split_last() {
@@ -165,8 +170,8 @@ fn push_block(
             )
         }
         Some((last, others)) => {
-            let within = block_of(alloc, x.cube, others, ys)?;
-            push_product_behind(alloc, lines, seen, &within, *last, ys)
+            let within = block_of(alloc, x.cube, others, runs)?;
+            push_product_behind(lines, seen, &within, *last, runs)
         }
     }
 }
@@ -175,10 +180,11 @@ fn push_block(
 pub fn composition_of(alloc: Global, xs: &[Line], ys: &[Line]) -> Result<Vec<Line>, Memory>
     ensures { IfOk result (λ v. v.items ≡ add_lines [] (composed xs.now ys.now)) }
 {
+    let runs = runs_of(alloc, ys)?;
     let mut lines = Vec::new(alloc);
     let mut seen = HashSet::new(alloc);
     for x in xs {
-        push_block(alloc, &mut lines, &mut seen, x, ys)?;
+        push_block(alloc, &mut lines, &mut seen, x, &runs)?;
     }
     Ok(lines)
 }

@@ -4,11 +4,14 @@
 mod classifier;
 mod composition;
 mod filters;
+mod hull;
 mod join;
 mod line;
 mod ops;
 mod product;
 mod results;
+mod run;
+mod runs;
 mod seen;
 #[cfg(test)]
 mod tests;

@@ -76,6 +76,7 @@ fn pass_with_pass_is_pass(rt: HostRuntime) -> Result<(), Fail> {
         choose(rt.alloc(), &pass, &pass)?,
     ];
     for policy in &made {
+        assert!(rt; policy.lines().len() == 1);
         let tight = tighten(rt.alloc(), policy)?;
         assert!(rt; tight.lines().len() == 1);
         assert!(rt;
@@ -121,5 +122,34 @@ fn prefixes_apart_have_nothing_in_common(rt: HostRuntime) -> Result<(), Fail> {
     for octet in [9, 10, 11] {
         assert!(rt; gives(&both, &headers(octet, None), None));
     }
+    Ok(())
+}
+
+/// The packet as it is at the ports from 1 to this one.
+fn up_to_port(alloc: Global, last: u16) -> Result<Classifier, Memory> {
+    let mut all = single(alloc, Results::new(alloc))?;
+    for port in 1..=last {
+        let one = test(alloc, &to_port(port))?;
+        all = parallel(alloc, &all, &one)?;
+    }
+    Ok(all)
+}
+
+#[test]
+fn many_rules_are_joined(rt: HostRuntime) -> Result<(), Fail> {
+    let many = up_to_port(rt.alloc(), 130)?;
+    let ten = test(rt.alloc(), &from_octet(10))?;
+    let both = sequence(rt.alloc(), &ten, &many)?;
+    let again = tighten(rt.alloc(), &sequence(rt.alloc(), &many, &both)?)?;
+    assert!(rt; many.lines().len() == 131);
+    assert!(rt; again.lines().len() == 261);
+    let pass = Some((Assign::none(), Loc::Stay));
+    for (port, wanted) in [(1, pass), (64, pass), (65, pass), (130, pass), (131, None)] {
+        let h = headers(10, Some(port));
+        assert!(rt; gives(&many, &h, wanted));
+        assert!(rt; gives(&both, &h, wanted));
+        assert!(rt; gives(&again, &h, wanted));
+    }
+    assert!(rt; gives(&again, &headers(11, Some(64)), None));
     Ok(())
 }

@@ -2,13 +2,14 @@ use Rattle.std.proofs.Common.{◌≡◌, OnOk, List, [], ◌∷◌, ◌++◌, sy
 use Rattle.classifier.specs.declared.line.Line.{Line}
 use Rattle.classifier.specs.declared.join.Join.TheVariants.{Union}
 use Rattle.classifier.specs.Lines.{add_lines, product, pulled, block, line}
+use Rattle.classifier.specs.Runs.{lines_in}
 use Rattle.classifier.proofs.BlockLemmas.{block_added}
 use Rattle.classifier.proofs.composition.push_block.Goals as goal
 
 pub returns-in_ok-within-in-Some-clause-lines : goal.returns-in_ok-within-in-Some-clause-lines
 returns-in_ok-within-in-Some-clause-lines c =
     let kept = c.args.lines.now.items in
-    let ys = c.args.ys.now in
+    let ys = lines_in c.args.runs.now in
     let alone = line [] c.args.x.now.cube ∷ [] in
     let last = c.in-Some.last.now in
     let others = c.in-Some.others.now in

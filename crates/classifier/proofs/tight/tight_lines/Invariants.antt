@@ -1,7 +1,8 @@
-use Rattle.std.proofs.Common.{◌≡◌, [], drop}
+use Rattle.std.proofs.Common.{◌≡◌, [], take}
 use Rattle.classifier.specs.Lines.{tightened}
+use Rattle.classifier.specs.Runs.{lines_in}
 use Rattle.classifier.proofs.tight.tight_lines.Given as goal
 
--- what is left makes the whole
-abbrev pub invariant-loop-x : goal.invariant-loop-x
-invariant-loop-x l = tightened l.lines.items (drop l.x-index l.xs) ≡ tightened [] l.xs
+-- the rules of the runs before the place are kept, where none before them holds them
+abbrev pub invariant-loop-place : goal.invariant-loop-place
+invariant-loop-place l = l.lines.items ≡ tightened [] (lines_in (take l.place l.runs.items))

@@ -1,0 +1,26 @@
+//! Rules in runs: a cube that holds those of a run tells at once where none of its rules matters.
+
+ghost use Rattle.std.specs.Prelude.{◌≡◌, IfOk};
+ghost use Rattle.classifier.specs.Runs.{lines_in};
+
+use crate::line::Line;
+use crate::run::Run;
+use net_types::Memory;
+use std::alloc::Global;
+
+/// How many rules a run has: so many that looking at the runs is little work beside looking at the rules.
+const LENGTH: usize = 64;
+
+/// The rules in runs.
+pub fn runs_of<'a>(alloc: Global, lines: &'a [Line]) -> Result<Vec<Run<'a>>, Memory>
+    ensures { IfOk result (λ v. lines_in v.items ≡ lines.now) }
+{
+    let mut runs = Vec::new(alloc);
+    let mut left = lines;
+    while !left.is_empty() {
+        let (run, others) = left.split_at(left.len().min(LENGTH));
+        runs.push(Run::new(run))?;
+        left = others;
+    }
+    Ok(runs)
+}
