@@ -17,6 +17,8 @@ mod rows;
 mod rules;
 mod server;
 mod signature;
+#[cfg(test)]
+mod tests;
 mod update;
 
 pub use fault::RouteFault;
