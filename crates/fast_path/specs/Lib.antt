@@ -3,3 +3,4 @@ pub mod Shown
 pub mod Committing
 pub mod Plans
 pub mod Planned
+pub mod Carried

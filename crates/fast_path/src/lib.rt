@@ -2,6 +2,7 @@
 //! taking memory.
 #![tactic(auto)]
 
+mod carried;
 mod committing;
 mod grouping;
 mod parts;
@@ -9,6 +10,7 @@ mod planned;
 mod planning;
 mod tagging;
 
+pub use carried::plans_are_committed;
 pub use committing::{commit, reserve};
 pub use parts::{forget_all, give_all, remove_all};
 pub use planned::{Changes, FastFault, Plan};
