@@ -1,4 +1,4 @@
-//! Rows of the calls: what updates of three participants touch, and what is true afterwards.
+//! What updates of three participants touch, and what is true afterwards.
 
 mod exchange;
 mod said;
