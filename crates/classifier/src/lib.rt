@@ -18,6 +18,9 @@ mod tests;
 mod tight;
 
 pub use classifier::Classifier;
+pub use join::Join;
 pub use line::{Line, Lines};
 pub use ops::{choose, negate, parallel, sequence, single, test, tighten};
+pub use product::product_of;
 pub use results::Results;
+pub use seen::push_lines;

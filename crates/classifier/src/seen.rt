@@ -3,7 +3,7 @@
 ghost use Rattle.std.specs.Prelude.{◌≡◌, ◌||◌, false, OnOk};
 ghost use Rattle.std.specs.HashSet.{contains};
 ghost use Rattle.net_types.specs.Cubes.{everything};
-ghost use Rattle.classifier.specs.Lines.{add_line, line, joined};
+ghost use Rattle.classifier.specs.Lines.{add_line, add_lines, line, joined};
 ghost use Rattle.classifier.specs.Seen.{Agrees, cube_eq};
 
 use crate::join::{Join, join_results};
@@ -42,6 +42,23 @@ pub fn push_line(lines: &mut Vec<Line>, seen: &mut HashSet<Cube>, next: Line) ->
 {
     if !is_hidden(seen, &next.cube) {
         push_reached(lines, seen, next)?;
+    }
+    Ok(())
+}
+
+/// Puts rules last in their order, each where it can be reached.
+#[tactic(auto, using(crate::proofs::AddLemmas::add_lines_append))]
+pub fn push_lines(
+    lines: &mut Vec<Line>,
+    seen: &mut HashSet<Cube>,
+    others: Vec<Line>,
+) -> Result<(), Memory>
+    requires { Agrees lines.old.items seen.old }
+    ensures lines { OnOk result (lines.new.items ≡ add_lines lines.old.items others.items) }
+    ensures agrees { OnOk result (Agrees lines.new.items seen.new) }
+{
+    for next in others {
+        push_line(lines, seen, next)?;
     }
     Ok(())
 }
