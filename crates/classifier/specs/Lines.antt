@@ -1,4 +1,4 @@
--- The lists of rules that the operations make, as their loops do.
+-- The lists of rules that the operations make.
 use Rattle.std.specs.Prelude.{Bool, false, ◌&&◌, ◌||◌, Option, Some, None, List, [], ◌∷◌, ◌++◌, map, if◌then◌else◌}
 use Rattle.std.specs.Option.{option_map}
 use Rattle.net_types.specs.declared.cube.Cube.{Cube}

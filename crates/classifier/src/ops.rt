@@ -79,8 +79,8 @@ pub fn sequence(alloc: Global, a: &Classifier, b: &Classifier) -> Result<Classif
     Ok(chained)
 }
 
-/// The rules without those whose cube lies within an earlier one's. Each is looked for in the cubes of the runs of 64 rules
-/// before it, and in the rules of those runs alone whose cube holds it.
+/// The rules without those whose cube lies within an earlier one's. Runs of 64 rules are passed over for a rule that the
+/// cube which holds the run doesn't hold.
 pub fn tighten(alloc: Global, a: &Classifier) -> Result<Classifier, Memory>
     ensures same { IfOk result (λ c. (h : AnyHeaders) (l : AnyLoc) → meaning c h l ≡ meaning a.now h l) }
     ensures tight { IfOk result (λ c. IsTight (lines_of c)) }

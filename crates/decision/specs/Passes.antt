@@ -35,12 +35,15 @@ numbered i (x ∷ xs) = (i, x) ∷ numbered (i + 1) xs
 abbrev pub best_place : List Candidate → Option ℕ
 best_place cs = option_map (λ (p : ℕ × Candidate). p.0) (best_by (λ p. p.1) (numbered 0 cs))
 
+-- fewer hops, or as many and a lower ORIGIN
 abbrev pub is_ahead : Candidate → Candidate → Bool
 is_ahead a b = nat_lt a.hops b.hops || (nat_eq a.hops b.hops && nat_lt a.origin b.origin)
 
+-- as many hops, and the same ORIGIN
 abbrev pub is_even : Candidate → Candidate → Bool
 is_even a b = nat_eq a.hops b.hops && nat_eq a.origin b.origin
 
+-- a lower identifier, or the same and a lower peer address
 abbrev pub precedes : Candidate → Candidate → Bool
 precedes a b = nat_lt a.id.0 b.id.0 || (nat_eq a.id.0 b.id.0 && nat_lt a.peer.0 b.peer.0)
 
@@ -49,10 +52,12 @@ abbrev pub lead_of : Candidate → List Candidate → Candidate
 lead_of w [] = w
 lead_of w (c ∷ cs) = lead_of (if is_ahead c w then c else w) cs
 
+-- nothing leads yet, or this precedes what does
 abbrev pub would_lead : Candidate → Option Candidate → Bool
 would_lead c None = true
 would_lead c (Some w) = precedes c w
 
+-- even with the lead, and none that is even with it beats this one
 abbrev pub is_kept : Candidate → List Candidate → Candidate → Bool
 is_kept lead cs c = is_even c lead && not (list_any (λ d. is_even d lead && beats d c) cs)
 

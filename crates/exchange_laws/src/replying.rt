@@ -2,7 +2,7 @@
 
 ghost use Rattle.exchange_laws.specs.Replying.{LinesHaveReplies, RunsGoOn};
 
-/// In a steady state some reply to each line fits.
+/// In a steady state whose ports have MACs, some reply fits each line that can be written.
 pub fn lines_have_replies()
     ensures { LinesHaveReplies }
 {}

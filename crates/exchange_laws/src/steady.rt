@@ -7,12 +7,12 @@ pub fn starts_steady()
     ensures { StartsSteady }
 {}
 
-/// Any line with a reply that fits leaves a steady state steady.
+/// Any line that can be written, with a reply that fits, leaves a steady state steady.
 pub fn steps_stay_steady()
     ensures { StepsStaySteady }
 {}
 
-/// The state after any legal run is steady.
+/// The state after any legal run of such lines is steady.
 pub fn runs_stay_steady()
     ensures { RunsStaySteady }
 {}

@@ -60,6 +60,7 @@ tags_with m cs = changed m (map change_of cs)
 abbrev pub HasKept : FinMap tag_cmp (List Part) → TagChange → Type 0
 HasKept kept c = IfSome c.tag (λ t. IsTrue (is_some (get kept t)))
 
+-- so is that of each change
 abbrev pub HaveKept : FinMap tag_cmp (List Part) → List TagChange → Type 0
 HaveKept kept cs = (c : TagChange) → Member c cs → HasKept kept c
 

@@ -28,8 +28,8 @@ fn was_told(told: &[Told], who: Pid, tag: Tag) -> bool
     }
 }
 
-/// Puts the tag at each of the ports.
-fn push_pairs(ports: &[PortNo], tag: Tag, pairs: &mut Vec<Pair>) -> Result<(), Memory>
+/// Puts the pair of each of the ports with the tag last, in their order. Memory is the only refusal.
+pub fn push_pairs(ports: &[PortNo], tag: Tag, pairs: &mut Vec<Pair>) -> Result<(), Memory>
     ensures { OnOk result (pairs.new.items ≡ pairs.old.items ++ map (pair_at tag) ports.now) }
 {
     for &port in ports {

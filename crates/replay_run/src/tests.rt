@@ -6,6 +6,7 @@ mod routes;
 
 use crate::{Failed, Sink, SinkFault, SinkOf, SinkOk, Source, SourceOf, SourceOk, Status, run};
 use inputs::{
+    ARP_INPUT, ARP_OUTPUT,
     FIRST_INPUT, FIRST_OUTPUT, NOT_DRAINED_INPUT, NOT_DRAINED_OUTPUT, REFUSALS_INPUT,
     REFUSALS_OUTPUT, TWO_PREFIXES_INPUT, TWO_PREFIXES_OUTPUT,
 };
@@ -301,7 +302,7 @@ fn long_cases<'c>(longest: &'c [u8], longer: &'c [u8], far_longer: &'c [u8]) -> 
     ]
 }
 
-fn exchange_cases<'c>() -> [Case<'c>; 4] {
+fn exchange_cases<'c>() -> [Case<'c>; 5] {
     [
         replays(
             "an announcement, a drain and a packet",
@@ -326,6 +327,12 @@ fn exchange_cases<'c>() -> [Case<'c>; 4] {
             NOT_DRAINED_INPUT.as_bytes(),
             Status::Done,
             NOT_DRAINED_OUTPUT,
+        ),
+        replays(
+            "requests for addresses, and frames",
+            ARP_INPUT.as_bytes(),
+            Status::Refused,
+            ARP_OUTPUT,
         ),
     ]
 }

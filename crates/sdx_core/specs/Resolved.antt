@@ -45,7 +45,3 @@ address_of base t = record { 0 = base.0 + t.0 }
 -- the addresses of tags that aren't among those known
 abbrev pub missing_hops : Ip → List Ip → List Tag → List Ip
 missing_hops base known tags = filter (λ ip. not (list_any (same_ip ip) known)) (map (address_of base) tags)
-
--- the addresses that a router learns of a request: the one asked for, where it asked with its own MAC
-abbrev pub learned : Mac → ArpRequest → List Ip
-learned router r = if same_octets r.mac.0 router.0 then r.target ∷ [] else []

@@ -1,13 +1,12 @@
 //! What a participant is told anew, and the pairs and tags that go with what it was told.
 
-ghost use Rattle.std.specs.Prelude.{◌≡◌, ◌<◌, ◌++◌, IfOk, OnOk, length, map, filter};
-ghost use Rattle.live_pairs.specs.Pairs.{pair_at};
+ghost use Rattle.std.specs.Prelude.{◌≡◌, ◌<◌, IfOk, length, map, filter};
 ghost use Rattle.net_types.specs.Sets.{union_over};
 ghost use Rattle.sdx_core.specs.Taking.{all_pairs, dead_tags, entries_at, has_none, pairs_at};
 
 use advert_queue::Told;
 use events::Entry;
-use live_pairs::{ascending_pairs, untold};
+use live_pairs::{ascending_pairs, push_pairs, untold};
 use net_types::{Attrs, Memory, Pair, PortNo, Prefix, Tag, TryCopy};
 use prefix_classes::ClassMap;
 use std::alloc::Global;
@@ -28,16 +27,6 @@ pub fn entries_of(
         }
     }
     Ok(entries)
-}
-
-/// Puts the tag at each of the ports.
-fn push_pairs(ports: &[PortNo], tag: Tag, pairs: &mut Vec<Pair>) -> Result<(), Memory>
-    ensures { OnOk result (pairs.new.items ≡ pairs.old.items ++ map (pair_at tag) ports.now) }
-{
-    for &port in ports {
-        pairs.push(Pair { port, tag })?;
-    }
-    Ok(())
 }
 
 /// Each of the tags at each of the ports.
