@@ -6,9 +6,8 @@ mod routes;
 
 use crate::{Failed, Sink, SinkFault, SinkOf, SinkOk, Source, SourceOf, SourceOk, Status, run};
 use inputs::{
-    ARP_INPUT, ARP_OUTPUT,
-    FIRST_INPUT, FIRST_OUTPUT, NOT_DRAINED_INPUT, NOT_DRAINED_OUTPUT, REFUSALS_INPUT,
-    REFUSALS_OUTPUT, TWO_PREFIXES_INPUT, TWO_PREFIXES_OUTPUT,
+    ARP_INPUT, ARP_OUTPUT, FIRST_INPUT, FIRST_OUTPUT, NOT_DRAINED_INPUT, NOT_DRAINED_OUTPUT,
+    REFUSALS_INPUT, REFUSALS_OUTPUT, TWO_PREFIXES_INPUT, TWO_PREFIXES_OUTPUT,
 };
 use net_types::{Items, Memory, Steps, Text, Words};
 use routes::{

@@ -1,5 +1,5 @@
 -- Which addresses a router has resolved, which it has still to resolve, and what the responder answers (RFC 826).
-use Rattle.std.specs.Prelude.{ℕ, ◌+◌, ◌-◌, Bool, ◌&&◌, not, List, [], ◌∷◌, map, filter, Option, Some, None, if◌then◌else◌}
+use Rattle.std.specs.Prelude.{ℕ, ◌+◌, ◌-◌, Bool, ◌&&◌, not, List, map, filter, Option, Some, None, if◌then◌else◌}
 use Rattle.std.specs.List.{list_any}
 use Rattle.std.specs.Ordering.{is_lt}
 use Rattle.arp_frame.specs.declared.read.ArpRequest.{ArpRequest}
@@ -8,7 +8,6 @@ use Rattle.net_types.specs.Arp.{arp_reply, arp_request, asked_ip, asker_ip, aske
 use Rattle.net_types.specs.Attributes.{same_ip}
 use Rattle.net_types.specs.Frames.{tag_mac}
 use Rattle.net_types.specs.Keys.{ip_cmp}
-use Rattle.net_types.specs.Octets.{same_octets}
 use Rattle.net_types.specs.declared.address.Ip.{Ip}
 use Rattle.net_types.specs.declared.address.Mac.{Mac}
 use Rattle.net_types.specs.declared.address.Tag.{Tag}
