@@ -1,4 +1,4 @@
-//! What updates of three participants touch, and what is true afterwards.
+//! What lines of three participants touch, and what is true afterwards.
 
 mod exchange;
 mod said;

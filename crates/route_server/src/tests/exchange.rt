@@ -191,7 +191,7 @@ fn down_in(alloc: Global, names: &Registry, of_b: Route) -> Result<String, Fail>
     Ok(proposed(alloc, &proposal)?)
 }
 
-/// What it would touch that B's route for 10.0.0.0/8 goes with B, and the signature then.
+/// What is touched where B, with a route for 10.0.0.0/8, is down, and the signature then.
 pub fn down(alloc: Global, of_b: Route) -> Result<String, Fail> {
     let names = three(alloc)?;
     down_in(alloc, &names, of_b)
@@ -216,7 +216,7 @@ fn closed_in(alloc: Global, names: &Registry, of_b: Route) -> Result<String, Fai
     Ok(proposed(alloc, &proposal)?)
 }
 
-/// What it would touch that B, with a route for 10.0.0.0/8, gives nothing to anybody, and the signature then.
+/// What is touched where B, with a route for 10.0.0.0/8, gives nothing to anybody, and the signature then.
 pub fn closed(alloc: Global, of_b: Route) -> Result<String, Fail> {
     let names = three(alloc)?;
     closed_in(alloc, &names, of_b)
