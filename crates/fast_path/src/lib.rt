@@ -9,6 +9,8 @@ mod parts;
 mod planned;
 mod planning;
 mod tagging;
+#[cfg(test)]
+mod tests;
 
 pub use carried::plans_are_committed;
 pub use committing::{commit, reserve};
