@@ -3,12 +3,22 @@
 ghost use Rattle.std.specs.Prelude.{◌≡◌, length, IfOk};
 
 use crate::{RegFault, Registry};
-use net_types::{Ip, Mac, Pid, PortNo};
+use net_types::{Ip, Mac, Pid, PortInfo, PortNo};
 use std::alloc::Global;
 use std::test::Fail;
 
 fn mac(last: u8) -> Mac {
     Mac([2, 0, 0, 0, 0, last])
+}
+
+// A router's addresses end in its port's number.
+fn port(owner: u32, number: u8) -> PortInfo {
+    PortInfo {
+        owner: Pid(owner),
+        number: PortNo(u16::from(number)),
+        ip: Ip(u32::from_be_bytes([172, 16, 1, number])),
+        mac: mac(number),
+    }
 }
 
 fn three(alloc: Global) -> Result<Registry, RegFault>
@@ -60,5 +70,51 @@ fn what_is_declared_is_taken(rt: HostRuntime) -> Result<(), Fail> {
     let port = names.add_port(Pid(0), PortNo(4), Ip(9), mac(9));
     assert!(rt; port == Err(RegFault::Taken));
     assert!(rt; names.add_participant("B", 1, Ip(1)) == Err(RegFault::Taken));
+    Ok(())
+}
+
+#[test]
+fn participants_get_their_places(rt: HostRuntime) -> Result<(), Fail> {
+    let mut names = Registry::new(rt.alloc());
+    let rows = [
+        ("A", 65001, Ip(0x01000001), Pid(0)),
+        ("B", 65002, Ip(0x01000002), Pid(1)),
+        ("C", 65003, Ip(0x01000003), Pid(2)),
+    ];
+    for (name, asn, id, who) in rows {
+        let answer = names.add_participant(name, asn, id);
+        assert!(rt; answer == Ok(who), "{name}");
+    }
+    assert!(rt; names.participants().len() == 3);
+    assert!(rt; names.ports().is_empty());
+    Ok(())
+}
+
+#[test]
+fn ports_are_declared_in_order(rt: HostRuntime) -> Result<(), Fail> {
+    let mut names = Registry::new(rt.alloc());
+    for name in ["A", "B", "C"] {
+        assert!(rt; names.add_participant(name, 65001, Ip(1)).is_ok());
+    }
+    let rows = [port(0, 1), port(1, 2), port(1, 3), port(2, 4)];
+    for row in rows {
+        assert!(rt; (row.owner.0 as usize) < names.participants().len());
+        let answer = names.add_port(row.owner, row.number, row.ip, row.mac);
+        assert!(rt; answer == Ok(()));
+    }
+    assert!(rt; names.ports() == rows.as_slice());
+    Ok(())
+}
+
+#[test]
+fn there_are_256_participants_at_most(rt: HostRuntime) -> Result<(), Fail> {
+    let mut names = Registry::new(rt.alloc());
+    for place in 0..256 {
+        let answer = names.add_octets(&[place as u8], 65001, Ip(1));
+        assert!(rt; answer == Ok(Pid(place)));
+    }
+    assert!(rt; names.add_participant("AB", 65001, Ip(1)) == Err(RegFault::Full));
+    assert!(rt; names.add_participant("A", 65001, Ip(1)) == Err(RegFault::Taken));
+    assert!(rt; names.participants().len() == 256);
     Ok(())
 }
