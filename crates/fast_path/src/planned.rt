@@ -1,7 +1,7 @@
 //! What a change of routes does.
 
 use events::{Flows, TagChanges};
-use net_types::{Items, Memory, Pair, Pairs, Rule, Sig, Tag};
+use net_types::{Items, Pair, Pairs, Rule, Sig, Tag};
 
 /// What a change of routes does to tags and rules. It changes nothing until it is committed.
 #[derive(Drop)]
@@ -36,10 +36,4 @@ pub enum FastFault {
     /// The table would have more rules than it has room for.
     TableFull { rules: usize, capacity: usize },
     Memory,
-}
-
-impl From<Memory> for FastFault {
-    fn from(_: Memory) -> FastFault {
-        FastFault::Memory
-    }
 }
