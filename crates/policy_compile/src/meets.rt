@@ -100,7 +100,7 @@ pub fn more_meets(
     Ok(more)
 }
 
-/// How many meets the cubes have: their number, or one above `limit` where there are more.
+/// How many meets the cubes have: their number, or some number above `limit` where there are more.
 pub fn count_of(alloc: Global, cubes: &[Cube], limit: usize) -> Result<usize, Memory>
     ensures { IfOk result (λ count. IsCount limit (length (meets cubes.now)) count) }
 {

@@ -5,6 +5,7 @@ ghost use Rattle.net_types.specs.declared.cube.Cube.{Cube as AnyCube};
 ghost use Rattle.net_types.specs.declared.headers.Headers.{Headers as AnyHeaders};
 ghost use Rattle.net_types.specs.declared.headers.Loc.{Loc as AnyLoc};
 ghost use Rattle.net_types.specs.declared.headers.Assign.{Assign as AnyAssign};
+ghost use Rattle.net_types.specs.declared.headers.Span.{Span as AnySpan};
 ghost use Rattle.net_types.specs.Meets.{IsMeet};
 ghost use Rattle.net_types.specs.Sets.{Member, SameMembers};
 ghost use Rattle.net_types.specs.Policies.{Fwd, den, atoms, mods};
@@ -14,7 +15,7 @@ ghost use Rattle.policy_compile.specs.Compiled.{IsCompiled};
 
 use crate::preds::{compile_pred, unchanged};
 use classifier::{Classifier, Results, parallel, sequence, single};
-use net_types::{Assign, Loc, Memory, Span};
+use net_types::{Assign, Loc, Memory};
 use policy_isolate::Names;
 use policy_syntax::{Node, Target, Tree};
 use std::alloc::Global;
@@ -29,13 +30,8 @@ fn only(alloc: Global, set: Assign, loc: Loc) -> Result<Results, Memory>
 }
 
 /// A packet goes to the target; it is lost where a name is nobody's.
-fn forward<N: Names>(
-    alloc: Global,
-    target: Target<'_>,
-    span: Span,
-    names: &N,
-) -> Result<Classifier, Memory>
-    ensures { IfOk result (λ c. IsCompiled (N.pid_of names.now) (Fwd (target_of target.entry) span) c) }
+fn forward<N: Names>(alloc: Global, target: Target<'_>, names: &N) -> Result<Classifier, Memory>
+    ensures { IfOk result (λ c. (span : AnySpan) → IsCompiled (N.pid_of names.now) (Fwd (target_of target.entry) span) c) }
 {
     match target {
         Target::Number(port) => {
@@ -72,8 +68,8 @@ fn compiled<N: Names>(alloc: Global, tree: &Tree<'_>, names: &N) -> Result<Class
             let blocked = single(alloc, only(alloc, Assign::none(), Loc::Nowhere)?)?;
             Ok(blocked)
         }
-        Node::Fwd(target, span) => {
-            let sent = forward(alloc, target, span, names)?;
+        Node::Fwd(target, _) => {
+            let sent = forward(alloc, target, names)?;
             Ok(sent)
         }
         Node::Test(pred) => {

@@ -39,7 +39,7 @@ returns-in_ok-changed-in-Set g t c =
     (CompileLemmas.compiled-items c.in_ok-only-in-Set.field-0 ((c.in-Set.set, Stay) ∷ []) c.in_ok-changed-in-Set.changed c.in_ok-only-in-Set.ensures f.all f.cubes f.assigns (g.N.Names.pid_of c.args.names.now) (model.Set c.in-Set.set c.in-Set.field-1) (λ h l. refl) (λ m k. k))
 
 pub returns-in_ok-sent-in-Fwd : goal.returns-in_ok-sent-in-Fwd
-returns-in_ok-sent-in-Fwd g t c = subst (λ p. IsCompiled (g.N.Names.pid_of c.args.names.now) p c.in_ok-sent-in-Fwd.sent) c.in-Fwd.ensures c.in_ok-sent-in-Fwd.ensures
+returns-in_ok-sent-in-Fwd g t c = subst (λ p. IsCompiled (g.N.Names.pid_of c.args.names.now) p c.in_ok-sent-in-Fwd.sent) c.in-Fwd.ensures (c.in_ok-sent-in-Fwd.ensures c.in-Fwd.field-1)
 
 pub returns-in_ok-kept-in-Test : goal.returns-in_ok-kept-in-Test
 returns-in_ok-kept-in-Test g t c =
