@@ -21,6 +21,6 @@ pub use classifier::Classifier;
 pub use join::Join;
 pub use line::{Line, Lines};
 pub use ops::{choose, negate, parallel, sequence, single, test, tighten};
-pub use product::product_of;
+pub use product::product_within;
 pub use results::Results;
-pub use seen::push_lines;
+pub use seen::{push_line, push_lines};

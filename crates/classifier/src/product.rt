@@ -1,6 +1,7 @@
 //! Each rule of one list joined with each of another.
 
 ghost use Rattle.std.specs.Prelude.{◌≡◌, [], IfOk, OnOk};
+ghost use Rattle.classifier.specs.Fronts.{IsFront};
 ghost use Rattle.classifier.specs.Lines.{add_lines, row, product};
 ghost use Rattle.classifier.specs.Runs.{lines_in};
 ghost use Rattle.classifier.specs.Seen.{Agrees};
@@ -64,6 +65,28 @@ pub fn product_of(alloc: Global, join: Join, xs: &[Line], ys: &[Line]) -> Result
     let mut seen = HashSet::new(alloc);
     for x in xs {
         push_rows(&mut lines, &mut seen, join, x, &runs)?;
+    }
+    Ok(lines)
+}
+
+/// The same, stopped as soon as there are more rules than the limit: then it has those of the first rules of the first list.
+pub fn product_within(
+    alloc: Global,
+    join: Join,
+    xs: &[Line],
+    ys: &[Line],
+    limit: usize,
+) -> Result<Vec<Line>, Memory>
+    ensures { IfOk result (λ v. IsFront limit join xs.now ys.now v.items) }
+{
+    let runs = runs_of(alloc, ys)?;
+    let mut lines = Vec::new(alloc);
+    let mut seen = HashSet::new(alloc);
+    for x in xs {
+        push_rows(&mut lines, &mut seen, join, x, &runs)?;
+        if lines.len() > limit {
+            return Ok(lines);
+        }
     }
     Ok(lines)
 }
