@@ -1,13 +1,9 @@
-use Rattle.std.proofs.Common.{◌≡◌, ◌<◌, ◌≤◌, ◌+◌, List, [], length, arith, drop, ap, sym, ◌∙◌, refl}
-use Rattle.classifier.specs.Fronts.{IsFront}
+use Rattle.std.proofs.Common.{◌+◌, arith, drop, ap, sym, ◌∙◌, refl}
 use Rattle.classifier.specs.Lines.{add_lines, product, row}
 use Rattle.classifier.specs.Runs.{lines_in}
-use Rattle.classifier.specs.declared.join.Join.{Join}
-use Rattle.classifier.specs.declared.line.Line.{Line}
 use Rattle.classifier.proofs.AddLemmas.{add_lines_more}
 use Rattle.classifier.proofs.FrontLemmas.{front_more}
 use Rattle.classifier.proofs.product.product_within.Goals as goal
-
 
 pub returns-then-len-limit : goal.returns-then-len-limit
 returns-then-len-limit c = record {
