@@ -1,0 +1,11 @@
+pub mod ActionOrder
+pub mod OfferLemmas
+pub mod SentLemmas
+pub mod DecideBlocks
+pub mod AnswerBlocks
+pub mod ShapeBlocks
+pub mod RightBlocks
+pub mod PolicyRight
+pub mod ViewLemmas
+pub mod BoundLemmas
+pub mod InportLemmas

@@ -1,0 +1,67 @@
+-- Participants in offers, and the ports of their offers.
+use Rattle.std.proofs.Common.{◌≡◌, Bool, true, false, not, ◌||◌, cond, List, [], ◌∷◌, refl, inl, inr, sym, ap, ◌∙◌}
+use Rattle.std.specs.Prelude.{Some, find, nat_eq}
+use Rattle.std.specs.Option.{option_map_or}
+use Rattle.std.proofs.lemmas.Bool.{cases_Bool, eqb-true, eq-eqb, and_parts, false≢true}
+use Rattle.net_types.specs.Answers.{is_offered, offered_port}
+use Rattle.net_types.specs.Sets.{Member}
+use Rattle.net_types.specs.declared.address.Pid.{Pid}
+use Rattle.net_types.specs.declared.address.PortNo.{PortNo}
+use Rattle.net_types.specs.declared.route.Offer.{Offer}
+use Rattle.block_build.specs.Offers.{each_once}
+
+-- ---- numbers of participants
+
+pub pid_exact : (a b : Pid) → nat_eq a.0 b.0 ≡ true → a ≡ b
+pid_exact a b h = ap (λ n. let who : Pid = record { 0 = n } in who) (eqb-true a.0 b.0 h)
+
+pub pid_refl : (a : Pid) → nat_eq a.0 a.0 ≡ true
+pid_refl a = eq-eqb a.0 a.0 refl
+
+-- ---- offers
+
+pub stands-offered : (offers : List Offer) (o : Offer) → Member o offers → is_offered offers o.exporter ≡ true
+stands-offered [] o h = elim h [ ]
+stands-offered (x ∷ xs) o (inl e) = ap (λ b. b || is_offered xs o.exporter) (ap (λ (z : Offer). nat_eq z.exporter.0 o.exporter.0) (sym e) ∙ pid_refl o.exporter)
+stands-offered (x ∷ xs) o (inr h) = elim (cases_Bool (nat_eq x.exporter.0 o.exporter.0)) [
+  | inl mine ↦ ap (λ b. b || is_offered xs o.exporter) mine
+  | inr other ↦ ap (λ b. b || is_offered xs o.exporter) other ∙ stands-offered xs o h
+]
+
+not_true : (b : Bool) → not b ≡ true → b ≡ false
+not_true true e = cc
+not_true false e = refl
+
+abbrev port_or : Bool → PortNo → PortNo → PortNo
+port_or true p q = p
+port_or false p q = q
+
+port-first : (x : Offer) (xs : List Offer) (who : Pid) (b : Bool) → nat_eq x.exporter.0 who.0 ≡ b → offered_port (x ∷ xs) who ≡ port_or b x.port (offered_port xs who)
+port-first x xs who true e = ap (λ b. option_map_or (λ (o : Offer). o.port) (cond b (Some x) (find (λ (o : Offer). nat_eq o.exporter.0 who.0) xs)) (record { 0 = 0 })) e
+port-first x xs who false e = ap (λ b. option_map_or (λ (o : Offer). o.port) (cond b (Some x) (find (λ (o : Offer). nat_eq o.exporter.0 who.0) xs)) (record { 0 = 0 })) e
+
+-- where each participant stands once, its offer's port is the port that is found
+pub port-stands : (offers : List Offer) (o : Offer) → each_once offers ≡ true → Member o offers → offered_port offers o.exporter ≡ o.port
+port-stands [] o once h = elim h [ ]
+port-stands (x ∷ xs) o once (inl e) =
+    port-first x xs o.exporter true (ap (λ (z : Offer). nat_eq z.exporter.0 o.exporter.0) (sym e) ∙ pid_refl o.exporter) ∙ ap (λ (z : Offer). z.port) (sym e)
+port-stands (x ∷ xs) o once (inr h) =
+    let p = and_parts (not (is_offered xs x.exporter)) (each_once xs) once in
+    elim (cases_Bool (nat_eq x.exporter.0 o.exporter.0)) [
+      | inl mine ↦ absurd (false≢true (sym (not_true (is_offered xs x.exporter) p.0) ∙ ap (is_offered xs) (pid_exact x.exporter o.exporter mine) ∙ stands-offered xs o h))
+      | inr other ↦ port-first x xs o.exporter false other ∙ port-stands xs o p.1 h
+    ]
+
+-- an offer of a participant, with the port that is found
+pub record Offered (offers : List Offer) (who : Pid) : Type 0 where
+  pub offer : Offer
+  pub stands : Member offer offers
+  pub mine : offer.exporter ≡ who
+  pub by : offer.port ≡ offered_port offers who
+
+pub offered-from : (offers : List Offer) (who : Pid) → is_offered offers who ≡ true → Offered offers who
+offered-from [] who e = absurd (false≢true e)
+offered-from (x ∷ xs) who e = elim (cases_Bool (nat_eq x.exporter.0 who.0)) [
+  | inl mine ↦ record { offer = x; stands = inl refl; mine = pid_exact x.exporter who mine; by = sym (port-first x xs who true mine) }
+  | inr other ↦ let r = offered-from xs who (sym (ap (λ b. b || is_offered xs who) other) ∙ e) in record { offer = r.offer; stands = inr r.stands; mine = r.mine; by = r.by ∙ sym (port-first x xs who false other) }
+]

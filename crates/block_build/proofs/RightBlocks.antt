@@ -1,0 +1,149 @@
+-- The rules that are built are right, and right rules are no more than the cells.
+use Rattle.std.proofs.Common.{◌≡◌, ◌≤◌, true, cond, suc, length, List, [], ◌∷◌, map, refl, inl, inr, sym, ap, ◌∙◌, subst}
+use Rattle.std.specs.Prelude.{Option, Some, None, is_some, nat_eq}
+use Rattle.std.specs.List.{list_all}
+use Rattle.std.specs.Option.{option_map, option_map_or}
+use Rattle.std.proofs.lemmas.Bool.{cases_Bool, and_parts, false≢true}
+use Rattle.classifier.proofs.DecideLemmas.{total, given_is, decide-add_lines}
+use Rattle.classifier.specs.Items.{Item}
+use Rattle.classifier.specs.Lines.{add_lines}
+use Rattle.classifier.specs.Meaning as lines
+use Rattle.classifier.specs.Meaning.{decide, given, meaning, HasDistinctCubes, ends_with_everything}
+use Rattle.classifier.specs.declared.line.Line.{Line}
+use Rattle.events.specs.Sound.{HasNoRepeats, cubes_of}
+use Rattle.events.specs.Table.{done_by, first_rule}
+use Rattle.net_types.proofs.FindLemmas.{find-IsFound}
+use Rattle.net_types.proofs.MeetLemmas.{IsMeet-meets}
+use Rattle.net_types.proofs.SetLemmas
+use Rattle.net_types.proofs.WidthLemmas.{no_longer}
+use Rattle.net_types.specs.Answers.{is_offered}
+use Rattle.net_types.specs.Cubes.{has}
+use Rattle.net_types.specs.Meets.{IsMeet, meets}
+use Rattle.net_types.specs.Sets.{IsRising, Member}
+use Rattle.net_types.specs.Widths.{Differ}
+use Rattle.net_types.specs.declared.address.Pid.{Pid}
+use Rattle.net_types.specs.declared.address.PortNo.{PortNo}
+use Rattle.net_types.specs.declared.cube.Cube.{Cube}
+use Rattle.net_types.specs.declared.headers.Headers.{Headers}
+use Rattle.net_types.specs.declared.route.Offer.{Offer}
+use Rattle.net_types.specs.declared.route.Part.{Part}
+use Rattle.net_types.specs.declared.rule.Rule.{Rule}
+use Rattle.block_build.proofs.AnswerBlocks.{left-outs, outs-answer}
+use Rattle.block_build.proofs.DecideBlocks.{AreTotal, decide-restricted, decide-blocks, ends-received, gathered_by}
+use Rattle.block_build.proofs.ActionOrder.{actions_rise}
+use Rattle.block_build.specs.Offers.{each_once}
+use Rattle.block_build.specs.Receivers.{receiver, receivers}
+use Rattle.block_build.specs.Bounds.{AreMeets}
+use Rattle.block_build.specs.Right.{ActionsRise, IsRightFor, view_atoms}
+use Rattle.block_build.specs.Rules.{actions_in, is_before, actions_of, rule_of, rules_of}
+use Rattle.block_build.specs.Spreads.{restricted, blocks, built}
+use Rattle.block_build.specs.Views.{Viewed, IsTotal, entry_of, rules_in, inbound_of, has_all}
+use Rattle.block_build.specs.declared.receive.Receiver.{Receiver}
+
+-- ---- lines as rules
+
+-- the first rule is the first line, with its actions
+record Matches (xs : List Line) (h : Headers) (items : List Item) : Type 0 where
+  rule : Rule
+  first : first_rule (rules_of xs) h ≡ Some rule
+  acts : rule.actions ≡ actions_of items
+
+same_some : {A : Type 0} {x y : A} → Some x ≡ Some y → x ≡ y
+same_some e = cc
+
+match-rules : (xs : List Line) (h : Headers) (items : List Item) → decide xs h ≡ Some items → Matches xs h items
+match-rules [] h items e = absurd (cc)
+match-rules (x ∷ xs) h items e = elim (cases_Bool (has x.cube h)) [
+  | inl here ↦ record {
+    rule = rule_of x;
+    first = ap (λ b. cond b (Some (rule_of x)) (first_rule (rules_of xs) h)) here;
+    acts = ap actions_of (same_some (sym (ap (λ b. cond b (Some x.results) (decide xs h)) here) ∙ e));
+  }
+  | inr apart ↦
+      let later = match-rules xs h items (sym (ap (λ b. cond b (Some x.results) (decide xs h)) apart) ∙ e) in
+      record { rule = later.rule; first = ap (λ b. cond b (Some (rule_of x)) (first_rule (rules_of xs) h)) apart ∙ later.first; acts = later.acts }
+]
+
+cubes-rules : (xs : List Line) → cubes_of (rules_of xs) ≡ lines.cubes_of xs
+cubes-rules [] = refl
+cubes-rules (x ∷ xs) = ap (λ cs. x.cube ∷ cs) (cubes-rules xs)
+
+pub no_repeats : (xs : List Line) → HasDistinctCubes xs → HasNoRepeats (lines.cubes_of xs)
+no_repeats [] d = tt
+no_repeats (x ∷ xs) d = (λ k. d.0 k, no_repeats xs d.1)
+
+-- ---- the receivers' rules give something to all headers
+
+found_total : (entries : List (Pid × List Line)) (who : Pid) → ((e : Pid × List Line) → Member e entries → ends_with_everything e.1 ≡ true) → is_some (entry_of entries who) ≡ true → ends_with_everything (rules_in entries who) ≡ true
+found_total entries who each there = of (entry_of entries who) refl there
+  where
+    of : (o : Option (Pid × List Line)) → entry_of entries who ≡ o → is_some o ≡ true → ends_with_everything (option_map_or (λ (e : Pid × List Line). e.1) o []) ≡ true
+    of None e is = absurd (false≢true is)
+    of (Some x) e is = each x (find-IsFound (λ (y : Pid × List Line). nat_eq y.0.0 who.0) entries x e).stands
+
+all_found : (entries : List (Pid × List Line)) (offers : List Offer) (o : Offer) → list_all (λ (x : Offer). is_some (entry_of entries x.exporter)) offers ≡ true → Member o offers → is_some (entry_of entries o.exporter) ≡ true
+all_found entries [] o all k = elim k [ ]
+all_found entries (x ∷ xs) o all (inl e) =
+    ap (λ (z : Offer). is_some (entry_of entries z.exporter)) e ∙ (and_parts (is_some (entry_of entries x.exporter)) (list_all (λ (z : Offer). is_some (entry_of entries z.exporter)) xs) all).0
+all_found entries (x ∷ xs) o all (inr k) = all_found entries xs o (and_parts (is_some (entry_of entries x.exporter)) (list_all (λ (z : Offer). is_some (entry_of entries z.exporter)) xs) all).1 k
+
+pub offered-total : (v : Viewed) (offers : List Offer) → IsTotal v → has_all v offers ≡ true → (o : Offer) → Member o offers → ends_with_everything (inbound_of v o.exporter) ≡ true
+offered-total v offers t all o k = found_total v.inbound o.exporter t.inbound (all_found v.inbound offers o all k)
+
+receivers-total : (inbound : Pid → List Line) (offers : List Offer) → ((o : Offer) → Member o offers → ends_with_everything (inbound o.exporter) ≡ true) → AreTotal (receivers inbound offers)
+receivers-total inbound offers each r k =
+    let i = SetLemmas.map-Member (receiver inbound) offers r k in
+    ap (λ (q : Receiver). ends_with_everything q.lines) i.is ∙ ends-received i.of.port (inbound i.of.exporter) ∙ each i.of i.stands
+
+-- ---- the rules that are built
+
+module _ (v : Viewed) (port : PortNo) (p : Part) (t : IsTotal v) (there : is_offered p.offers p.best ≡ true) (once : each_once p.offers ≡ true) (all : has_all v p.offers ≡ true) where
+  abbrev their_total : (o : Offer) → Member o p.offers → ends_with_everything (inbound_of v o.exporter) ≡ true
+  their_total = offered-total v p.offers t all
+
+  decided : (h : Headers) → h.inport ≡ port → decide (built v port p) h ≡ Some (gathered_by p.best p.offers (receivers (inbound_of v) p.offers) h (given v.outbound h))
+  decided h e =
+      decide-add_lines [] (blocks p.best p.offers (receivers (inbound_of v) p.offers) (add_lines [] (restricted port v.outbound))) h
+      ∙ decide-blocks p.best p.offers (receivers (inbound_of v) p.offers) (add_lines [] (restricted port v.outbound)) h (receivers-total (inbound_of v) p.offers their_total)
+      ∙ ap (option_map (gathered_by p.best p.offers (receivers (inbound_of v) p.offers) h)) (decide-add_lines [] (restricted port v.outbound) h ∙ decide-restricted port v.outbound h e ∙ given_is v.outbound h (total v.outbound t.outbound h))
+
+  pub right-built : HasDistinctCubes (built v port p) → AreMeets (view_atoms v port p) (built v port p) → IsRightFor v port p (rules_of (built v port p))
+  right-built differ meets = record {
+    gives = λ h e.
+        let m = match-rules (built v port p) h (gathered_by p.best p.offers (receivers (inbound_of v) p.offers) h (given v.outbound h)) (decided h e) in (
+          m.rule,
+          m.first,
+          SetLemmas.same_trans (SetLemmas.same_eq (ap (map (done_by h)) m.acts))
+              (SetLemmas.same_trans (left-outs h (gathered_by p.best p.offers (receivers (inbound_of v) p.offers) h (given v.outbound h))) (outs-answer (inbound_of v) p h their_total v.outbound once there)),
+        );
+    differ = subst HasNoRepeats (sym (cubes-rules (built v port p))) (no_repeats (built v port p) differ);
+    meets = λ c k.
+        let i = SetLemmas.map-Member (λ (z : Line). z.cube) (built v port p) c (subst (Member c) (cubes-rules (built v port p)) k) in
+        subst (IsMeet (view_atoms v port p)) (sym i.is) (meets i.of i.stands);
+  }
+
+-- ---- right rules are no more than the cells
+
+differ-repeats : {A : Type 0} (xs : List A) → HasNoRepeats xs → Differ xs
+differ-repeats [] d = tt
+differ-repeats (x ∷ xs) d = (λ k. d.0 k, differ-repeats xs d.1)
+
+pub within_cells : (atoms cubes : List Cube) → HasNoRepeats cubes → ((c : Cube) → Member c cubes → IsMeet atoms c) → length cubes ≤ length (meets atoms)
+within_cells atoms cubes d each = no_longer cubes (meets atoms) (differ-repeats cubes d) (λ c k. IsMeet-meets atoms c (each c k))
+
+length-cubes : (xs : List Line) → length (lines.cubes_of xs) ≡ length xs
+length-cubes [] = refl
+length-cubes (x ∷ xs) = ap suc (length-cubes xs)
+
+-- lines whose cubes differ and are meets of the atoms are no more than the cells
+pub lines_within : (atoms : List Cube) (xs : List Line) → HasDistinctCubes xs → AreMeets atoms xs → length xs ≤ length (meets atoms)
+lines_within atoms xs d each =
+    subst (λ n. n ≤ length (meets atoms)) (length-cubes xs) (within_cells atoms (lines.cubes_of xs) (no_repeats xs d) (λ c k.
+    let i = SetLemmas.map-Member (λ (z : Line). z.cube) xs c k in subst (IsMeet atoms) (sym i.is) (each i.of i.stands)))
+
+-- ---- the actions of the rules rise
+
+pub rules_rise : (xs : List Line) → ActionsRise (rules_of xs)
+rules_rise xs rule k =
+    let i = SetLemmas.map-Member rule_of xs rule k in
+    subst (λ (r : Rule). IsRising is_before r.actions) (sym i.is) (actions_rise (actions_in i.of.results))

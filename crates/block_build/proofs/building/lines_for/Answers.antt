@@ -1,0 +1,29 @@
+-- Where all the rules are there they are right, and in any case there are no more than the cells.
+use Rattle.std.proofs.Common.{sym, subst}
+use Rattle.block_build.proofs.RightBlocks.{right-built, lines_within}
+use Rattle.block_build.proofs.ShapeBlocks.{own-meets, their-meets}
+use Rattle.block_build.specs.Bounds.{AreMeets}
+use Rattle.block_build.specs.Right.{IsRightFor, view_atoms}
+use Rattle.block_build.specs.Rules.{rules_of}
+use Rattle.block_build.specs.Views.{inbound_of}
+use Rattle.classifier.specs.Meaning.{HasDistinctCubes}
+use Rattle.block_build.proofs.building.lines_for.Goals as goal
+
+pub returns-clause-right : goal.returns-clause-right
+returns-clause-right c = λ within.
+    let view = c.args.view.now in
+    let part = c.args.part.now in
+    let made = c.in_ok-lines.ensures in
+    let all = made.whole_within within in
+    let meets = made.meets (view_atoms view c.args.port part) (their-meets (inbound_of view) part c.args.port view.outbound) (own-meets (inbound_of view) part c.args.port view.outbound) in
+    subst (λ lines. IsRightFor c.args.view.now c.args.port c.args.part.now (rules_of lines)) (sym all)
+    (right-built view c.args.port part c.known.ensures c.requires.best c.requires.once c.requires.all
+    (subst HasDistinctCubes all made.differ) (subst (AreMeets (view_atoms view c.args.port part)) all meets))
+
+pub returns-clause-cells : goal.returns-clause-cells
+returns-clause-cells c =
+    let view = c.args.view.now in
+    let part = c.args.part.now in
+    let made = c.in_ok-lines.ensures in
+    lines_within (view_atoms view c.args.port part) c.in_ok-lines.lines.items made.differ
+    (made.meets (view_atoms view c.args.port part) (their-meets (inbound_of view) part c.args.port view.outbound) (own-meets (inbound_of view) part c.args.port view.outbound))

@@ -1,0 +1,10 @@
+pub mod Outcomes
+pub mod Right
+pub mod Views
+pub mod Offers
+pub mod Receivers
+pub mod Spreads
+pub mod Given
+pub mod Bounds
+pub mod Rules
+pub mod Laws

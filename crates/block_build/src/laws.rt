@@ -1,0 +1,18 @@
+//! What is right for a view is right for the policies. The functions have empty bodies, and their contracts are the laws.
+
+ghost use Rattle.block_build.specs.Laws.{NoInports, NoMoreCells, RightForPolicies};
+
+/// Rules that are right for a view are right for the policies that its classifiers were made of.
+pub fn right_for_policies()
+    ensures { RightForPolicies }
+{}
+
+/// A view has no more cells than the policies that its classifiers were made of.
+pub fn no_more_cells()
+    ensures { NoMoreCells }
+{}
+
+/// Where no cube of a receiver has an inport, no cube of right rules has one.
+pub fn no_inports()
+    ensures { NoInports }
+{}

@@ -1,0 +1,18 @@
+//! The rules of one pair of a port and a tag, from the classifiers of a sender and its receivers.
+#![tactic(auto)]
+
+mod actions;
+mod block;
+mod building;
+mod laws;
+mod offers;
+mod receive;
+mod spread;
+#[cfg(test)]
+mod tests;
+mod view;
+
+pub use block::{Block, BuildFault};
+pub use building::build;
+pub use laws::{no_inports, no_more_cells, right_for_policies};
+pub use view::View;
