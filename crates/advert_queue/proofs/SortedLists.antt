@@ -12,7 +12,7 @@ use Rattle.std.proofs.lemmas.Cmp.{eq_by_cmp_equiv, tied_itself}
 use Rattle.std.proofs.lemmas.Bool.{cases_lt, false_from_ne_true, false≢true}
 use Rattle.std.proofs.lemmas.List.Kept.{Contains-dedup, Contains-from_dedup, IsStrictlySortedBy-dedup}
 use Rattle.std.proofs.lemmas.List.Sorted.{IsPermutation-sym, searchable_from_sorted}
-use Rattle.events.proofs.OrderedLemmas.{any_member, member_any, ordered_is, ordered_rises, ordered_same}
+use Rattle.net_types.proofs.OrderedLemmas.{any_member, member_any, ordered_is, ordered_rises, ordered_same}
 use Rattle.net_types.proofs.MemberLemmas.{Contains-Member, Member-at, Member-permutation}
 use Rattle.net_types.proofs.OrderLemmas.{prefix_tie, prefixes_total, tags_total}
 use Rattle.net_types.proofs.RisingLemmas.{before}

@@ -1,4 +1,3 @@
-pub mod ActionOrder
 pub mod OfferLemmas
 pub mod SentLemmas
 pub mod DecideBlocks

@@ -11,7 +11,7 @@ use Rattle.net_types.specs.declared.address.Ip.{Ip}
 use Rattle.net_types.specs.declared.headers.Assign.{Assign}
 use Rattle.net_types.specs.declared.headers.Loc.{Loc}
 use Rattle.net_types.specs.declared.headers.Loc.TheVariants.{Stay, To, Out, Nowhere}
-use Rattle.net_types.specs.declared.rule.Action.{Action}
+use Rattle.net_types.specs.declared.actions.Action.{Action}
 use Rattle.net_types.specs.declared.rule.Rule.{Rule}
 
 -- addresses by their numbers

@@ -1,7 +1,6 @@
 pub mod Reached
 pub mod Drains
 pub mod Drained
-pub mod OrderedLemmas
 pub mod Candidates
 pub mod Exporters
 pub mod Routed

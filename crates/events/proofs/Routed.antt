@@ -44,7 +44,7 @@ use Rattle.events.specs.Tags.{is_live_for, is_live_pair, same_tag, tells}
 use Rattle.events.specs.declared.Frame.{Frame}
 use Rattle.events.proofs.Candidates.{best_Member, candidate_exported}
 use Rattle.events.proofs.Exporters.{AreDeclared, offered_exports, offered_port_is, same_ports}
-use Rattle.events.proofs.OrderedLemmas.{ordered_alike}
+use Rattle.net_types.proofs.OrderedLemmas.{ordered_alike}
 
 -- ---- frames in order
 

@@ -17,7 +17,7 @@ use Rattle.net_types.specs.declared.address.PortNo.{PortNo}
 use Rattle.net_types.specs.declared.address.Tag.{Tag}
 use Rattle.net_types.specs.declared.headers.Headers.{Headers}
 use Rattle.net_types.specs.declared.route.PortInfo.{PortInfo}
-use Rattle.net_types.specs.declared.rule.Action.{Action}
+use Rattle.net_types.specs.declared.actions.Action.{Action}
 use Rattle.net_types.specs.declared.rule.Rule.{Rule}
 use Rattle.events.specs.declared.Frame.{Frame}
 

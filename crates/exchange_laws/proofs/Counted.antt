@@ -11,7 +11,7 @@ use Rattle.std.specs.declared.cmp.Ordering.TheVariants.{Less, Equal, Greater}
 use Rattle.std.proofs.lemmas.List.{length-append, length-map}
 use Rattle.std.proofs.lemmas.List.Filters.{sum_by-filter_both}
 use Rattle.std.proofs.lemmas.List.Sums.{sum_by-cons}
-use Rattle.events.proofs.OrderedLemmas.{member_any, ordered_is}
+use Rattle.net_types.proofs.OrderedLemmas.{member_any, ordered_is}
 use Rattle.events.specs.Fits.{added, dropped, flows_of}
 use Rattle.events.specs.Refusals.{live_pairs, pairs}
 use Rattle.events.specs.Sound.{owners_part, rule_count}

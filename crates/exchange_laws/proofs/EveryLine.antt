@@ -4,7 +4,7 @@ use Rattle.std.specs.Prelude.{Option, Some, None, is_some, MatchOption, slice_ge
 use Rattle.std.specs.FinMap.{FinMap, contains_key-keys, empty, get, get-empty, keys}
 use Rattle.std.specs.Option.{option_map_or}
 use Rattle.std.proofs.lemmas.Bool.{cases_lt, false≢true}
-use Rattle.events.proofs.OrderedLemmas.{member_any}
+use Rattle.net_types.proofs.OrderedLemmas.{member_any}
 use Rattle.events.specs.After.{after, next, next_by, running, settled, with_known, with_port, with_told}
 use Rattle.events.specs.Fits.{Fits, FitsBy, IsAnswer, IsSent, IsTagged, IsWellFormed, added, adverts, asks_for, bare, by_table, all_flows, destination, dropped, is_building, none_rebuilt, responder_reply, tag_changes, tagged_frame}
 use Rattle.events.specs.Legal.{LegalFrom}

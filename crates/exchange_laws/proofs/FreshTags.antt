@@ -6,7 +6,7 @@ use Rattle.std.specs.List.{position_from}
 use Rattle.std.specs.Option.{option_and_then}
 use Rattle.std.proofs.lemmas.Bool.{false_from_ne_true, lt-ltb, ltb-true}
 use Rattle.std.proofs.lemmas.Option.{option_and_then_some, slice_get_within}
-use Rattle.events.proofs.OrderedLemmas.{ordered_same}
+use Rattle.net_types.proofs.OrderedLemmas.{ordered_same}
 use Rattle.events.proofs.Candidates.{best_Member, candidate_exported}
 use Rattle.events.specs.State.{State}
 use Rattle.events.specs.Tags.{Group, carried, free_tags, fresh_tag, group_of, groups, is_carried, is_changed, is_live, same_group, tags}

@@ -2,7 +2,7 @@
 use Rattle.std.proofs.Common.{◌≡◌, ℕ, ◌+◌, ◌≤◌, Bool, true, false, List, [], ◌∷◌, length, filter, sum_by, sym, ap, subst, refl, arith, inl, inr}
 use Rattle.std.specs.Option.{option_map_or}
 use Rattle.std.proofs.lemmas.List.Sums.{sum_by-cons}
-use Rattle.events.proofs.OrderedLemmas.{ordered_same}
+use Rattle.net_types.proofs.OrderedLemmas.{ordered_same}
 use Rattle.events.specs.Fits.{FitsBy, IsAccepted, IsFull, Passes, bare, cells, is_building}
 use Rattle.events.specs.Refusals.{live_pairs, pairs}
 use Rattle.events.specs.Sound.{owners_part, rule_count}

@@ -7,7 +7,7 @@ use Rattle.std.specs.List.{list_any}
 use Rattle.std.specs.Ordering.{eq_by_cmp, is_lt}
 use Rattle.std.specs.declared.cmp.Ordering.{Ordering}
 use Rattle.std.proofs.lemmas.Bool.{and_from}
-use Rattle.events.proofs.OrderedLemmas.{any_member, member_any}
+use Rattle.net_types.proofs.OrderedLemmas.{any_member, member_any}
 use Rattle.events.specs.Fits.{added, dropped, flows_of, none_rebuilt}
 use Rattle.events.specs.State.{State}
 use Rattle.exchange_laws.proofs.Lists.{clash, key_Member}

@@ -7,7 +7,7 @@ use Rattle.std.specs.List.{list_any, position_from}
 use Rattle.std.specs.Ordering.{eq_by_cmp}
 use Rattle.std.specs.declared.cmp.Ordering.{Ordering}
 use Rattle.std.proofs.lemmas.Bool.{false_from_ne_true, false≢true}
-use Rattle.events.proofs.OrderedLemmas.{any_member, member_any}
+use Rattle.net_types.proofs.OrderedLemmas.{any_member, member_any}
 use Rattle.events.specs.Tags.{each_once}
 use Rattle.net_types.proofs.FindLemmas.{IsFound, find-IsFound, slice_get-Member}
 use Rattle.net_types.proofs.MapLemmas.{get-tabulate}

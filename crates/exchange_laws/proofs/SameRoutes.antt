@@ -5,7 +5,7 @@ use Rattle.std.specs.FinMap.{FinMap, contains_key-keys, entries, entries_sorted,
 use Rattle.std.specs.FinMap.Entries.{find-where_key, is_sorted-where_key, same_entries, where_key}
 use Rattle.std.specs.List.{list_any}
 use Rattle.std.specs.Option.{option_map_or}
-use Rattle.events.proofs.OrderedLemmas.{member_any}
+use Rattle.net_types.proofs.OrderedLemmas.{member_any}
 use Rattle.events.specs.After.{running}
 use Rattle.events.specs.Fits.{flows_of, none_rebuilt, tag_changes}
 use Rattle.events.specs.Sound.{IsSound}

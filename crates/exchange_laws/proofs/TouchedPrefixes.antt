@@ -6,7 +6,7 @@ use Rattle.std.specs.List.{list_any}
 use Rattle.std.specs.Option.{option_and_then, option_map}
 use Rattle.std.specs.Ordering.{eq_by_cmp}
 use Rattle.std.proofs.lemmas.Bool.{and_from, and_parts, or_cases, or_left, or_right}
-use Rattle.events.proofs.OrderedLemmas.{any_member, member_any, ordered_rises, ordered_same}
+use Rattle.net_types.proofs.OrderedLemmas.{any_member, member_any, ordered_rises, ordered_same}
 use Rattle.events.specs.State.{State, port_of, present, present_entry, told_to}
 use Rattle.events.specs.declared.Entry.{Entry}
 use Rattle.events.specs.Tags.{each_once, group_of, is_carried, is_changed, is_live_pair, retagged, same_group, same_tag, tells}

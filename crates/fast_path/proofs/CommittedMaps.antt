@@ -7,7 +7,7 @@ use Rattle.std.specs.List.{list_any}
 use Rattle.std.specs.Ordering.{eq_by_cmp}
 use Rattle.std.specs.declared.cmp.Ordering.{Ordering}
 use Rattle.std.proofs.lemmas.Bool.{false_from_ne_true}
-use Rattle.events.proofs.OrderedLemmas.{any_member, member_any}
+use Rattle.net_types.proofs.OrderedLemmas.{any_member, member_any}
 use Rattle.exchange_laws.proofs.Lists.{clash}
 use Rattle.net_types.proofs.FindLemmas.{Member-take}
 use Rattle.net_types.proofs.TieLemmas.{ties_itself}

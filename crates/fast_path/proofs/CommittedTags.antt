@@ -3,7 +3,7 @@ use Rattle.std.proofs.Common.{◌≡◌, ◌≤◌, Bool, true, false, not, List
 use Rattle.std.specs.Prelude.{Option, Some, None}
 use Rattle.std.specs.FinMap.{FinMap, get, keys, same_map}
 use Rattle.std.proofs.lemmas.List.{length-map}
-use Rattle.events.proofs.OrderedLemmas.{ordered_rises, ordered_same}
+use Rattle.net_types.proofs.OrderedLemmas.{ordered_rises, ordered_same}
 use Rattle.events.specs.Fits.{tag_changes}
 use Rattle.events.specs.State.{State}
 use Rattle.events.specs.Tags.{new_tag, retagged, same_tag}

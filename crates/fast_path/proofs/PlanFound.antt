@@ -12,7 +12,7 @@ use Rattle.net_types.specs.Sets.{IsRising, Member}
 use Rattle.net_types.specs.declared.address.Tag.{Tag}
 use Rattle.net_types.proofs.OrderLemmas.{tags_total}
 use Rattle.net_types.proofs.RisingLemmas.{filter-IsRising}
-use Rattle.events.proofs.OrderedLemmas.{ordered_rises}
+use Rattle.net_types.proofs.OrderedLemmas.{ordered_rises}
 use Rattle.net_types.proofs.SetLemmas.{map-Member}
 use Rattle.events.specs.Fits.{tag_changes}
 use Rattle.events.specs.Sound.{owners_part, rule_count}

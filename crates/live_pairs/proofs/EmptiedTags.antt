@@ -7,7 +7,7 @@ use Rattle.std.specs.Ordering.{eq_by_cmp}
 use Rattle.std.specs.List.{cons_option}
 use Rattle.std.proofs.lemmas.Bool.{eq-eqb, eqb-true, false_from_ne_true}
 use Rattle.std.proofs.lemmas.List.Sums.{sum_by-cons}
-use Rattle.events.proofs.OrderedLemmas.{ordered_rises, ordered_same}
+use Rattle.net_types.proofs.OrderedLemmas.{ordered_rises, ordered_same}
 use Rattle.events.specs.Fits.{tag_changes}
 use Rattle.events.specs.State.{State}
 use Rattle.events.specs.Tags.{fresh_tag, group_of, is_carried, is_changed, retagged, same_tag}

@@ -9,7 +9,7 @@ use Rattle.std.specs.declared.cmp.Ordering.TheVariants.{Less}
 use Rattle.std.proofs.lemmas.Cmp.{eq_by_cmp_equiv}
 use Rattle.std.proofs.lemmas.List.Kept.{Contains-dedup, Contains-from_dedup, IsStrictlySortedBy-dedup}
 use Rattle.std.proofs.lemmas.List.Sorted.{IsPermutation-sym}
-use Rattle.events.proofs.OrderedLemmas.{ordered_is}
+use Rattle.net_types.proofs.OrderedLemmas.{ordered_is}
 use Rattle.live_pairs.proofs.Forwards.{forwards_tie, forwards_total}
 use Rattle.live_pairs.proofs.PortsAndTags.{tie}
 use Rattle.live_pairs.specs.Pairs.{forward_cmp}

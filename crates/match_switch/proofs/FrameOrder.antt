@@ -11,7 +11,7 @@ use Rattle.std.specs.declared.cmp.Ordering.TheVariants.{Less, Equal, Greater}
 use Rattle.std.proofs.lemmas.Cmp.{eq_by_cmp_equiv, on_total, then_total}
 use Rattle.std.proofs.lemmas.List.Kept.{Contains-dedup, Contains-from_dedup, IsStrictlySortedBy-dedup}
 use Rattle.std.proofs.lemmas.List.Sorted.{IsPermutation-sym}
-use Rattle.events.proofs.OrderedLemmas.{ordered_is}
+use Rattle.net_types.proofs.OrderedLemmas.{ordered_is}
 use Rattle.events.specs.Table.{frame_cmp}
 use Rattle.events.specs.declared.Frame.{Frame}
 use Rattle.net_types.proofs.MemberLemmas.{Contains-Member, Member-at, Member-permutation}

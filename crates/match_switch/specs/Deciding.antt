@@ -8,7 +8,7 @@ use Rattle.net_types.specs.Keys.{pair_cmp}
 use Rattle.net_types.specs.declared.address.PortNo.{PortNo}
 use Rattle.net_types.specs.declared.address.Tag.{Tag}
 use Rattle.net_types.specs.declared.headers.Headers.{Headers}
-use Rattle.net_types.specs.declared.rule.Action.{Action}
+use Rattle.net_types.specs.declared.actions.Action.{Action}
 use Rattle.net_types.specs.declared.rule.Rule.{Rule}
 
 -- the actions of the first rule that has the headers; none where no rule has them

@@ -49,9 +49,9 @@ same_attrs a b =
     && (same_bool a.atomic b.atomic && (same_option same_aggregator a.aggregator b.aggregator && (pointwise nat_eq a.communities b.communities
     && (same_bool a.communities_partial b.communities_partial && pointwise same_unknown a.unknown b.unknown)))))))
 
--- the same exporter by the same port
+-- the same exporter by the same port, and both discarded or both not
 abbrev pub same_offer : Offer → Offer → Bool
-same_offer a b = nat_eq a.exporter.0 b.exporter.0 && nat_eq a.port.0 b.port.0
+same_offer a b = nat_eq a.exporter.0 b.exporter.0 && (nat_eq a.port.0 b.port.0 && same_bool a.hole b.hole)
 
 -- the same sender and best participant, and the same offers in order
 abbrev pub same_part : Part → Part → Bool

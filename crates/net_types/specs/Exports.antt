@@ -38,11 +38,13 @@ abbrev pub allows : List ExportRule → Pid → Prefix → Bool
 allows [] to p = true
 allows (r ∷ rs) to p = if applies r to p then r.allow else allows rs to p
 
--- What is declared, ruled and announced. A participant is its place in the list.
+-- What is declared, ruled, named and announced. A participant is its place in the lists.
 pub record Routing : Type 0 where
   pub participants : List Participant
   pub ports : List PortInfo
   pub rules : List (List ExportRule)
+  -- whom each participant's outbound policy names in a forward
+  pub named : List (List Pid)
   pub routes : FinMap route_cmp Attrs
 
 -- the participant of a name
@@ -69,6 +71,10 @@ asn_of r who = option_map_or (λ (m : Participant). m.asn) (slice_get r.particip
 -- the export rules of a participant
 abbrev pub rules_of : Routing → Pid → List ExportRule
 rules_of r who = unwrap_or (slice_get r.rules who.0) []
+
+-- whom the outbound policy of a participant names in a forward
+abbrev pub named_by : Routing → Pid → List Pid
+named_by r who = unwrap_or (slice_get r.named who.0) []
 
 -- One participant gives another its route for a prefix: nobody gives to itself, and nobody whose AS stands in the path
 -- is given it.

@@ -2,12 +2,13 @@
 
 ghost use Rattle.std.specs.Prelude.{◌≡◌, IfOk};
 
-use crate::address::{Ip, Pid, Tag};
+use crate::actions::Actions;
+use crate::address::Pid;
 use crate::list::Items;
 use crate::memory::Memory;
 use crate::prefix::Prefix;
 use crate::route::{Attrs, Offer, Part, Segment, Unknown};
-use crate::rule::{Action, Rule};
+use crate::rule::Rule;
 use crate::update::Update;
 
 /// A value of which an equal one can be made.
@@ -40,8 +41,8 @@ impl TryCopy for Offer {
     }
 }
 
-impl TryCopy for Action {
-    fn copy(&self) -> Result<Action, Memory> {
+impl TryCopy for Pid {
+    fn copy(&self) -> Result<Pid, Memory> {
         Ok(*self)
     }
 }
@@ -103,6 +104,12 @@ impl TryCopy for Part {
             best: self.best,
             offers: self.offers.copy()?,
         })
+    }
+}
+
+impl TryCopy for Actions {
+    fn copy(&self) -> Result<Actions, Memory> {
+        self.twin()
     }
 }
 

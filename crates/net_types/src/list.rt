@@ -7,7 +7,7 @@ use crate::export::ExportRule;
 use crate::memory::Memory;
 use crate::prefix::Prefix;
 use crate::route::{Offer, Part, Segment, Unknown};
-use crate::rule::{Action, Pair};
+use crate::rule::Pair;
 use std::alloc::Global;
 use std::marker::Model;
 
@@ -112,8 +112,6 @@ pub type Offers = Items<Offer>;
 
 /// A signature: a part for each participant that has a best route, in order of declaration.
 pub type Sig = Items<Part>;
-
-pub type Actions = Items<Action>;
 
 /// A participant's export rules, in their order.
 pub type ExportRules = Items<ExportRule>;

@@ -1,22 +1,14 @@
 //! Rules of the table: what is done with the packets of a cube.
 
+use crate::actions::Actions;
 use crate::address::{PortNo, Tag};
 use crate::cube::Cube;
-use crate::headers::Assign;
-use crate::list::Actions;
 
 /// A port of the exchange and a tag: what a block of rules is kept for.
 #[derive(Clone, Copy, Debug, PartialEq, Eq, PartialOrd, Ord, Hash)]
 pub struct Pair {
     pub port: PortNo,
     pub tag: Tag,
-}
-
-/// Fields are set, and the packet leaves by the port.
-#[derive(Clone, Copy, Debug, PartialEq, Eq)]
-pub struct Action {
-    pub port: PortNo,
-    pub set: Assign,
 }
 
 /// What is done with the packets whose headers lie in a cube.

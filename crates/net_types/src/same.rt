@@ -61,7 +61,8 @@ impl Same for Offer {
     ghost same = { same_offer };
 
     fn same(&self, other: &Offer) -> bool {
-        self.exporter.0 == other.exporter.0 && self.port.0 == other.port.0
+        let holes = same_bool(self.hole, other.hole);
+        self.exporter.0 == other.exporter.0 && (self.port.0 == other.port.0 && holes)
     }
 }
 

@@ -5,7 +5,7 @@ use Rattle.std.specs.Str.{bytes_eq}
 use Rattle.std.proofs.lemmas.List.{take_rest}
 use Rattle.std.proofs.lemmas.Bool.{cond-false, ne_eqb}
 use Rattle.net_types.specs.declared.prefix.Prefix.{Prefix}
-use Rattle.net_types.specs.declared.rule.Action.{Action}
+use Rattle.net_types.specs.declared.actions.Action.{Action}
 use Rattle.replay_text.specs.Fields.{led, next_lead, more_text}
 
 after_comma : (xs : List (List ℕ)) → next_lead (codes ",") xs ≡ codes ","

@@ -1,6 +1,6 @@
 -- Fields that are written one after the other.
 use Rattle.std.specs.Prelude.{ℕ, List, [], ◌∷◌, ◌++◌, codes, flat_map}
-use Rattle.net_types.specs.declared.rule.Action.{Action}
+use Rattle.net_types.specs.declared.actions.Action.{Action}
 use Rattle.net_types.specs.declared.headers.Assign.{Assign}
 use Rattle.net_types.specs.declared.cube.Cube.{Cube}
 use Rattle.events.specs.declared.Flow.{Flow}

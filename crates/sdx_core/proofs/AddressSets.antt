@@ -12,7 +12,7 @@ use Rattle.std.proofs.lemmas.Bool.{cases_lt, eq-eqb, eqb-true, false≢true, fal
 use Rattle.std.proofs.lemmas.Cmp.{on_total, tied_itself}
 use Rattle.std.proofs.lemmas.List.{append_assoc}
 use Rattle.std.proofs.lemmas.List.Sorted.{IsPermutation-insert, IsPermutation-sym, IsPermutation-to_front, IsPermutation-trans, searchable_from_sorted}
-use Rattle.events.proofs.OrderedLemmas.{ordered_is, ordered_rises, ordered_same}
+use Rattle.net_types.proofs.OrderedLemmas.{ordered_is, ordered_rises, ordered_same}
 use Rattle.net_types.specs.Attributes.{same_ip}
 use Rattle.net_types.specs.Keys.{ip_cmp}
 use Rattle.net_types.specs.Maps.{ordered}

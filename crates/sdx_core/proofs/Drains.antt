@@ -5,7 +5,7 @@ use Rattle.std.proofs.Common.{◌≡◌, ℕ, ◌+◌, ◌<◌, Bool, true, fals
 use Rattle.std.specs.Prelude.{None}
 use Rattle.std.specs.FinMap.{FinMap, get, remove, same_map, values}
 use Rattle.advert_queue.specs.Telling.{tags_of}
-use Rattle.events.proofs.OrderedLemmas.{ordered_rises}
+use Rattle.net_types.proofs.OrderedLemmas.{ordered_rises}
 use Rattle.events.proofs.Reached.{declared_pid}
 use Rattle.events.specs.After.{next, without_pairs}
 use Rattle.events.specs.Fits.{IsAccepted, IsStep, IsTaken, adverts, bare}

@@ -22,7 +22,7 @@ use Rattle.events.specs.declared.Head.TheVariants.{Fine, Refused, Silent}
 use Rattle.events.specs.declared.Phase.TheVariants.{Running}
 use Rattle.events.specs.declared.Refusal.TheVariants.{Unknown}
 use Rattle.events.specs.declared.Reply.{Reply}
-use Rattle.events.proofs.OrderedLemmas.{ordered_is, ordered_rises, ordered_same}
+use Rattle.net_types.proofs.OrderedLemmas.{ordered_is, ordered_rises, ordered_same}
 use Rattle.net_types.specs.Arp.{asked_ip, asker_ip, asker_mac}
 use Rattle.net_types.specs.Attributes.{same_ip}
 use Rattle.net_types.specs.Keys.{ip_cmp, prefix_cmp, tag_cmp}

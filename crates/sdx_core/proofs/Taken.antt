@@ -5,7 +5,7 @@ use Rattle.std.specs.FinMap.{FinMap, empty}
 use Rattle.std.specs.List.{list_any}
 use Rattle.std.proofs.lemmas.Bool.{eqb-true, false_from_ne_true, or_cases, or_left, or_parts, or_right}
 use Rattle.events.proofs.Drains.{get_set}
-use Rattle.events.proofs.OrderedLemmas.{any_member, member_any, ordered_rises, ordered_same}
+use Rattle.net_types.proofs.OrderedLemmas.{any_member, member_any, ordered_rises, ordered_same}
 use Rattle.events.specs.State.{State, port_of, present, told_to}
 use Rattle.events.specs.Tags.{is_live, is_live_pair, tells}
 use Rattle.events.specs.declared.Entry.{Entry}

@@ -13,7 +13,7 @@ use Rattle.std.specs.declared.cmp.Ordering.TheVariants.{Less, Equal, Greater}
 use Rattle.std.proofs.lemmas.Cmp.{eq_by_cmp_equiv, on_total, then_total}
 use Rattle.std.proofs.lemmas.List.Kept.{Contains-dedup, Contains-from_dedup, IsStrictlySortedBy-dedup}
 use Rattle.std.proofs.lemmas.List.Sorted.{IsPermutation-sym}
-use Rattle.events.proofs.OrderedLemmas.{ordered_is, ordered_same, ordered_rises}
+use Rattle.net_types.proofs.OrderedLemmas.{ordered_is, ordered_same, ordered_rises}
 use Rattle.net_types.proofs.MemberLemmas.{Contains-Member, Member-at, Member-permutation}
 use Rattle.net_types.proofs.RisingLemmas.{before}
 use Rattle.net_types.proofs.TieLemmas.{same_from_tie}
@@ -21,8 +21,9 @@ use Rattle.net_types.specs.Maps.{ordered}
 use Rattle.net_types.specs.Sets.{IsRising, Member, SameMembers}
 use Rattle.net_types.specs.declared.address.Ip.{Ip}
 use Rattle.net_types.specs.declared.headers.Assign.{Assign}
-use Rattle.net_types.specs.declared.rule.Action.{Action}
-use Rattle.block_build.specs.Rules.{ip_cmp, assign_cmp, action_cmp}
+use Rattle.net_types.specs.declared.actions.Action.{Action}
+use Rattle.net_types.specs.Actions.{action_cmp, assign_cmp}
+use Rattle.net_types.specs.Keys.{ip_cmp}
 
 -- ---- sorted lists without repeats
 

@@ -1,0 +1,105 @@
+//! The actions of a rule.
+
+ghost use Rattle.std.specs.Prelude.{◌≡◌, [], IfOk, OnOk, OnErr, List};
+ghost use Rattle.net_types.specs.Actions.{action_cmp, assign_cmp, with_action};
+ghost use Rattle.net_types.specs.Maps.{ordered};
+
+use crate::address::PortNo;
+use crate::headers::Assign;
+use crate::memory::Memory;
+use std::alloc::Global;
+use std::cmp::Ordering;
+use std::marker::Model;
+
+/// Fields are set, and the packet leaves by the port.
+#[derive(Clone, Copy, Debug, PartialEq, Eq)]
+pub struct Action {
+    pub port: PortNo,
+    pub set: Assign,
+}
+
+/// The actions of a rule: each once, by port and then by srcip, dstip, srcport and dstport, where an absent field comes
+/// before a present one.
+#[derive(Drop)]
+pub struct Actions {
+    items: Vec<Action>,
+}
+
+impl Model for Actions {
+    ghost Value = { List Action };
+
+    ghost view = { λ a. a.items.items };
+}
+
+/// By srcip, dstip, srcport and dstport, an absent field before a present one.
+fn order_sets(a: &Assign, b: &Assign) -> Ordering
+    ensures { result ≡ assign_cmp a.now b.now }
+{
+    let ports = a.sport.cmp(&b.sport).then(a.dport.cmp(&b.dport));
+    let targets = a.dst.cmp(&b.dst).then(ports);
+    a.src.cmp(&b.src).then(targets)
+}
+
+/// By port, and then by what they set.
+fn order(a: &Action, b: &Action) -> Ordering
+    ensures { result ≡ action_cmp a.now b.now }
+{
+    let sets = order_sets(&a.set, &b.set);
+    a.port.0.cmp(&b.port.0).then(sets)
+}
+
+/// Puts actions in order, each once.
+fn put_in_order(actions: &mut Vec<Action>)
+    ensures { actions.new.items ≡ ordered action_cmp actions.old.items }
+{
+    actions.sort_unstable_by(|a, b| order(a, b));
+    actions.dedup_by(|a, b| order(a, b).is_eq());
+}
+
+impl Actions {
+    /// No action: what has them is discarded.
+    pub fn new(alloc: Global) -> Actions
+        ensures { result ≡ [] }
+    {
+        Actions {
+            items: Vec::new(alloc),
+        }
+    }
+
+    /// The actions that are in a vector, in order, each once.
+    pub fn from_vec(mut items: Vec<Action>) -> Actions
+        ensures { result ≡ ordered action_cmp items.items }
+    {
+        put_in_order(&mut items);
+        Actions { items }
+    }
+
+    /// The actions in order.
+    pub fn items(&self) -> &[Action]
+        ensures { result.now ≡ self.now }
+    {
+        self.items.as_slice()
+    }
+
+    /// Puts an action in at its place; one that is there already isn't put in again. After want of memory nothing is
+    /// changed.
+    pub fn push(&mut self, action: Action) -> Result<(), Memory>
+        ensures ok { OnOk result (self.new ≡ with_action self.old action) }
+        ensures err { OnErr result (self.new ≡ self.old) }
+    {
+        self.items.push(action)?;
+        put_in_order(&mut self.items);
+        Ok(())
+    }
+
+    /// Equal actions.
+    pub(crate) fn twin(&self) -> Result<Actions, Memory>
+        ensures { IfOk result (λ twin. twin ≡ self.now) }
+    {
+        let mut items = Vec::new(*self.items.allocator());
+        for action in self.items.as_slice() {
+            items.push(*action)?;
+        }
+        Ok(Actions { items })
+    }
+}
