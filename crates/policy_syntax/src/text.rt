@@ -3,7 +3,7 @@
 ghost use Rattle.std.specs.Prelude.{◌≡◌, ◌<◌, ◌≤◌, length, IfOk, IfErr};
 ghost use Rattle.grammar.specs.Texts.{IsText, read_whole};
 ghost use Rattle.net_types.specs.PolicyGrammar.{policy};
-ghost use Rattle.policy_syntax.specs.PolicyReading.{read_start};
+ghost use Rattle.net_types.specs.PolicyReading.{read_start};
 ghost use Rattle.policy_syntax.specs.Answers.{Gives, IsCause, FindsText};
 ghost use Rattle.policy_syntax.specs.ReadsBack.{EachPart, ReadsBack};
 ghost use Rattle.policy_syntax.specs.Views.{policy_of};
