@@ -20,11 +20,11 @@ use Rattle.net_types.proofs.WidthLemmas.{no_longer}
 
 Differ-filter : {A : Type 0} (keep : A → Bool) (xs : List A) → Differ xs → Differ (filter keep xs)
 Differ-filter keep [] d = d
-Differ-filter keep (x ∷ xs) d = by (keep x)
+Differ-filter keep (x ∷ xs) d = by (keep x) (Differ-filter keep xs d.1)
   where
-    by : (b : Bool) → Differ (cond b (x ∷ filter keep xs) (filter keep xs))
-    by true = (λ m. d.0 (filter-Member keep xs x m).stands, Differ-filter keep xs d.1)
-    by false = Differ-filter keep xs d.1
+    by : (b : Bool) → Differ (filter keep xs) → Differ (cond b (x ∷ filter keep xs) (filter keep xs))
+    by true rest = (λ m. d.0 (filter-Member keep xs x m).stands, rest)
+    by false rest = rest
 
 module _ {A : Type 0} (same : A → A → Bool) (test : IsEqualityTest same) where
   once-Member : (xs : List A) (y : A) → Member y (each_once same xs) → Member y xs
