@@ -2,13 +2,12 @@
 use Rattle.std.specs.Prelude.{◌≡◌, ◌<◌, ◌≤◌, true, false, List, [], ◌∷◌, length, Option, Some, None, is_some, if◌then◌else◌}
 use Rattle.std.specs.FinMap.{FinMap, get}
 use Rattle.std.specs.Option.{option_map}
-use Rattle.events.specs.Refusals.{pairs}
 use Rattle.events.specs.Sound.{IsRight, IsSound, owners_part, rule_count}
 use Rattle.events.specs.State.{State, ArePolicies}
-use Rattle.events.specs.Tags.{is_live_pair, retagged}
+use Rattle.events.specs.Tags.{is_live_pair, pairs, retagged}
 use Rattle.exchange_laws.specs.Fresh.{HasEnoughTags}
 use Rattle.exchange_laws.specs.Retagging.{TagsArePooled}
-use Rattle.net_types.specs.Answers.{Policies, offered_port}
+use Rattle.net_types.specs.Answers.{Policies, offered_hole, offered_port}
 use Rattle.net_types.specs.Cubes.{everything}
 use Rattle.net_types.specs.Exports.{Routing}
 use Rattle.net_types.specs.Headers.{no_change}
@@ -25,9 +24,17 @@ use Rattle.net_types.specs.declared.rule.Rule.{Rule}
 abbrev pub rule_to : PortNo → Rule
 rule_to q = record { cube = everything; actions = record { port = q; set = no_change } ∷ [] }
 
--- where all policies drop, everything leaves by the port of the best offer
+-- everything is discarded
+abbrev pub discarding : Rule
+discarding = record { cube = everything; actions = [] }
+
+-- where all policies drop, everything leaves by the port of the best offer, or is discarded where that is a hole
+abbrev pub default_rule : Part → Rule
+default_rule part = if offered_hole part.offers part.best then discarding else rule_to (offered_port part.offers part.best)
+
+-- that rule alone
 abbrev pub default_rules : Part → List Rule
-default_rules part = rule_to (offered_port part.offers part.best) ∷ []
+default_rules part = default_rule part ∷ []
 
 -- a pair that was live keeps its rules, and one that wasn't gets those of its owner's part
 abbrev pub rules_after : State → State → Pair → Option (List Rule)
@@ -69,7 +76,7 @@ RulesAreThose =
 pub record IsTableAfter (s s1 : State) (table : FinMap pair_cmp (List Rule)) : Type 0 where
   pub pairs : (pair : Pair) → is_some (get table pair) ≡ is_live_pair s1 pair
   pub old : (pair : Pair) (rules : List Rule) → is_live_pair s pair ≡ true → get table pair ≡ Some rules → get s.table pair ≡ Some rules
-  pub new : (ps : Policies) → ArePolicies s ps → (pair : Pair) (rules : List Rule) → is_live_pair s pair ≡ false → get table pair ≡ Some rules
+  pub new : (ps : Policies) → ArePolicies s1 ps → (pair : Pair) (rules : List Rule) → is_live_pair s pair ≡ false → get table pair ≡ Some rules
       → (part : Part) × (owners_part s1 pair ≡ Some part) × IsRight ps part pair.port rules
 
 -- with any such table whose rules fit, the state is sound, whatever the policies

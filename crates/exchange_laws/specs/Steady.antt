@@ -1,10 +1,11 @@
 -- What holds of the state between any two lines (this exchange's own rule).
-use Rattle.std.specs.Prelude.{◌≡◌, ℕ, ◌+◌, ◌≤◌, ◌<◌, Bool, List, codes, length, map, slice_get, Some}
+use Rattle.std.specs.Prelude.{◌≡◌, ℕ, ◌+◌, ◌≤◌, ◌<◌, Bool, List, [], codes, length, map, slice_get, Some, None}
 use Rattle.std.specs.FinMap.{FinMap, empty}
 use Rattle.std.specs.Option.{option_map}
 use Rattle.std.specs.Ordering.{is_lt}
 use Rattle.events.specs.After.{next}
-use Rattle.events.specs.Fits.{Fits, IsWellFormed}
+use Rattle.events.specs.Forms.{IsWellFormed}
+use Rattle.events.specs.Fits.{Fits}
 use Rattle.events.specs.Legal.{Legal, state_after}
 use Rattle.events.specs.Sound.{IsSound}
 use Rattle.events.specs.State.{State, first, port_of}
@@ -43,10 +44,11 @@ pub record PortsDiffer (ports : List PortInfo) : Type 0 where
 abbrev pub PortsAreNumbered : List PortInfo → Type 0
 PortsAreNumbered ports = (q : PortInfo) → Member q ports → (1 ≤ q.number.0) × (q.number.0 ≤ 65279)
 
--- each participant's policies are the text `drop`
+-- each participant's policies are the text `drop`, which names nobody
 pub record AllDrop (s : State) : Type 0 where
   pub outbound : s.outbound ≡ map (λ m. codes "drop") s.routing.participants
   pub inbound : s.inbound ≡ map (λ m. codes "drop") s.routing.participants
+  pub named : s.routing.named ≡ map (λ m. []) s.routing.participants
 
 -- the pool and the table are as large as a line may say, and at the start there is no pool
 pub record IsSized (s : State) : Type 0 where
@@ -69,7 +71,7 @@ pub record IsNew (s : State) : Type 0 where
 
 -- The state is sound. The live tags are the pool's, and exactly they are kept. Each port, each route and each map of what
 -- was told is a declared participant's, ports differ, and each NEXT_HOP is at a port of its route's participant. The lists
--- are as long as what is declared, all policies drop, and nothing is there before the exchange runs.
+-- are as long as what is declared, all policies drop, no job runs, and nothing is there before the exchange runs.
 pub record IsSteady (s : State) : Type 0 where
   pub sound : IsSound s
   pub pooled : TagsArePooled s
@@ -86,6 +88,7 @@ pub record IsSteady (s : State) : Type 0 where
   pub rising : (ips : List Ip) → Member ips s.resolved → IsRising is_ip_before ips
   pub few : length s.routing.participants ≤ 256
   pub drop : AllDrop s
+  pub idle : s.owed ≡ None
   pub sized : IsSized s
   pub new : (s.phase ≡ Running → ⊥) → IsNew s
 
