@@ -16,4 +16,4 @@ mod width;
 mod widths;
 
 pub use policies::compile;
-pub use width::{count_meets, too_wide};
+pub use width::{count_meets, too_wide, width_is_tested};
