@@ -164,7 +164,7 @@ module _ (s : State) (r : Routing) (names : Registered) (classes : Classes) (poo
 
           -- the rules of the table then
           pub rules_are : rule_count (with_rules s s1) + length (gone_pairs names classes.kept was_told es) ≡ rule_count s + length (new_flows names (map (λ (f : Fresh). f.sig) fs) ts)
-          rules_are = rules_then_counted s r change (gone_pairs names classes.kept was_told es) (new_flows names (map (λ (f : Fresh). f.sig) fs) ts) gone_are new_are (steady_have_one_each s asked.steady)
+          rules_are = rules_then_counted s r change asked.steady.drop (gone_pairs names classes.kept was_told es) (new_flows names (map (λ (f : Fresh). f.sig) fs) ts) gone_are new_are (steady_have_one_each s asked.steady)
 
     -- a draft, where there are tags enough
     module _ (room : length fs ≤ length (free_tags pool)) (plan : Plan) (draft : IsDraft names classes pool was_told p fs plan) where
