@@ -63,7 +63,7 @@ module _ (names : Registered) (v w : Served) (p : Prefix) (named : v.named ≡ w
   cands : (to : Pid) → candidates (routing names v) to p ≡ candidates (routing names w) to p
   cands to = filter_map_alike (given (routing names v) to p) (given (routing names w) to p) (same to) (pids (routing names v))
 
-  part_by : List (List Pid) → Pid → List Candidate → Option Part
+  abbrev part_by : List (List Pid) → Pid → List Candidate → Option Part
   part_by lists to cs = option_map (λ (c : Candidate). record { sender = to; best = c.from; offers = map (offer (routing names v)) (filter (λ (g : Candidate). counts (names_at lists to.0) c.from g.from) cs) }) (best_of cs)
 
   parts : (to : Pid) → part (routing names v) p to ≡ part (routing names w) p to

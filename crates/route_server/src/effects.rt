@@ -30,7 +30,7 @@ fn bests_in(
     prefix: Prefix,
 ) -> Result<Vec<Option<usize>>, Memory>
     requires short { length row.now ≤ 256 }
-    ensures { IfOk result (λ bests. map (place_attrs row.now) bests.items ≡ map (best_by_row (settled_by terms) prefix row.now) (pids (settled_by terms))) }
+    ensures { IfOk result (λ bests. map (place_attrs row.now) bests.items ≡ map (best_by_row (settled_by terms.entry) prefix row.now) (pids (settled_by terms.entry))) }
 {
     let mut bests = Vec::new(alloc);
     let count = terms.names.participants().len() as u32;
@@ -52,7 +52,7 @@ fn same_best(
 ) -> bool
     requires old_short { length old.now ≤ 256 }
     requires new_short { length new.now ≤ 256 }
-    ensures { result ≡ same_option same_attrs (best_by_row (settled_by before) prefix old.now to) (best_by_row (settled_by after) prefix new.now to) }
+    ensures { result ≡ same_option same_attrs (best_by_row (settled_by before.entry) prefix old.now to) (best_by_row (settled_by after.entry) prefix new.now to) }
 {
     let earlier = best_attrs_in(before, old, to, prefix);
     let now = best_attrs_in(after, new, to, prefix);
@@ -69,7 +69,7 @@ fn same_bests(
 ) -> bool
     requires old_short { length old.now ≤ 256 }
     requires new_short { length new.now ≤ 256 }
-    ensures { result ≡ list_all (λ to. same_option same_attrs (best_by_row (settled_by before) prefix old.now to) (best_by_row (settled_by after) prefix new.now to)) (pids (settled_by before)) }
+    ensures { result ≡ list_all (λ to. same_option same_attrs (best_by_row (settled_by before.entry) prefix old.now to) (best_by_row (settled_by after.entry) prefix new.now to)) (pids (settled_by before.entry)) }
 {
     let count = before.names.participants().len() as u32;
     for number in 0..count {
@@ -97,7 +97,7 @@ fn effect_of(
 ) -> Result<Option<Effect>, Memory>
     requires old_short { length old.now ≤ 256 }
     requires new_short { length change.now.row ≤ 256 }
-    ensures { IfOk result (λ effect. IsEffectOf (settled_by before) (settled_by after) old.now change.now at effect) }
+    ensures { IfOk result (λ effect. IsEffectOf (settled_by before.entry) (settled_by after.entry) old.now change.now at effect) }
 {
     let prefix = change.prefix;
     let row = change.row.items();

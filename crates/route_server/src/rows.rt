@@ -62,7 +62,7 @@ pub fn asn_of(names: &Registry, who: Pid) -> u32
 
 /// What the choice looks at.
 fn seen_of(terms: Terms<'_>, held: &Held) -> Candidate
-    ensures { result ≡ seen (candidate (settled_by terms) held.now.from held.now.attrs) }
+    ensures { result ≡ seen (candidate (settled_by terms.entry) held.now.from held.now.attrs) }
 {
     let (asn, id) = match terms.names.participant(held.from) {
         Some(participant) => (participant.asn, participant.id),
@@ -84,7 +84,7 @@ fn seen_of(terms: Terms<'_>, held: &Held) -> Candidate
 
 /// Whether a route is given to a participant.
 pub fn is_given(terms: Terms<'_>, held: &Held, to: Pid, prefix: Prefix) -> bool
-    ensures { result ≡ is_given (settled_by terms) held.now.from to prefix held.now.attrs }
+    ensures { result ≡ is_given (settled_by terms.entry) held.now.from to prefix held.now.attrs }
 {
     held.from.0 != to.0
         && !is_in_path(asn_of(terms.names, to), held.attrs.path.items())
@@ -95,7 +95,7 @@ pub fn is_given(terms: Terms<'_>, held: &Held, to: Pid, prefix: Prefix) -> bool
 /// is put into an array that is as long as a row can be.
 pub fn best_in(terms: Terms<'_>, row: &[Held], to: Pid, prefix: Prefix) -> Option<usize>
     requires short { length row.now ≤ 256 }
-    ensures best { option_and_then (held_at (settled_by terms) row.now) result ≡ best_of (offered (settled_by terms) to prefix row.now) }
+    ensures best { option_and_then (held_at (settled_by terms.entry) row.now) result ≡ best_of (offered (settled_by terms.entry) to prefix row.now) }
     ensures within { IfSome result (λ i. i < length row.now) }
 {
     let mut seen = [NOTHING; MOST];
@@ -120,7 +120,7 @@ pub fn best_attrs_in<'a>(
     prefix: Prefix,
 ) -> Option<&'a Attrs>
     requires short { length row.now ≤ 256 }
-    ensures { option_copied result ≡ option_map (λ (c : definition.Candidate). c.attrs) (best_of (offered (settled_by terms) to prefix row.now)) }
+    ensures { option_copied result ≡ option_map (λ (c : definition.Candidate). c.attrs) (best_of (offered (settled_by terms.entry) to prefix row.now)) }
 {
     let place = best_in(terms, row, to, prefix)?;
     Some(&row[place].attrs)

@@ -22,7 +22,11 @@ const BLACKHOLE: u32 = 4294902426;
 fn is_hole(attrs: &Attrs) -> bool
     ensures { result ≡ is_hole attrs.now }
 {
-    attrs.communities.items().iter().any(|community| BLACKHOLE == *community)
+    attrs
+        .communities
+        .items()
+        .iter()
+        .any(|community| BLACKHOLE == *community)
 }
 
 /// The port that has an address.
@@ -45,16 +49,22 @@ fn names_at(named: &[Pids], who: Pid) -> &[Pid]
     }
 }
 
+fn is_named(named: &[Pid], who: Pid) -> bool
+    ensures { result ≡ list_any (λ (other : Pid). nat_eq other.0 who.0) named.now }
+{
+    named.iter().any(|other| other.0 == who.0)
+}
+
 /// Whether an exporter is the best one or is named.
 fn counts(named: &[Pid], chosen: Pid, who: Pid) -> bool
     ensures { result ≡ counts named.now chosen who }
 {
-    who.0 == chosen.0 || named.iter().any(|other| other.0 == who.0)
+    who.0 == chosen.0 || is_named(named, who)
 }
 
 /// Whether a route is given to a sender and counts for it.
 fn is_offered(terms: Terms<'_>, held: &Held, to: Pid, chosen: Pid, prefix: Prefix) -> bool
-    ensures { result ≡ (counts (names_at terms.named.now to.0) chosen held.now.from && is_given (settled_by terms) held.now.from to prefix held.now.attrs) }
+    ensures { result ≡ (counts (names_at terms.entry.named.now to.0) chosen held.now.from && is_given (settled_by terms.entry) held.now.from to prefix held.now.attrs) }
 {
     counts(names_at(terms.named, to), chosen, held.from) && is_given(terms, held, to, prefix)
 }
@@ -69,7 +79,7 @@ fn offers_in(
     chosen: Pid,
     prefix: Prefix,
 ) -> Result<Offers, Memory>
-    ensures { IfOk result (λ offers. offers ≡ map (offer (settled_by terms)) (counted (settled_by terms) to chosen (offered (settled_by terms) to prefix row.now))) }
+    ensures { IfOk result (λ offers. offers ≡ map (offer (settled_by terms.entry)) (counted (settled_by terms.entry) to chosen (offered (settled_by terms.entry) to prefix row.now))) }
 {
     let mut offers = Offers::new(alloc);
     for held in row {
@@ -93,7 +103,7 @@ fn part_in(
     prefix: Prefix,
 ) -> Result<Option<Part>, Memory>
     requires short { length row.now ≤ 256 }
-    ensures { IfOk result (λ part. part ≡ part_of (settled_by terms) to (offered (settled_by terms) to prefix row.now)) }
+    ensures { IfOk result (λ part. part ≡ part_of (settled_by terms.entry) to (offered (settled_by terms.entry) to prefix row.now)) }
 {
     match best_in(terms, row, to, prefix) {
         None => Ok(None),
@@ -117,7 +127,7 @@ pub fn signature_in(
     prefix: Prefix,
 ) -> Result<Sig, Memory>
     requires short { length row.now ≤ 256 }
-    ensures { IfOk result (λ sig. sig ≡ signature_of (settled_by terms) prefix row.now) }
+    ensures { IfOk result (λ sig. sig ≡ signature_of (settled_by terms.entry) prefix row.now) }
 {
     let mut sig = Sig::new(alloc);
     let count = terms.names.participants().len() as u32;
