@@ -6,7 +6,8 @@ use Rattle.std.specs.FinMap.Entries.{is_sorted}
 use Rattle.std.specs.List.{list_any}
 use Rattle.std.specs.Ordering.{eq_by_cmp}
 use Rattle.net_types.proofs.OrderedLemmas.{any_member, member_any, ordered_is, ordered_rises, ordered_same}
-use Rattle.events.specs.Fits.{advert, adverts as adverts_of, same_entry}
+use Rattle.events.specs.Pending.{same_entry}
+use Rattle.events.specs.Fits.{advert, adverts as adverts_of}
 use Rattle.events.specs.State.{State, told_to, present as present_of}
 use Rattle.net_types.specs.declared.address.Pid.{Pid}
 use Rattle.events.specs.declared.Entry.{Entry}

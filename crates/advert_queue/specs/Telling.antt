@@ -1,7 +1,7 @@
 -- What is told: the tags in it, and what is pending (this exchange's own rule).
 use Rattle.std.specs.Prelude.{ℕ, ◌+◌, Bool, not, List, ◌++◌, map, filter, Option, Some, None, is_none}
 use Rattle.std.specs.FinMap.{FinMap, get, keys, values}
-use Rattle.events.specs.Fits.{same_entry}
+use Rattle.events.specs.Pending.{same_entry}
 use Rattle.events.specs.declared.Entry.{Entry}
 use Rattle.net_types.specs.Attributes.{same_option}
 use Rattle.net_types.specs.Keys.{prefix_cmp, tag_cmp}

@@ -2,7 +2,7 @@
 
 ghost use Rattle.std.specs.Prelude.{◌≡◌, ◌≤◌, ◌++◌, Some, IfOk, IfSome, OnOk, map, filter, option_copied};
 ghost use Rattle.std.specs.FinMap as map;
-ghost use Rattle.events.specs.Fits.{same_entry};
+ghost use Rattle.events.specs.Pending.{same_entry};
 ghost use Rattle.net_types.specs.Attributes.{same_option};
 ghost use Rattle.net_types.specs.declared.prefix.Prefix.{Prefix as AnyPrefix};
 ghost use Rattle.advert_queue.specs.Telling.{advert_with, adverts, entry_key, is_new_in, is_other_in, pending};

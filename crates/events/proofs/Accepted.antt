@@ -3,7 +3,7 @@ use Rattle.std.proofs.Common.{◌≤◌, Bool, true, false, subst, arith, sum_by
 use Rattle.events.specs.After.{after}
 use Rattle.events.specs.Fits.{FitsBy, IsAccepted, Passes, cells, is_building}
 use Rattle.events.specs.Headline.{AcceptsLines, HasRoom}
-use Rattle.events.specs.Refusals.{live_pairs}
+use Rattle.events.specs.Tags.{live_pairs}
 use Rattle.events.specs.State.{State}
 use Rattle.events.specs.declared.Event.{Event}
 use Rattle.events.specs.declared.Reply.{Reply}

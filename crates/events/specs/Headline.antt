@@ -4,7 +4,8 @@ use Rattle.std.specs.FinMap.{get, keys}
 use Rattle.events.specs.After.{after, next}
 use Rattle.events.specs.Fits.{Fits, IsAccepted, bare, cells, destination, tagged_frame, ReachesExporters}
 use Rattle.events.specs.Legal.{Legal, state_after}
-use Rattle.events.specs.Refusals.{live_pairs, refusal}
+use Rattle.events.specs.Tags.{live_pairs}
+use Rattle.events.specs.Refusals.{refusal}
 use Rattle.events.specs.Resolving.{is_resolved, tag_address}
 use Rattle.events.specs.Sound.{IsSound}
 use Rattle.events.specs.State.{State, Entry, ArePolicies, IsDrained, port_of, told_to}
@@ -66,7 +67,7 @@ AnswersTold =
 
 -- the table has room for all that the live pairs after a line may want
 abbrev pub HasRoom : State → Event → Type 0
-HasRoom s e = (ps : Policies) × ArePolicies s ps × (sum_by (cells ps (after s e)) (live_pairs (after s e)) ≤ s.capacity)
+HasRoom s e = (ps : Policies) × ArePolicies (after s e) ps × (sum_by (cells ps (after s e)) (live_pairs (after s e)) ≤ s.capacity)
 
 -- in any state, a line that no refusal stops and for which the table has room is accepted
 abbrev pub AcceptsLines : Type 0

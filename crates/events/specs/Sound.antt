@@ -1,8 +1,11 @@
 -- When the rules of a pair are right and tight, and when a state is sound (this exchange's own rule).
-use Rattle.std.specs.Prelude.{◌≡◌, ℕ, ◌≤◌, false, nat_eq, List, [], ◌∷◌, length, map, find, Option, Some, is_some, sum_by}
+use Rattle.std.specs.Prelude.{◌≡◌, ℕ, ◌≤◌, Bool, false, ◌&&◌, nat_eq, List, [], ◌∷◌, length, map, find, Option, Some, is_some, sum_by}
+use Rattle.std.specs.Cmp.Lexicographic.{pointwise}
 use Rattle.std.specs.FinMap.{get, values}
 use Rattle.std.specs.Option.{option_and_then}
-use Rattle.net_types.specs.Answers.{Policies, part_answer}
+use Rattle.std.specs.Ordering.{eq_by_cmp}
+use Rattle.net_types.specs.Actions.{AreInOrder, action_cmp}
+use Rattle.net_types.specs.Answers.{Leaving, Policies, part_answer}
 use Rattle.net_types.specs.Cells.{cell_atoms}
 use Rattle.net_types.specs.Cubes.{lies_within_cube}
 use Rattle.net_types.specs.Headers.{IsValid}
@@ -32,17 +35,27 @@ HasNoRepeats {X} (x ∷ xs) = (Member x xs → ⊥) × HasNoRepeats xs
 abbrev pub cubes_of : List Rule → List Cube
 cubes_of rules = map (λ (rule : Rule). rule.cube) rules
 
--- For all headers at the port some rule has them, and the first one that has them gives what the part gives. The cubes
--- differ, and each is a meet of the atoms that the sender and the receivers have.
-pub record IsRight (ps : Policies) (part : Part) (port : PortNo) (rules : List Rule) : Type 0 where
-  pub gives : (h : Headers) → IsValid h → h.inport ≡ port → (rule : Rule) × (first_rule rules h ≡ Some rule) × SameMembers (map (done_by h) rule.actions) (part_answer ps part h)
+-- For all headers at the port some rule has them, and the first one that has them gives this answer. The cubes differ, and
+-- each is a meet of the atoms. The actions of each rule stand in order, each once.
+pub record IsRightBy (port : PortNo) (answer : Headers → List Leaving) (atoms : List Cube) (rules : List Rule) : Type 0 where
+  pub gives : (h : Headers) → IsValid h → h.inport ≡ port → (rule : Rule) × (first_rule rules h ≡ Some rule) × SameMembers (map (done_by h) rule.actions) (answer h)
   pub differ : HasNoRepeats (cubes_of rules)
-  pub meets : (c : Cube) → Member c (cubes_of rules) → IsMeet (cell_atoms ps port part) c
+  pub meets : (c : Cube) → Member c (cubes_of rules) → IsMeet atoms c
+  pub ordered : (rule : Rule) → Member rule rules → AreInOrder rule.actions
+
+-- The rules are right for a part: they give what the part gives, with the atoms that the sender and the receivers have. A
+-- pair without atoms has exactly one rule, of the cube of everything.
+abbrev pub IsRight : Policies → Part → PortNo → List Rule → Type 0
+IsRight ps part port rules = IsRightBy port (part_answer ps part) (cell_atoms ps port part) rules
 
 -- no rule's cube lies within an earlier one's
 abbrev pub IsTight : List Rule → Type 0
 IsTight [] = Unit {0}
 IsTight (rule ∷ rules) = ((later : Rule) → Member later rules → lies_within_cube later.cube rule.cube ≡ false) × IsTight rules
+
+-- the same cube, and the same actions in order
+abbrev pub same_rule : Rule → Rule → Bool
+same_rule a b = lies_within_cube a.cube b.cube && lies_within_cube b.cube a.cube && pointwise (eq_by_cmp action_cmp) a.actions b.actions
 
 -- a sender's part of a signature
 abbrev pub part_of : List Part → Pid → Option Part

@@ -1,13 +1,14 @@
 -- Which tags are live, and which tags the prefixes have after a line that changes the routes (this exchange's own rule).
-use Rattle.std.specs.Prelude.{Bool, false, ◌&&◌, ◌||◌, not, nat_eq, List, [], ◌∷◌, map, filter, slice_get, find, Option, Some, None, is_some, if◌then◌else◌}
+use Rattle.std.specs.Prelude.{ℕ, ◌+◌, ◌*◌, nat_eq, nat_lt, Bool, false, ◌&&◌, ◌||◌, not, List, length, map, filter, slice_get, find, Option, Some, None, is_some, if◌then◌else◌}
 use Rattle.std.specs.FinMap.{FinMap, get, values}
 use Rattle.std.specs.List.{list_any, position_from}
-use Rattle.std.specs.Option.{option_and_then, option_map_or}
+use Rattle.std.specs.Option.{option_and_then, option_map, option_map_or}
 use Rattle.net_types.specs.Attributes.{same_option, same_signature}
 use Rattle.net_types.specs.Exports.{Routing}
-use Rattle.net_types.specs.Keys.{prefix_cmp, tag_cmp}
-use Rattle.net_types.specs.Maps.{tabulate, ordered}
+use Rattle.net_types.specs.Keys.{pair_cmp, prefix_cmp, tag_cmp}
+use Rattle.net_types.specs.Maps.{each_once, ordered, tabulate}
 use Rattle.net_types.specs.Routes.{best, pids, announced, numbers}
+use Rattle.net_types.specs.Sets.{union_over}
 use Rattle.net_types.specs.Signatures.{signature}
 use Rattle.net_types.specs.declared.address.Tag.{Tag}
 use Rattle.net_types.specs.declared.prefix.Prefix.{Prefix}
@@ -49,6 +50,14 @@ is_live_pair s pair = option_map_or (is_live_for s pair.tag) (port_of s pair.por
 abbrev pub tags : State → List Tag
 tags s = map (λ n. record { 0 = n }) (numbers 1 s.size)
 
+-- each declared port with each tag of the pool
+abbrev pub pairs : State → List Pair
+pairs s = union_over (λ (q : PortInfo). map (λ t. record { port = q.number; tag = t }) (tags s)) s.routing.ports
+
+-- the pairs that are live, in order
+abbrev pub live_pairs : State → List Pair
+live_pairs s = ordered pair_cmp (filter (is_live_pair s) (pairs s))
+
 -- the tags that are not live, ascending
 abbrev pub free_tags : State → List Tag
 free_tags s = filter (λ t. not (is_live s t)) (tags s)
@@ -69,11 +78,6 @@ same_group a b = same_option same_tag a.before b.before && same_signature a.afte
 -- the group of a prefix
 abbrev pub group_of : State → Routing → Prefix → Group
 group_of s r p = record { before = get s.tag p; after = signature r p }
-
--- the different ones, by their first places
-abbrev pub each_once : {X : Type 0} → (X → X → Bool) → List X → List X
-each_once same [] = []
-each_once same (x ∷ xs) = x ∷ filter (λ y. not (same x y)) (each_once same xs)
 
 -- the groups of the changed prefixes, in order of their least prefix
 abbrev pub groups : State → Routing → List Group
@@ -99,8 +103,17 @@ group_with s r t = find (λ g. same_option same_tag (fresh_tag s r g) (Some t)) 
 abbrev pub kept_signature : State → Routing → Tag → Option (List Part)
 kept_signature s r t = option_map_or (λ (g : Group). Some g.after) (group_with s r t) (get s.kept t)
 
+-- a job owes at most 2^50 units: a greater number becomes that one
+abbrev pub capped : ℕ → ℕ
+capped n = if nat_lt 1125899906842624 n then 1125899906842624 else n
+
+-- what a job owes more after a line that changes the routes: one unit for each prefix that it made carried, and for each
+-- fresh tag one more than there are ports
+abbrev pub more_units : State → Routing → ℕ
+more_units s r = length (filter (λ p. not (is_carried s.routing p)) (carried r)) + length (groups s r) * (length s.routing.ports + 1)
+
 -- the state with these routes and the tags that come of them; a tag that is live no more is kept no more
 abbrev pub retagged : State → Routing → State
 retagged s r =
-    let tagged = record s { routing = r; tag = tags_after s r; phase = Running } in
+    let tagged = record s { routing = r; tag = tags_after s r; phase = Running; owed = option_map (λ n. capped (n + more_units s r)) s.owed } in
     record tagged { kept = tabulate tag_cmp (tags s) (λ t. if is_live tagged t then kept_signature s r t else None) }

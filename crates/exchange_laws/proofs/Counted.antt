@@ -13,10 +13,9 @@ use Rattle.std.proofs.lemmas.List.Filters.{sum_by-filter_both}
 use Rattle.std.proofs.lemmas.List.Sums.{sum_by-cons}
 use Rattle.net_types.proofs.OrderedLemmas.{member_any, ordered_is}
 use Rattle.events.specs.Fits.{added, dropped, flows_of}
-use Rattle.events.specs.Refusals.{live_pairs, pairs}
 use Rattle.events.specs.Sound.{owners_part, rule_count}
 use Rattle.events.specs.State.{State}
-use Rattle.events.specs.Tags.{free_tags, is_live, is_live_pair, retagged, tags}
+use Rattle.events.specs.Tags.{free_tags, is_live, is_live_pair, live_pairs, pairs, retagged, tags}
 use Rattle.events.specs.declared.Flow.{Flow}
 use Rattle.exchange_laws.proofs.FreshTags.{tags_rise}
 use Rattle.exchange_laws.proofs.LivePairs.{pair_listed}

@@ -6,9 +6,10 @@ use Rattle.std.specs.Option.{option_map_or}
 use Rattle.std.proofs.lemmas.Bool.{cases_lt, false≢true}
 use Rattle.net_types.proofs.OrderedLemmas.{member_any}
 use Rattle.events.specs.After.{after, next, next_by, running, settled, with_known, with_port, with_told}
-use Rattle.events.specs.Fits.{Fits, FitsBy, IsAnswer, IsSent, IsTagged, IsWellFormed, added, adverts, asks_for, bare, by_table, all_flows, destination, dropped, is_building, none_rebuilt, responder_reply, tag_changes, tagged_frame}
+use Rattle.events.specs.Forms.{IsWellFormed}
+use Rattle.events.specs.Fits.{Fits, FitsBy, IsAnswer, IsSent, IsTagged, added, adverts, asks_for, bare, by_table, all_flows, destination, dropped, is_building, none_rebuilt, responder_reply, tag_changes, tagged_frame}
 use Rattle.events.specs.Legal.{LegalFrom}
-use Rattle.events.specs.Refusals.{is_datagram, refusal, unless}
+use Rattle.events.specs.Refusals.{is_datagram, refusal, refused_if}
 use Rattle.events.specs.Resolving.{is_answered, is_resolved, port_place, resolved_at, tag_address, unresolved, with_answer, with_resolved}
 use Rattle.events.specs.Sound.{rule_count}
 use Rattle.events.specs.State.{State, first, port_of, present, told_to}
@@ -139,7 +140,7 @@ step_macs s e r macs octets fits = by (refusal s e) refl fits
 
 -- ---- a datagram
 
-not_stopped : (b : Bool) → unless (not b) BadPacket ≡ None → b ≡ true
+not_stopped : (b : Bool) → refused_if (not b) BadPacket ≡ None → b ≡ true
 not_stopped true e = refl
 not_stopped false e = absurd (cc)
 
@@ -179,7 +180,7 @@ at_port s n q found P holds = subst (λ o. MatchOption o ⊥ P) (sym found) hold
 
 packet_reply : (s : State) (n : PortNo) (bytes : List ℕ) → IsSteady s → PortsHaveMacs s → IsWellFormed (Packet n bytes) → AreOctets bytes → refusal s (Packet n bytes) ≡ None → (r : Reply) × Fits s (Packet n bytes) r
 packet_reply s n bytes steady macs formed octets none =
-    let k = known (port_of s n) (λ q. unless (not (is_datagram bytes)) BadPacket) (passes s (Packet n bytes) none).1 in
+    let k = known (port_of s n) (λ q. refused_if (not (is_datagram bytes)) BadPacket) (passes s (Packet n bytes) none).1 in
     let q : PortInfo = k.0 in
     let mac : IsMac q.mac = macs q (find-IsFound (λ (x : PortInfo). nat_eq x.number.0 n.0) s.routing.ports q k.1).stands in
     let high : n.0 ≤ 65279 = formed.1 in

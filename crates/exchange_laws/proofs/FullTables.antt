@@ -4,10 +4,9 @@ use Rattle.std.specs.Option.{option_map_or}
 use Rattle.std.proofs.lemmas.List.Sums.{sum_by-cons}
 use Rattle.net_types.proofs.OrderedLemmas.{ordered_same}
 use Rattle.events.specs.Fits.{FitsBy, IsAccepted, IsFull, Passes, bare, cells, is_building}
-use Rattle.events.specs.Refusals.{live_pairs, pairs}
 use Rattle.events.specs.Sound.{owners_part, rule_count}
 use Rattle.events.specs.State.{State}
-use Rattle.events.specs.Tags.{is_live_pair, retagged}
+use Rattle.events.specs.Tags.{is_live_pair, live_pairs, pairs, retagged}
 use Rattle.events.specs.declared.Event.{Event}
 use Rattle.events.specs.declared.Head.TheVariants.{Refused}
 use Rattle.events.specs.declared.Refusal.TheVariants.{TableFull}

@@ -10,8 +10,9 @@ use Rattle.std.proofs.lemmas.Cmp.{on_total}
 use Rattle.net_types.proofs.OrderedLemmas.{ordered_rises}
 use Rattle.events.proofs.Reached.{declared_pid}
 use Rattle.events.specs.After.{after, running, settled, with_known, with_participant, with_port, with_told}
-use Rattle.events.specs.Fits.{IsWellFormed, is_building}
-use Rattle.events.specs.Refusals.{is_name_taken, is_placed, is_port_taken, refusal, unless}
+use Rattle.events.specs.Forms.{IsWellFormed}
+use Rattle.events.specs.Fits.{is_building}
+use Rattle.events.specs.Refusals.{is_name_taken, is_placed, is_port_taken, refusal, refused_if}
 use Rattle.events.specs.Resolving.{is_answered, port_place, resolved_at, unresolved, with_answer, with_resolved}
 use Rattle.events.specs.State.{State, port_of, present}
 use Rattle.events.specs.Tags.{retagged}
@@ -125,13 +126,13 @@ exchange_step s base size capacity none formed = pool base size capacity (at_sta
 pub participant_step : (s : State) (name : List ℕ) (asn : ℕ) (id : Ip) → refusal s (DeclaresParticipant name asn id) ≡ None → QuietStep s (after s (DeclaresParticipant name asn id))
 participant_step s name asn id none =
     let free = passes s (DeclaresParticipant name asn id) none in
-    let full : nat_le 256 (length s.routing.participants) ≡ false = not_stopped (nat_le 256 (length s.routing.participants)) Full (neither (unless (is_name_taken s name) Clash) (unless (nat_le 256 (length s.routing.participants)) Full) free.1).1 in
+    let full : nat_le 256 (length s.routing.participants) ≡ false = not_stopped (nat_le 256 (length s.routing.participants)) Full (neither (refused_if (is_name_taken s name) Clash) (refused_if (nat_le 256 (length s.routing.participants)) Full) free.1).1 in
     participant (record { name = name; asn = asn; id = id }) (declares_participant s.phase name asn id free.0) (leb-false 256 (length s.routing.participants) full)
 
 pub port_step : (s : State) (name : List ℕ) (number : PortNo) (ip : Ip) (mac : Mac) → refusal s (DeclaresPort name number ip mac) ≡ None → IsWellFormed (DeclaresPort name number ip mac) → QuietStep s (after s (DeclaresPort name number ip mac))
 port_step s name number ip mac none formed =
     let free = passes s (DeclaresPort name number ip mac) none in
-    let who = known (pid_of s.routing name) (λ w. unless (is_port_taken s number ip mac) Clash) free.1 in
+    let who = known (pid_of s.routing name) (λ w. refused_if (is_port_taken s number ip mac) Clash) free.1 in
     let q : PortInfo = record { owner = who.0; number = number; ip = ip; mac = mac } in
     after_known s (pid_of s.routing name) (λ w. with_port s (record { owner = w; number = number; ip = ip; mac = mac })) who.0 who.1
     (port q (declares_port s s.phase name q free.0) (declared_pid s.routing name who.0 who.1) (not_stopped (is_port_taken s number ip mac) Clash who.2) (formed.1, formed.2))

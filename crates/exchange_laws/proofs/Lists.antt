@@ -8,13 +8,12 @@ use Rattle.std.specs.Ordering.{eq_by_cmp}
 use Rattle.std.specs.declared.cmp.Ordering.{Ordering}
 use Rattle.std.proofs.lemmas.Bool.{false_from_ne_true, false≢true}
 use Rattle.net_types.proofs.OrderedLemmas.{any_member, member_any}
-use Rattle.events.specs.Tags.{each_once}
 use Rattle.net_types.proofs.FindLemmas.{IsFound, find-IsFound, slice_get-Member}
 use Rattle.net_types.proofs.MapLemmas.{get-tabulate}
 use Rattle.net_types.proofs.PassLemmas.{is_some-any, some_there}
 use Rattle.net_types.proofs.RisingLemmas.{filter-IsRising, filter-Member}
 use Rattle.net_types.specs.Keys.{pair_cmp}
-use Rattle.net_types.specs.Maps.{tabulate}
+use Rattle.net_types.specs.Maps.{each_once, tabulate}
 use Rattle.net_types.specs.Routes.{numbers}
 use Rattle.net_types.specs.Sets.{IsRising, Member}
 use Rattle.net_types.specs.declared.rule.Rule.{Rule}

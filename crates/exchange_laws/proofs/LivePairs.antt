@@ -6,11 +6,10 @@ use Rattle.std.specs.List.{list_any}
 use Rattle.std.specs.Option.{option_and_then, option_map, option_map_or}
 use Rattle.std.proofs.lemmas.Bool.{eqb-true, or_cases, or_right}
 use Rattle.events.proofs.Routed.{part_with, signature_part}
-use Rattle.events.specs.Refusals.{pairs}
 use Rattle.events.specs.Sound.{owners_part, part_of}
 use Rattle.events.specs.State.{State, port_of, present, present_entry, told_to}
 use Rattle.events.specs.declared.Entry.{Entry}
-use Rattle.events.specs.Tags.{is_live, is_live_for, is_live_pair, same_tag, tags, tells}
+use Rattle.events.specs.Tags.{is_live, is_live_for, is_live_pair, pairs, same_tag, tags, tells}
 use Rattle.exchange_laws.proofs.FreshTags.{best_announced}
 use Rattle.exchange_laws.proofs.Lists.{get_tabulated, is_some_of}
 use Rattle.exchange_laws.proofs.Sames.{tag_same}

@@ -7,7 +7,7 @@ use Rattle.std.proofs.lemmas.Bool.{ltb-false}
 use Rattle.events.proofs.Reached.{declared_pid}
 use Rattle.events.specs.After.{after, bound_read, ruled, updated, with_known, with_rules, with_update, without_from}
 use Rattle.events.specs.Fits.{is_building}
-use Rattle.events.specs.Refusals.{attrs_refusal, bound_refusal, has_next_hop, if_known, is_placed, or_else, refusal, refusal_in_place, rules_refusal, tags_refusal, text_refusal, unless, update_refusal}
+use Rattle.events.specs.Refusals.{attrs_refusal, bound_refusal, has_next_hop, if_known, is_placed, or_else, refusal, refusal_in_place, rules_refusal, tags_refusal, text_refusal, refused_if, update_refusal}
 use Rattle.events.specs.State.{State}
 use Rattle.events.specs.Tags.{free_tags, groups, retagged}
 use Rattle.events.specs.declared.Event.{Event}
@@ -37,7 +37,7 @@ use Rattle.net_types.specs.declared.update.Update.{Update as Message}
 
 -- ---- no refusal
 
-pub not_stopped : (b : Bool) (why : Refusal) → unless b why ≡ None → b ≡ false
+pub not_stopped : (b : Bool) (why : Refusal) → refused_if b why ≡ None → b ≡ false
 not_stopped true why e = absurd (cc)
 not_stopped false why e = refl
 
@@ -161,7 +161,7 @@ update_case s name bytes who declared (Ok u) read none =
     turned false e = cc
 
     hop : (a : Attrs) → attrs_refusal s who (Some a) ≡ None → has_next_hop s who a.next_hop ≡ true
-    hop a none = turned (has_next_hop s who a.next_hop) (not_stopped (not (has_next_hop s who a.next_hop)) NextHop (neither _ (unless (not (has_next_hop s who a.next_hop)) NextHop) none).1)
+    hop a none = turned (has_next_hop s who a.next_hop) (not_stopped (not (has_next_hop s who a.next_hop)) NextHop (neither _ (refused_if (not (has_next_hop s who a.next_hop)) NextHop) none).1)
 
 export_case : (s : State) (name text : List ℕ) (who : Pid) → pid_of s.routing name ≡ Some who → (o : Result (List NamedRule) ℕ) → rules_of_text text ≡ o → rules_refusal s who o ≡ None → Rerouted s (Export name text)
 export_case s name text who declared (Err at) read none = absurd (cc)

@@ -5,10 +5,9 @@ use Rattle.std.specs.FinMap.{get}
 use Rattle.std.specs.Option.{option_and_then, option_map}
 use Rattle.std.proofs.lemmas.Bool.{or_cases, or_left}
 use Rattle.events.proofs.Routed.{dropped_answer}
-use Rattle.events.specs.Refusals.{pairs}
 use Rattle.events.specs.Sound.{IsRight, IsSound, owners_part, part_of, rule_count}
 use Rattle.events.specs.State.{State, ArePolicies, port_of, present, told_to}
-use Rattle.events.specs.Tags.{is_live_pair, retagged, tells}
+use Rattle.events.specs.Tags.{is_live_pair, pairs, retagged, tells}
 use Rattle.exchange_laws.proofs.LivePairs.{live_at, live_from, live_tag, pair_listed, present_part}
 use Rattle.exchange_laws.proofs.Lists.{TableOf, clash, cond_there, get_tabulated, some_of}
 use Rattle.exchange_laws.proofs.TagsAfter.{carried_have_tags, live_tags_stay, signatures_are_kept, tags_stay_pooled}

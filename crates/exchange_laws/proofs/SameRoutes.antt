@@ -10,7 +10,7 @@ use Rattle.events.specs.After.{running}
 use Rattle.events.specs.Fits.{flows_of, none_rebuilt, tag_changes}
 use Rattle.events.specs.Sound.{IsSound}
 use Rattle.events.specs.State.{State}
-use Rattle.events.specs.Tags.{Group, each_once, fresh_tag, group_of, groups, is_carried, is_changed, is_live, kept_signature, retagged, same_group, same_tag, tells}
+use Rattle.events.specs.Tags.{Group, fresh_tag, group_of, groups, is_carried, is_changed, is_live, kept_signature, retagged, same_group, same_tag, tells}
 use Rattle.events.specs.declared.Phase.TheVariants.{Running}
 use Rattle.exchange_laws.proofs.Lists.{listed_or_none}
 use Rattle.exchange_laws.proofs.Sames.{tag_itself}
@@ -24,7 +24,7 @@ use Rattle.net_types.proofs.SameLemmas.{option_itself}
 use Rattle.net_types.proofs.TieLemmas.{pair_cmp-IsAntisymmetric, prefix_cmp-IsAntisymmetric, same_from_tie, tag_cmp-IsAntisymmetric}
 use Rattle.net_types.specs.Attributes.{same_option}
 use Rattle.net_types.specs.Keys.{pair_cmp, prefix_cmp}
-use Rattle.net_types.specs.Maps.{ordered}
+use Rattle.net_types.specs.Maps.{each_once, ordered}
 use Rattle.net_types.specs.Routes.{announced}
 use Rattle.net_types.specs.Sets.{Member, union_over}
 use Rattle.net_types.specs.declared.rule.Pair.{Pair}

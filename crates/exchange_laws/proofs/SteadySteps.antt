@@ -7,7 +7,8 @@ use Rattle.std.specs.Option.{option_map}
 use Rattle.std.proofs.lemmas.List.{length-append}
 use Rattle.events.proofs.Reached.{first_sound, step_sound}
 use Rattle.events.specs.After.{accepted, after, next, next_by, with_participant}
-use Rattle.events.specs.Fits.{FitsBy, IsWellFormed}
+use Rattle.events.specs.Forms.{IsWellFormed}
+use Rattle.events.specs.Fits.{FitsBy}
 use Rattle.events.specs.Legal.{LegalFrom, state_from}
 use Rattle.events.specs.Refusals.{refusal}
 use Rattle.events.specs.Sound.{IsSound}

@@ -9,7 +9,7 @@ use Rattle.std.proofs.lemmas.Bool.{and_from, and_parts, or_cases, or_left, or_ri
 use Rattle.net_types.proofs.OrderedLemmas.{any_member, member_any, ordered_rises, ordered_same}
 use Rattle.events.specs.State.{State, port_of, present, present_entry, told_to}
 use Rattle.events.specs.declared.Entry.{Entry}
-use Rattle.events.specs.Tags.{each_once, group_of, is_carried, is_changed, is_live_pair, retagged, same_group, same_tag, tells}
+use Rattle.events.specs.Tags.{group_of, is_carried, is_changed, is_live_pair, retagged, same_group, same_tag, tells}
 use Rattle.events.specs.declared.TagChange.{TagChange}
 use Rattle.exchange_laws.proofs.FreshTags.{carried_listed}
 use Rattle.exchange_laws.proofs.Lists.{clash, is_some_of, key_Member}
@@ -29,7 +29,7 @@ use Rattle.net_types.specs.Attributes.{same_attrs, same_option, same_signature}
 use Rattle.net_types.specs.Changes.{best_attrs}
 use Rattle.net_types.specs.Exports.{Routing}
 use Rattle.net_types.specs.Keys.{prefix_cmp}
-use Rattle.net_types.specs.Maps.{ordered}
+use Rattle.net_types.specs.Maps.{each_once, ordered}
 use Rattle.net_types.specs.Routes.{Candidate, announced, best}
 use Rattle.net_types.specs.Sets.{IsRising, Member, SameMembers}
 use Rattle.net_types.specs.Signatures.{signature}

@@ -2,11 +2,10 @@
 use Rattle.std.specs.Prelude.{◌≡◌, ℕ, ◌+◌, Bool, [], List, length, filter, sum_by, unwrap_or, Some}
 use Rattle.std.specs.FinMap.{FinMap, entries, get, keys}
 use Rattle.events.specs.Fits.{added, dropped}
-use Rattle.events.specs.Refusals.{live_pairs}
 use Rattle.events.specs.Sound.{IsSound, rule_count}
 use Rattle.events.specs.State.{State}
 use Rattle.events.specs.declared.Entry.{Entry}
-use Rattle.events.specs.Tags.{free_tags, is_live, retagged, tags}
+use Rattle.events.specs.Tags.{free_tags, is_live, live_pairs, retagged, tags}
 use Rattle.exchange_laws.specs.Replies.{IsBuiltOn}
 use Rattle.exchange_laws.specs.Retagging.{TagsArePooled}
 use Rattle.exchange_laws.specs.Rules.{IsChange, with_rules}

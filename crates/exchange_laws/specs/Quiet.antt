@@ -1,7 +1,8 @@
 -- Lines that change neither the routes nor what was told (this exchange's own rule).
 use Rattle.std.specs.Prelude.{◌≡◌, Bool, true, false, not, None}
 use Rattle.events.specs.After.{after, next}
-use Rattle.events.specs.Fits.{Fits, IsAnswer, IsWellFormed, is_building}
+use Rattle.events.specs.Forms.{IsWellFormed}
+use Rattle.events.specs.Fits.{Fits, IsAnswer, is_building}
 use Rattle.events.specs.Refusals.{refusal}
 use Rattle.events.specs.State.{State}
 use Rattle.events.specs.declared.Event.{Event}

@@ -1,6 +1,7 @@
 -- Each line has a reply that fits, so legal replies to the first lines of a run go on (this exchange's own rule).
 use Rattle.std.specs.Prelude.{◌≡◌, ℕ, ◌<◌, List, ◌++◌, length, slice_index}
-use Rattle.events.specs.Fits.{Fits, IsWellFormed}
+use Rattle.events.specs.Forms.{IsWellFormed}
+use Rattle.events.specs.Fits.{Fits}
 use Rattle.events.specs.Legal.{Legal}
 use Rattle.events.specs.State.{State}
 use Rattle.events.specs.declared.Event.{Event}

@@ -2,10 +2,9 @@
 use Rattle.std.specs.Prelude.{◌≡◌, ◌<◌, ◌≤◌, true, false, List, [], ◌∷◌, length, Option, Some, None, is_some, if◌then◌else◌}
 use Rattle.std.specs.FinMap.{FinMap, get}
 use Rattle.std.specs.Option.{option_map}
-use Rattle.events.specs.Refusals.{pairs}
 use Rattle.events.specs.Sound.{IsRight, IsSound, owners_part, rule_count}
 use Rattle.events.specs.State.{State, ArePolicies}
-use Rattle.events.specs.Tags.{is_live_pair, retagged}
+use Rattle.events.specs.Tags.{is_live_pair, pairs, retagged}
 use Rattle.exchange_laws.specs.Fresh.{HasEnoughTags}
 use Rattle.exchange_laws.specs.Retagging.{TagsArePooled}
 use Rattle.net_types.specs.Answers.{Policies, offered_port}

@@ -4,7 +4,8 @@ use Rattle.std.specs.FinMap.{FinMap, empty}
 use Rattle.std.specs.Option.{option_map}
 use Rattle.std.specs.Ordering.{is_lt}
 use Rattle.events.specs.After.{next}
-use Rattle.events.specs.Fits.{Fits, IsWellFormed}
+use Rattle.events.specs.Forms.{IsWellFormed}
+use Rattle.events.specs.Fits.{Fits}
 use Rattle.events.specs.Legal.{Legal, state_after}
 use Rattle.events.specs.Sound.{IsSound}
 use Rattle.events.specs.State.{State, first, port_of}

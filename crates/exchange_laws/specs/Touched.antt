@@ -4,7 +4,8 @@ use Rattle.std.specs.FinMap.{get}
 use Rattle.events.specs.Fits.{tag_changes}
 use Rattle.events.specs.Sound.{IsSound}
 use Rattle.events.specs.State.{State, port_of, present}
-use Rattle.events.specs.Tags.{Group, each_once, group_of, groups, is_carried, is_changed, is_live_pair, new_tag, retagged, same_group, same_tag}
+use Rattle.net_types.specs.Maps.{each_once}
+use Rattle.events.specs.Tags.{Group, group_of, groups, is_carried, is_changed, is_live_pair, new_tag, retagged, same_group, same_tag}
 use Rattle.events.specs.declared.TagChange.{TagChange}
 use Rattle.exchange_laws.specs.Rules.{IsDeclaredAlike, OwnersAreDeclared}
 use Rattle.net_types.specs.Attributes.{same_option}

@@ -8,7 +8,7 @@ use Rattle.std.proofs.lemmas.Bool.{or_right}
 use Rattle.std.proofs.lemmas.List.{length-map, length-take-le}
 use Rattle.std.proofs.lemmas.Option.{slice_get-map, slice_get_within}
 use Rattle.events.specs.State.{State}
-use Rattle.events.specs.Tags.{Group, each_once, carried, free_tags, fresh_tag, group_of, groups, is_carried, is_changed, is_live, retagged, same_group, same_tag, tags, tells}
+use Rattle.events.specs.Tags.{Group, carried, free_tags, fresh_tag, group_of, groups, is_carried, is_changed, is_live, retagged, same_group, same_tag, tags, tells}
 use Rattle.exchange_laws.proofs.FreshTags.{by_place, fresh_free, group_listed, tags_rise}
 use Rattle.exchange_laws.proofs.Lists.{place_of, some_of}
 use Rattle.exchange_laws.proofs.TagsAfter.{live_cases, live_of, signatures_are_kept, tags_are}
@@ -19,7 +19,7 @@ use Rattle.net_types.proofs.RisingLemmas.{filter-IsRising, filter-Member}
 use Rattle.net_types.proofs.SetLemmas.{map-Member}
 use Rattle.net_types.specs.Exports.{Routing}
 use Rattle.net_types.specs.Keys.{prefix_cmp}
-use Rattle.net_types.specs.Maps.{ordered}
+use Rattle.net_types.specs.Maps.{each_once, ordered}
 use Rattle.net_types.specs.Routes.{announced}
 use Rattle.net_types.specs.Sets.{IsRising, Member}
 use Rattle.net_types.specs.Signatures.{signature}

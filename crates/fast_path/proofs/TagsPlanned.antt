@@ -16,7 +16,8 @@ use Rattle.net_types.specs.declared.prefix.Prefix.{Prefix}
 use Rattle.net_types.specs.declared.route.Part.{Part}
 use Rattle.events.specs.Fits.{tag_changes}
 use Rattle.events.specs.State.{State}
-use Rattle.events.specs.Tags.{Group, each_once, free_tags, fresh_tag, group_of, groups, is_carried, is_changed, new_tag, retagged, same_group, same_tag}
+use Rattle.net_types.specs.Maps.{each_once}
+use Rattle.events.specs.Tags.{Group, free_tags, fresh_tag, group_of, groups, is_carried, is_changed, new_tag, retagged, same_group, same_tag}
 use Rattle.events.specs.declared.TagChange.{TagChange}
 use Rattle.exchange_laws.specs.Touched.{IsTouching, tag_changes_among}
 use Rattle.exchange_laws.proofs.Lists.{clash, some_of}

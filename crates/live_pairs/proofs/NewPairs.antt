@@ -9,7 +9,7 @@ use Rattle.net_types.proofs.OrderedLemmas.{ordered_rises, ordered_same}
 use Rattle.events.specs.Fits.{flows_of}
 use Rattle.events.specs.Sound.{owners_part, part_of}
 use Rattle.events.specs.State.{State, port_of, present, told_to}
-use Rattle.events.specs.Tags.{Group, carried, each_once, free_tags, fresh_tag, group_of, groups, is_carried, is_changed, is_live, is_live_pair, retagged, same_group, tells}
+use Rattle.events.specs.Tags.{Group, carried, free_tags, fresh_tag, group_of, groups, is_carried, is_changed, is_live, is_live_pair, retagged, same_group, tells}
 use Rattle.exchange_laws.proofs.FreshTags.{by_place, fresh_free, group_listed}
 use Rattle.exchange_laws.proofs.ListedPairs.{new_are_added}
 use Rattle.exchange_laws.proofs.Lists.{clash, place_of, some_of}
@@ -34,7 +34,7 @@ use Rattle.net_types.proofs.SetLemmas.{Member-map, map-Member, union-map}
 use Rattle.net_types.specs.Answers.{offered_port}
 use Rattle.net_types.specs.Exports.{Routing}
 use Rattle.net_types.specs.Keys.{prefix_cmp}
-use Rattle.net_types.specs.Maps.{ordered}
+use Rattle.net_types.specs.Maps.{each_once, ordered}
 use Rattle.net_types.specs.Routes.{announced, best}
 use Rattle.net_types.specs.Sets.{Member}
 use Rattle.net_types.specs.Signatures.{signature}

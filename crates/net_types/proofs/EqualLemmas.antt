@@ -3,7 +3,7 @@ use Rattle.std.proofs.Common.{◌≡◌, Bool, true, false, nat_eq, sym, ap, sub
 use Rattle.std.specs.Prelude.{Option, Some, None}
 use Rattle.std.specs.Cmp.Lexicographic.{pointwise, pointwise_decides}
 use Rattle.std.proofs.lemmas.Bool.{and_from, and_parts, eq-eqb, eqb-true}
-use Rattle.net_types.proofs.SameLemmas.{aggregator_itself, attrs_itself, list_itself, nat_itself, option_itself, segment_itself, unknown_itself}
+use Rattle.net_types.proofs.SameLemmas.{aggregator_itself, attrs_itself, bool_itself, list_itself, nat_itself, option_itself, segment_itself, unknown_itself}
 use Rattle.net_types.specs.Attributes.{same_option, same_bool, same_ip, same_segment, same_aggregator, same_unknown, same_attrs, same_offer, same_part, same_signature}
 use Rattle.net_types.specs.declared.route.Aggregator.{Aggregator}
 use Rattle.net_types.specs.declared.route.Attrs.{Attrs}
@@ -105,11 +105,13 @@ offer_right : (a b : Offer) → same_offer a b ≡ true → a ≡ b
 offer_right a b e =
     let one = and_parts (nat_eq a.exporter.0 b.exporter.0) _ e in
     let exporter = eqb-true a.exporter.0 b.exporter.0 one.0 in
-    let port = eqb-true a.port.0 b.port.0 one.1 in
-    λ i. record { exporter = record { 0 = exporter i }; port = record { 0 = port i } }
+    let two = and_parts (nat_eq a.port.0 b.port.0) _ one.1 in
+    let port = eqb-true a.port.0 b.port.0 two.0 in
+    let hole = bool_right a.hole b.hole two.1 in
+    λ i. record { exporter = record { 0 = exporter i }; port = record { 0 = port i }; hole = hole i }
 
 offer_itself : (a : Offer) → same_offer a a ≡ true
-offer_itself a = and_from _ _ (nat_itself a.exporter.0) (nat_itself a.port.0)
+offer_itself a = and_from _ _ (nat_itself a.exporter.0) (and_from _ _ (nat_itself a.port.0) (bool_itself a.hole))
 
 part_right : (a b : Part) → same_part a b ≡ true → a ≡ b
 part_right a b e =

@@ -1,7 +1,6 @@
--- What a text says as a policy, where it is wrong, and where the parts of a policy stand in it. A text has at most 8192
--- octets and at most 64 groups open at once.
+-- What a text says as a policy, and where the parts of a policy stand in it.
 use Rattle.std.specs.Prelude.{ℕ, List, [], ◌∷◌, ◌++◌}
-use Rattle.grammar.specs.Texts.{SpellsText, BeginsText, IsSyntaxFault, IsDeepFault}
+use Rattle.grammar.specs.Texts.{SpellsText}
 use Rattle.net_types.specs.declared.headers.Span.{Span}
 use Rattle.net_types.specs.Policies.{Pred, Yes, Is, Not, And, Or, Policy, Drop, Pass, Block, Fwd, Match, Set, Both, Then}
 use Rattle.net_types.specs.PolicyGrammar.{policy}
@@ -9,18 +8,6 @@ use Rattle.net_types.specs.PolicyGrammar.{policy}
 -- the text spells the policy, whatever its length and however many groups are open at once
 abbrev pub SpellsPolicy : List ℕ → Policy → Type 0
 SpellsPolicy text p = SpellsText policy text p
-
--- the octets begin a text that spells a policy
-abbrev pub BeginsPolicy : List ℕ → Type 0
-BeginsPolicy octets = BeginsText policy octets
-
--- the text spells no policy, and so many octets of it are its longest front that begins one
-abbrev pub IsWrongAt : List ℕ → ℕ → Type 0
-IsWrongAt text n = IsSyntaxFault policy 64 text n
-
--- the octet there opens the 65th group that is open at once, and the text up to it and with it begins a policy
-abbrev pub IsTooDeepAt : List ℕ → ℕ → Type 0
-IsTooDeepAt text n = IsDeepFault policy 64 text n
 
 -- where the tests of a predicate stand, in the order of the text
 abbrev pub pred_spans : Pred → List Span

@@ -3,6 +3,7 @@
 ghost use Rattle.std.specs.Prelude.{◌≡◌, [], IfOk, OnOk, OnErr, List};
 ghost use Rattle.net_types.specs.Actions.{action_cmp, assign_cmp, with_action};
 ghost use Rattle.net_types.specs.Maps.{ordered};
+ghost use Rattle.net_types.specs.declared.actions.Action.{Action};
 
 use crate::address::PortNo;
 use crate::headers::Assign;

@@ -8,7 +8,7 @@ use Rattle.net_types.specs.Policies.{Policy}
 use Rattle.policy_syntax.specs.declared.fault.SyntaxFault.{SyntaxFault}
 use Rattle.policy_syntax.specs.declared.fault.SyntaxFault.TheVariants.{TextLong, Syntax, TooDeep, Memory}
 use Rattle.net_types.specs.PolicyGrammar.{policy}
-use Rattle.policy_syntax.specs.PolicyReading.{read_start}
+use Rattle.net_types.specs.PolicyReading.{read_start}
 use Rattle.policy_syntax.specs.After.{after_policy}
 use Rattle.policy_syntax.specs.Answers.{cause_of, Gives, IsCause, FindsText}
 use Rattle.policy_syntax.specs.ReadsBack.{EachPart, ReadsBack}

@@ -16,7 +16,7 @@ use Rattle.net_types.specs.Policies.{Name, Src, Dst, Proto, Sport, Dport}
 use Rattle.net_types.specs.PolicyGrammar.{inport_is, number_is, SrcIs, DstIs, SportIs, DportIs, target, prefix, field, test, assign}
 use Rattle.grammar.specs.Tokens.{address}
 use Rattle.grammar.specs.Octets.{among}
-use Rattle.policy_syntax.specs.PolicyReading.{read_target, read_lead, read_field, read_end, read_test, read_assign}
+use Rattle.net_types.specs.PolicyReading.{read_target, read_lead, read_field, read_end, read_test, read_assign}
 use Rattle.grammar.specs.TokenReading.{read_address}
 use Rattle.grammar.proofs.Exact.{same_reader, on_read-on_read, tighter}
 use Rattle.grammar.specs.Exactness.{IsExact}

@@ -8,3 +8,4 @@ pub mod SetsBack
 pub mod Canonized
 pub mod SpelledFits
 pub mod SpelledSpans
+pub mod TextValue

@@ -11,7 +11,7 @@ use Rattle.net_types.specs.declared.headers.Assign.{Assign}
 use Rattle.net_types.specs.Headers.{no_change}
 use Rattle.net_types.specs.PolicyGrammar.{span, with_field, target, test, truth, tested, prim_with, negation, lit_with, and_lit, or_conj, assigned, more_assigned, atom_from, then_atom, plus_chain, conj_with, pred_with, pred_group, fwd, match_with, modify, keyword, atom_with, chain_with, policy_with, policy_group, policy}
 use Rattle.grammar.specs.Octets.{among}
-use Rattle.policy_syntax.specs.PolicyReading.{read_is, read_true, read_prim, read_not, read_lit, read_and, read_ands, read_conj, read_or, read_ors, read_pred, read_pred_group, read_fwd, read_match, read_assign_spaces, read_set, read_sets, read_modify, read_keyword, read_m, read_atom_from, read_atom, read_then, read_thens, read_chain, read_plus, read_pluses, read_policy, read_policy_group, read_start}
+use Rattle.net_types.specs.PolicyReading.{read_is, read_true, read_prim, read_not, read_lit, read_and, read_ands, read_conj, read_or, read_ors, read_pred, read_pred_group, read_fwd, read_match, read_assign_spaces, read_set, read_sets, read_modify, read_keyword, read_m, read_atom_from, read_atom, read_then, read_thens, read_chain, read_plus, read_pluses, read_policy, read_policy_group, read_start}
 use Rattle.grammar.proofs.Exact.{both_exact}
 use Rattle.grammar.specs.Exactness.{Family, IsExact}
 use Rattle.grammar.proofs.Firsts.{Leads}

@@ -1,4 +1,3 @@
-pub mod PolicyReading
 pub mod After
 pub mod Views
 pub mod Answers

@@ -3,7 +3,7 @@
 ghost use Rattle.std.specs.Prelude.{◌≡◌, ◌<◌, ◌≤◌, ◌^◌, length, codes, IfOk};
 ghost use Rattle.grammar.specs.TokenReading.{read_number, read_address};
 ghost use Rattle.net_types.specs.PolicyGrammar.{inport_is, SrcIs, DstIs, SportIs, DportIs};
-ghost use Rattle.policy_syntax.specs.PolicyReading.{read_target, read_lead, read_field, read_end, read_test, read_assign, read_assign_spaces, read_set, read_sets};
+ghost use Rattle.net_types.specs.PolicyReading.{read_target, read_lead, read_field, read_end, read_test, read_assign, read_assign_spaces, read_set, read_sets};
 ghost use Rattle.net_types.specs.Policies.{Proto, Src, Sport, Dst, Dport};
 ghost use Rattle.net_types.specs.PrefixReading.{read_prefix};
 ghost use Rattle.text_fields.specs.Answers.{Gives};
@@ -27,7 +27,7 @@ pub fn port(size: usize, low: u32, high: u32, rest: &[u8]) -> Result<(u16, &[u8]
     Ok((value as u16, after))
 }
 
-#[tactic(auto, unfolding(crate::specs::PolicyReading::read_target))]
+#[tactic(auto, unfolding(net_types::specs::PolicyReading::read_target))]
 pub fn target(size: usize, rest: &[u8]) -> Result<(Target<'_>, &[u8]), WrongOctet>
     requires { size < 2 ^ 32 }
     ensures reads { Gives (λ x. (target_of x.0, x.1.now)) result (read_target size rest.now) }
@@ -46,7 +46,7 @@ pub fn target(size: usize, rest: &[u8]) -> Result<(Target<'_>, &[u8]), WrongOcte
 }
 
 /// A field's name and the sign behind it.
-#[tactic(auto, unfolding(crate::specs::PolicyReading::read_lead))]
+#[tactic(auto, unfolding(net_types::specs::PolicyReading::read_lead))]
 pub fn lead<'a>(size: usize, name: &[u8], rest: &'a [u8]) -> Result<&'a [u8], WrongOctet>
     requires { size < 2 ^ 32 }
     ensures reads { Gives (λ r. (tt, r.now)) result (read_lead name.now size rest.now) }
@@ -56,7 +56,7 @@ pub fn lead<'a>(size: usize, name: &[u8], rest: &'a [u8]) -> Result<&'a [u8], Wr
     sign(size, b"=", spaces(rest))
 }
 
-#[tactic(auto, unfolding(crate::specs::PolicyReading::read_field, crate::specs::PolicyReading::read_end))]
+#[tactic(auto, unfolding(net_types::specs::PolicyReading::read_field, net_types::specs::PolicyReading::read_end))]
 fn src_test(size: usize, rest: &[u8]) -> Result<(Test, &[u8]), WrongOctet>
     requires { size < 2 ^ 32 }
     ensures reads { Gives (λ x. (test_of x.0, x.1.now)) result (read_end (codes "src") read_prefix Src Sport size rest.now) }
@@ -75,7 +75,7 @@ fn src_test(size: usize, rest: &[u8]) -> Result<(Test, &[u8]), WrongOctet>
     }
 }
 
-#[tactic(auto, unfolding(crate::specs::PolicyReading::read_field, crate::specs::PolicyReading::read_end))]
+#[tactic(auto, unfolding(net_types::specs::PolicyReading::read_field, net_types::specs::PolicyReading::read_end))]
 fn dst_test(size: usize, rest: &[u8]) -> Result<(Test, &[u8]), WrongOctet>
     requires { size < 2 ^ 32 }
     ensures reads { Gives (λ x. (test_of x.0, x.1.now)) result (read_end (codes "dst") read_prefix Dst Dport size rest.now) }
@@ -94,7 +94,7 @@ fn dst_test(size: usize, rest: &[u8]) -> Result<(Test, &[u8]), WrongOctet>
     }
 }
 
-#[tactic(auto, unfolding(crate::specs::PolicyReading::read_field, crate::specs::PolicyReading::read_end))]
+#[tactic(auto, unfolding(net_types::specs::PolicyReading::read_field, net_types::specs::PolicyReading::read_end))]
 fn src_field(size: usize, rest: &[u8]) -> Result<(Field, &[u8]), WrongOctet>
     requires { size < 2 ^ 32 }
     ensures reads { Gives (λ x. (field_of x.0, x.1.now)) result (read_end (codes "src") read_address SrcIs SportIs size rest.now) }
@@ -113,7 +113,7 @@ fn src_field(size: usize, rest: &[u8]) -> Result<(Field, &[u8]), WrongOctet>
     }
 }
 
-#[tactic(auto, unfolding(crate::specs::PolicyReading::read_field, crate::specs::PolicyReading::read_end))]
+#[tactic(auto, unfolding(net_types::specs::PolicyReading::read_field, net_types::specs::PolicyReading::read_end))]
 fn dst_field(size: usize, rest: &[u8]) -> Result<(Field, &[u8]), WrongOctet>
     requires { size < 2 ^ 32 }
     ensures reads { Gives (λ x. (field_of x.0, x.1.now)) result (read_end (codes "dst") read_address DstIs DportIs size rest.now) }
@@ -132,7 +132,7 @@ fn dst_field(size: usize, rest: &[u8]) -> Result<(Field, &[u8]), WrongOctet>
     }
 }
 
-#[tactic(auto, unfolding(crate::specs::PolicyReading::read_field))]
+#[tactic(auto, unfolding(net_types::specs::PolicyReading::read_field))]
 fn inport(size: usize, rest: &[u8]) -> Result<(Test, &[u8]), WrongOctet>
     requires { size < 2 ^ 32 }
     ensures reads { Gives (λ x. (test_of x.0, x.1.now)) result (read_field (codes "inport") (read_number 1 65279) inport_is size rest.now) }
@@ -142,7 +142,7 @@ fn inport(size: usize, rest: &[u8]) -> Result<(Test, &[u8]), WrongOctet>
     Ok((Test::Inport(PortNo(number)), rest))
 }
 
-#[tactic(auto, unfolding(crate::specs::PolicyReading::read_field))]
+#[tactic(auto, unfolding(net_types::specs::PolicyReading::read_field))]
 fn protocol(size: usize, rest: &[u8]) -> Result<(Test, &[u8]), WrongOctet>
     requires { size < 2 ^ 32 }
     ensures reads { Gives (λ x. (test_of x.0, x.1.now)) result (read_field (codes "proto") (read_number 0 255) Proto size rest.now) }
@@ -152,7 +152,7 @@ fn protocol(size: usize, rest: &[u8]) -> Result<(Test, &[u8]), WrongOctet>
     Ok((Test::Proto(number as u8), rest))
 }
 
-#[tactic(auto, unfolding(crate::specs::PolicyReading::read_test))]
+#[tactic(auto, unfolding(net_types::specs::PolicyReading::read_test))]
 pub fn test(size: usize, rest: &[u8]) -> Result<(Test, &[u8]), WrongOctet>
     requires { size < 2 ^ 32 }
     ensures reads { Gives (λ x. (test_of x.0, x.1.now)) result (read_test size rest.now) }
@@ -166,7 +166,7 @@ pub fn test(size: usize, rest: &[u8]) -> Result<(Test, &[u8]), WrongOctet>
     }
 }
 
-#[tactic(auto, unfolding(crate::specs::PolicyReading::read_assign))]
+#[tactic(auto, unfolding(net_types::specs::PolicyReading::read_assign))]
 fn assign(size: usize, rest: &[u8]) -> Result<(Field, &[u8]), WrongOctet>
     requires { size < 2 ^ 32 }
     ensures reads { Gives (λ x. (field_of x.0, x.1.now)) result (read_assign size rest.now) }
@@ -179,7 +179,7 @@ fn assign(size: usize, rest: &[u8]) -> Result<(Field, &[u8]), WrongOctet>
 }
 
 /// An assignment and the spaces behind it.
-#[tactic(auto, unfolding(crate::specs::PolicyReading::read_assign_spaces))]
+#[tactic(auto, unfolding(net_types::specs::PolicyReading::read_assign_spaces))]
 pub fn assigned(size: usize, rest: &[u8]) -> Result<(Field, &[u8]), WrongOctet>
     requires { size < 2 ^ 32 }
     ensures reads { Gives (λ x. (field_of x.0, x.1.now)) result (read_assign_spaces size rest.now) }
@@ -190,7 +190,7 @@ pub fn assigned(size: usize, rest: &[u8]) -> Result<(Field, &[u8]), WrongOctet>
 }
 
 // A further assignment.
-#[tactic(auto, unfolding(crate::specs::PolicyReading::read_set))]
+#[tactic(auto, unfolding(net_types::specs::PolicyReading::read_set))]
 fn more_assigned(size: usize, rest: &[u8]) -> Result<(Field, &[u8]), WrongOctet>
     requires { size < 2 ^ 32 }
     ensures reads { Gives (λ x. (field_of x.0, x.1.now)) result (read_set size rest.now) }

@@ -3,6 +3,7 @@
 
 mod fault;
 mod fields;
+mod laws;
 mod node;
 mod policies;
 mod preds;
@@ -14,6 +15,7 @@ mod text;
 mod tree;
 
 pub use fault::SyntaxFault;
+pub use laws::reading_is_spelling;
 pub use node::Node;
 pub use printing::print;
 pub use rule::PolicyText;

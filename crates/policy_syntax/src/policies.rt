@@ -1,7 +1,7 @@
 //! Policies. Each function is handed how many groups may still be opened.
 
 ghost use Rattle.std.specs.Prelude.{◌≡◌, ◌-◌, ◌<◌, ◌≤◌, ◌^◌, length, codes, IfOk};
-ghost use Rattle.policy_syntax.specs.PolicyReading.{read_keyword, read_fwd, read_match, read_modify, read_m, read_atom_from, read_atom, read_then, read_thens, read_chain, read_plus, read_pluses, read_policy, read_policy_group, read_pred_group, read_start};
+ghost use Rattle.net_types.specs.PolicyReading.{read_keyword, read_fwd, read_match, read_modify, read_m, read_atom_from, read_atom, read_then, read_thens, read_chain, read_plus, read_pluses, read_policy, read_policy_group, read_pred_group, read_start};
 ghost use Rattle.net_types.specs.Policies.{Drop, Pass, Block};
 ghost use Rattle.policy_syntax.specs.Answers.{Gives};
 ghost use Rattle.policy_syntax.specs.Views.{policy_of};
@@ -14,7 +14,7 @@ use bumpalo::Bump;
 use net_types::{Assign, Span};
 use text_fields::{next_is, place, sign, spaces, word};
 
-#[tactic(auto, unfolding(crate::specs::PolicyReading::read_keyword))]
+#[tactic(auto, unfolding(net_types::specs::PolicyReading::read_keyword))]
 fn drop_word(size: usize, rest: &[u8]) -> Result<(Tree<'_>, &[u8]), SyntaxFault>
     requires { size < 2 ^ 32 }
     ensures reads { Gives (λ x. (policy_of x.0, x.1.now)) result (read_keyword (codes "drop") Drop size rest.now) }
@@ -24,7 +24,7 @@ fn drop_word(size: usize, rest: &[u8]) -> Result<(Tree<'_>, &[u8]), SyntaxFault>
     Ok((Tree::Drop, spaces(rest)))
 }
 
-#[tactic(auto, unfolding(crate::specs::PolicyReading::read_keyword))]
+#[tactic(auto, unfolding(net_types::specs::PolicyReading::read_keyword))]
 fn pass_word(size: usize, rest: &[u8]) -> Result<(Tree<'_>, &[u8]), SyntaxFault>
     requires { size < 2 ^ 32 }
     ensures reads { Gives (λ x. (policy_of x.0, x.1.now)) result (read_keyword (codes "pass") Pass size rest.now) }
@@ -34,7 +34,7 @@ fn pass_word(size: usize, rest: &[u8]) -> Result<(Tree<'_>, &[u8]), SyntaxFault>
     Ok((Tree::Pass, spaces(rest)))
 }
 
-#[tactic(auto, unfolding(crate::specs::PolicyReading::read_keyword))]
+#[tactic(auto, unfolding(net_types::specs::PolicyReading::read_keyword))]
 fn block_word(size: usize, rest: &[u8]) -> Result<(Tree<'_>, &[u8]), SyntaxFault>
     requires { size < 2 ^ 32 }
     ensures reads { Gives (λ x. (policy_of x.0, x.1.now)) result (read_keyword (codes "block") Block size rest.now) }
@@ -45,7 +45,7 @@ fn block_word(size: usize, rest: &[u8]) -> Result<(Tree<'_>, &[u8]), SyntaxFault
 }
 
 // Start is the place at which the atom stands.
-#[tactic(auto, unfolding(crate::specs::PolicyReading::read_fwd))]
+#[tactic(auto, unfolding(net_types::specs::PolicyReading::read_fwd))]
 fn fwd(size: usize, start: u32, rest: &[u8]) -> Result<(Tree<'_>, &[u8]), SyntaxFault>
     requires { size < 2 ^ 32 }
     ensures reads { Gives (λ x. (policy_of x.0, x.1.now)) result (read_fwd start size rest.now) }
@@ -60,7 +60,7 @@ fn fwd(size: usize, start: u32, rest: &[u8]) -> Result<(Tree<'_>, &[u8]), Syntax
 }
 
 // A test behind its first letter.
-#[tactic(auto, unfolding(crate::specs::PolicyReading::read_match))]
+#[tactic(auto, unfolding(net_types::specs::PolicyReading::read_match))]
 fn match_pred<'a>(
     arena: &'a Bump,
     depth: u32,
@@ -78,7 +78,7 @@ fn match_pred<'a>(
 }
 
 // A modification behind its first letter.
-#[tactic(auto, unfolding(crate::specs::PolicyReading::read_modify))]
+#[tactic(auto, unfolding(net_types::specs::PolicyReading::read_modify))]
 fn modify(size: usize, start: u32, rest: &[u8]) -> Result<(Tree<'_>, &[u8]), SyntaxFault>
     requires { size < 2 ^ 32 }
     ensures reads { Gives (λ x. (policy_of x.0, x.1.now)) result (read_modify start size rest.now) }
@@ -93,7 +93,7 @@ fn modify(size: usize, start: u32, rest: &[u8]) -> Result<(Tree<'_>, &[u8]), Syn
     Ok((Tree::Set(all, Span { start, end }), spaces(rest)))
 }
 
-#[tactic(auto, unfolding(crate::specs::PolicyReading::read_m))]
+#[tactic(auto, unfolding(net_types::specs::PolicyReading::read_m))]
 fn match_or_modify<'a>(
     arena: &'a Bump,
     depth: u32,
@@ -113,7 +113,7 @@ fn match_or_modify<'a>(
 }
 
 #[cycle(policies)]
-#[tactic(auto, unfolding(crate::specs::PolicyReading::read_atom, crate::specs::PolicyReading::read_atom_from))]
+#[tactic(auto, unfolding(net_types::specs::PolicyReading::read_atom, net_types::specs::PolicyReading::read_atom_from))]
 fn atom<'a>(
     arena: &'a Bump,
     depth: u32,
@@ -136,7 +136,7 @@ fn atom<'a>(
 }
 
 #[cycle(policies)]
-#[tactic(auto, unfolding(crate::specs::PolicyReading::read_then))]
+#[tactic(auto, unfolding(net_types::specs::PolicyReading::read_then))]
 fn then_atom<'a>(
     arena: &'a Bump,
     depth: u32,
@@ -174,7 +174,7 @@ fn thens<'a>(
 }
 
 #[cycle(policies)]
-#[tactic(auto, unfolding(crate::specs::PolicyReading::read_chain))]
+#[tactic(auto, unfolding(net_types::specs::PolicyReading::read_chain))]
 fn chain<'a>(
     arena: &'a Bump,
     depth: u32,
@@ -190,7 +190,7 @@ fn chain<'a>(
 }
 
 #[cycle(policies)]
-#[tactic(auto, unfolding(crate::specs::PolicyReading::read_plus))]
+#[tactic(auto, unfolding(net_types::specs::PolicyReading::read_plus))]
 fn plus_chain<'a>(
     arena: &'a Bump,
     depth: u32,
@@ -228,7 +228,7 @@ fn pluses<'a>(
 }
 
 #[cycle(policies)]
-#[tactic(auto, unfolding(crate::specs::PolicyReading::read_policy))]
+#[tactic(auto, unfolding(net_types::specs::PolicyReading::read_policy))]
 fn policy<'a>(
     arena: &'a Bump,
     depth: u32,
@@ -244,7 +244,7 @@ fn policy<'a>(
 }
 
 #[cycle(policies)]
-#[tactic(auto, unfolding(crate::specs::PolicyReading::read_policy_group, grammar::specs::TokenReading::read_parens))]
+#[tactic(auto, unfolding(net_types::specs::PolicyReading::read_policy_group, grammar::specs::TokenReading::read_parens))]
 fn group<'a>(
     arena: &'a Bump,
     depth: u32,
@@ -264,7 +264,7 @@ fn group<'a>(
 }
 
 /// The policy of a text, and what is left behind it.
-#[tactic(auto, unfolding(crate::specs::PolicyReading::read_start))]
+#[tactic(auto, unfolding(net_types::specs::PolicyReading::read_start))]
 pub fn start<'a>(
     arena: &'a Bump,
     depth: u32,

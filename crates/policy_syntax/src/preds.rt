@@ -1,7 +1,7 @@
 //! Predicates. Each function is handed how many groups may still be opened.
 
 ghost use Rattle.std.specs.Prelude.{◌≡◌, ◌-◌, ◌<◌, ◌≤◌, ◌^◌, length, codes, IfOk};
-ghost use Rattle.policy_syntax.specs.PolicyReading.{read_is, read_true, read_prim, read_not, read_lit, read_and, read_ands, read_conj, read_or, read_ors, read_pred, read_pred_group};
+ghost use Rattle.net_types.specs.PolicyReading.{read_is, read_true, read_prim, read_not, read_lit, read_and, read_ands, read_conj, read_or, read_ors, read_pred, read_pred_group};
 ghost use Rattle.grammar.specs.Octets.{among};
 ghost use Rattle.grammar.specs.TextReading.{read_either};
 ghost use Rattle.grammar.specs.TokenReading.{read_too_deep, read_sign};
@@ -17,7 +17,7 @@ use bumpalo::Bump;
 use net_types::Span;
 use text_fields::{WrongOctet, next_is, place, sign, spaces, word};
 
-#[tactic(auto, unfolding(crate::specs::PolicyReading::read_is))]
+#[tactic(auto, unfolding(net_types::specs::PolicyReading::read_is))]
 fn tested(size: usize, rest: &[u8]) -> Result<(Pred<'_>, &[u8]), SyntaxFault>
     requires { size < 2 ^ 32 }
     ensures reads { Gives (λ x. (pred_of x.0, x.1.now)) result (read_is size rest.now) }
@@ -29,7 +29,7 @@ fn tested(size: usize, rest: &[u8]) -> Result<(Pred<'_>, &[u8]), SyntaxFault>
     Ok((Pred::Is(test, Span { start, end }), spaces(after)))
 }
 
-#[tactic(auto, unfolding(crate::specs::PolicyReading::read_true))]
+#[tactic(auto, unfolding(net_types::specs::PolicyReading::read_true))]
 fn truth(size: usize, rest: &[u8]) -> Result<(Pred<'_>, &[u8]), SyntaxFault>
     requires { size < 2 ^ 32 }
     ensures reads { Gives (λ x. (pred_of x.0, x.1.now)) result (read_true size rest.now) }
@@ -57,7 +57,7 @@ pub fn too_deep(size: usize, rest: &[u8]) -> SyntaxFault
 }
 
 #[cycle(preds)]
-#[tactic(auto, unfolding(crate::specs::PolicyReading::read_prim))]
+#[tactic(auto, unfolding(net_types::specs::PolicyReading::read_prim))]
 fn prim<'a>(
     arena: &'a Bump,
     depth: u32,
@@ -76,7 +76,7 @@ fn prim<'a>(
 }
 
 #[cycle(preds)]
-#[tactic(auto, unfolding(crate::specs::PolicyReading::read_lit, crate::specs::PolicyReading::read_not))]
+#[tactic(auto, unfolding(net_types::specs::PolicyReading::read_lit, net_types::specs::PolicyReading::read_not))]
 fn lit<'a>(
     arena: &'a Bump,
     depth: u32,
@@ -110,7 +110,7 @@ fn and_sign(size: usize, rest: &[u8]) -> Result<&[u8], WrongOctet>
 }
 
 #[cycle(preds)]
-#[tactic(auto, unfolding(crate::specs::PolicyReading::read_and))]
+#[tactic(auto, unfolding(net_types::specs::PolicyReading::read_and))]
 fn and_lit<'a>(
     arena: &'a Bump,
     depth: u32,
@@ -148,7 +148,7 @@ fn ands<'a>(
 }
 
 #[cycle(preds)]
-#[tactic(auto, unfolding(crate::specs::PolicyReading::read_conj))]
+#[tactic(auto, unfolding(net_types::specs::PolicyReading::read_conj))]
 fn conj<'a>(
     arena: &'a Bump,
     depth: u32,
@@ -164,7 +164,7 @@ fn conj<'a>(
 }
 
 #[cycle(preds)]
-#[tactic(auto, unfolding(crate::specs::PolicyReading::read_or))]
+#[tactic(auto, unfolding(net_types::specs::PolicyReading::read_or))]
 fn or_conj<'a>(
     arena: &'a Bump,
     depth: u32,
@@ -202,7 +202,7 @@ fn ors<'a>(
 }
 
 #[cycle(preds)]
-#[tactic(auto, unfolding(crate::specs::PolicyReading::read_pred))]
+#[tactic(auto, unfolding(net_types::specs::PolicyReading::read_pred))]
 pub fn pred<'a>(
     arena: &'a Bump,
     depth: u32,
@@ -218,7 +218,7 @@ pub fn pred<'a>(
 }
 
 #[cycle(preds)]
-#[tactic(auto, unfolding(crate::specs::PolicyReading::read_pred_group, grammar::specs::TokenReading::read_parens))]
+#[tactic(auto, unfolding(net_types::specs::PolicyReading::read_pred_group, grammar::specs::TokenReading::read_parens))]
 fn pred_group<'a>(
     arena: &'a Bump,
     depth: u32,

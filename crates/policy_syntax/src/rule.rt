@@ -2,7 +2,7 @@
 
 ghost use Rattle.net_types.specs.Policies.{Policy};
 ghost use Rattle.net_types.specs.PolicyGrammar.{policy};
-ghost use Rattle.policy_syntax.specs.PolicyReading.{read_start};
+ghost use Rattle.net_types.specs.PolicyReading.{read_start};
 ghost use Rattle.policy_syntax.specs.After.{after_policy};
 
 use grammar::TextRule;

@@ -1,9 +1,9 @@
 //! Whole texts.
 
-ghost use Rattle.std.specs.Prelude.{◌≡◌, ◌<◌, ◌≤◌, length, IfOk, IfErr};
+ghost use Rattle.std.specs.Prelude.{◌≡◌, ◌<◌, ◌≤◌, ◌↔◌, length, IfOk, IfErr};
 ghost use Rattle.grammar.specs.Texts.{IsText, read_whole};
 ghost use Rattle.net_types.specs.PolicyGrammar.{policy};
-ghost use Rattle.policy_syntax.specs.PolicyReading.{read_start};
+ghost use Rattle.net_types.specs.PolicyReading.{read_start, policy_of_text};
 ghost use Rattle.policy_syntax.specs.Answers.{Gives, IsCause, FindsText};
 ghost use Rattle.policy_syntax.specs.ReadsBack.{EachPart, ReadsBack};
 ghost use Rattle.policy_syntax.specs.Views.{policy_of};
@@ -37,6 +37,10 @@ pub fn parse<'a>(_alloc: Global, arena: &'a Bump, text: &'a str) -> Result<Tree<
     ensures err { IfErr result (λ fault. IsCause 8192 64 text.now fault) }
     // A text that is short enough and spells a policy without too many groups is read, unless memory runs out.
     ensures found { FindsText 8192 64 text.now policy_of result }
+    // What is answered for a text that is short enough is what reading it gives, unless memory runs out.
+    ensures reads { length text.now ≤ 8192 → Gives policy_of result (policy_of_text text.now) }
+    // Too long are exactly the texts of more than 8192 octets.
+    ensures long { (result ≡ Err SyntaxFault.TextLong) ↔ (8192 < length text.now) }
     // The canonical text of the tree and of each of its parts spells the same, but for the spans.
     ensures back { IfOk result (λ tree. EachPart (λ p. ReadsBack 64 p) (policy_of tree)) }
 {

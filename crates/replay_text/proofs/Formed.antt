@@ -7,7 +7,7 @@ use Rattle.net_types.specs.declared.address.Ip.{Ip}
 use Rattle.net_types.specs.declared.address.PortNo.{PortNo}
 use Rattle.events.specs.declared.Event.{Event}
 use Rattle.events.specs.declared.Event.TheVariants.{Bad, Exchange, Participant, Port, Update, Down, Export, Drain, Arp, Resolve, Packet, Frame, Table}
-use Rattle.events.specs.Fits.{IsWellFormed}
+use Rattle.events.specs.Forms.{IsWellFormed}
 use Rattle.events.specs.Lines.{only_if, number, number_within, port_number, as_number, address, hardware_address, is_name, name, is_utf8, is_text, bytes, first_space, exchange_event, exchange_line, participant_line, port_line, update_line, arp_line, packet_line, frame_line, export_line, is_word, or_bad, pieces, event_of_word, event_of_words, event_of_verb, event_of_line}
 
 pub then_holds : {X Y : Type 0} (P : X → Type 0) (Q : Y → Type 0) (o : Option X) (f : X → Option Y) → IfSome o P → ((x : X) → P x → IfSome (f x) Q) → IfSome (option_and_then f o) Q

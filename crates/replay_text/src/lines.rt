@@ -2,7 +2,7 @@
 ghost use Rattle.std.specs.Prelude.{◌≡◌, ◌∷◌, codes, nat_eq, not, IfOk, IfSome};
 ghost use Rattle.std.specs.Option.{option_map};
 ghost use Rattle.events.specs.declared.Event.TheVariants.{Arp, Export, Frame, Packet, Participant, Port};
-ghost use Rattle.events.specs.Fits.{IsWellFormed};
+ghost use Rattle.events.specs.Forms.{IsWellFormed};
 ghost use Rattle.events.specs.Lines.{address, arp_line, event_of, event_of_line, event_of_verb, event_of_word, event_of_words, export_line, frame_line, is_skipped, only_if, or_bad, packet_line, pieces, update_line};
 
 use super::fields::{

@@ -26,10 +26,11 @@ use Rattle.events.specs.After as after
 use Rattle.events.specs.After.{bound_read, updated, with_known, with_rules, with_update, without_from}
 use Rattle.events.specs.Tags.{retagged}
 use Rattle.net_types.specs.declared.memory.Memory.{Memory}
-use Rattle.events.specs.Fits.{IsStep, IsWellFormed}
+use Rattle.events.specs.Forms.{IsWellFormed}
+use Rattle.events.specs.Fits.{IsStep}
 use Rattle.events.specs.declared.Event.{Event}
 use Rattle.events.specs.declared.Reply.{Reply}
-use Rattle.events.specs.Refusals.{attrs_refusal, bound_refusal, has_next_hop, if_known, or_else, refusal, rules_refusal, tags_refusal, text_refusal, unless, update_refusal}
+use Rattle.events.specs.Refusals.{attrs_refusal, bound_refusal, has_next_hop, if_known, or_else, refusal, rules_refusal, tags_refusal, text_refusal, refused_if, update_refusal}
 use Rattle.events.specs.State.{State}
 use Rattle.events.specs.declared.Event.TheVariants.{Down, Export, Update}
 use Rattle.events.specs.declared.Refusal.{Refusal}
@@ -124,16 +125,16 @@ short_path u fits = by u.attrs refl
 -- ---- why an UPDATE is refused
 
 module _ (s : State) (names : Registered) (who : Pid) (asn : asn_of (ruled names []) who ≡ asn_of s.routing who) (hop : (ip : Ip) → has_address names who ip ≡ has_next_hop s who ip) where
-  seen : (a : Attrs) → attrs_refusal s who (Some a) ≡ or_else (unless (not (admission.begins_with_own names who a)) FirstAs) (unless (not (has_address names who a.next_hop)) NextHop)
+  seen : (a : Attrs) → attrs_refusal s who (Some a) ≡ or_else (refused_if (not (admission.begins_with_own names who a)) FirstAs) (refused_if (not (has_address names who a.next_hop)) NextHop)
   seen a =
-      ap (λ n. or_else (unless (not (same_option nat_eq (first_as a.path) (Some n))) FirstAs) (unless (not (has_next_hop s who a.next_hop)) NextHop)) (sym asn)
-      ∙ ap (λ b. or_else (unless (not (admission.begins_with_own names who a)) FirstAs) (unless (not b) NextHop)) (sym (hop a.next_hop))
+      ap (λ n. or_else (refused_if (not (same_option nat_eq (first_as a.path) (Some n))) FirstAs) (refused_if (not (has_next_hop s who a.next_hop)) NextHop)) (sym asn)
+      ∙ ap (λ b. or_else (refused_if (not (admission.begins_with_own names who a)) FirstAs) (refused_if (not b) NextHop)) (sym (hop a.next_hop))
 
   pub first_refused : (o : Option Attrs) → option_and_then (admission.attrs_refusal names who) o ≡ Some faults.FirstAs → attrs_refusal s who o ≡ Some FirstAs
   first_refused None e = absurd (cc)
   first_refused (Some a) e = seen a ∙ by (admission.begins_with_own names who a) (has_address names who a.next_hop) e
     where
-      by : (b c : Bool) → cond b (cond c None (Some faults.NextHop)) (Some faults.FirstAs) ≡ Some faults.FirstAs → or_else (unless (not b) FirstAs) (unless (not c) NextHop) ≡ Some FirstAs
+      by : (b c : Bool) → cond b (cond c None (Some faults.NextHop)) (Some faults.FirstAs) ≡ Some faults.FirstAs → or_else (refused_if (not b) FirstAs) (refused_if (not c) NextHop) ≡ Some FirstAs
       by true true e = absurd (cc)
       by true false e = absurd (cc)
       by false c e = refl
@@ -142,7 +143,7 @@ module _ (s : State) (names : Registered) (who : Pid) (asn : asn_of (ruled names
   hop_refused None e = absurd (cc)
   hop_refused (Some a) e = seen a ∙ by (admission.begins_with_own names who a) (has_address names who a.next_hop) e
     where
-      by : (b c : Bool) → cond b (cond c None (Some faults.NextHop)) (Some faults.FirstAs) ≡ Some faults.NextHop → or_else (unless (not b) FirstAs) (unless (not c) NextHop) ≡ Some NextHop
+      by : (b c : Bool) → cond b (cond c None (Some faults.NextHop)) (Some faults.FirstAs) ≡ Some faults.NextHop → or_else (refused_if (not b) FirstAs) (refused_if (not c) NextHop) ≡ Some NextHop
       by true true e = absurd (cc)
       by true false e = refl
       by false c e = absurd (cc)
@@ -151,7 +152,7 @@ module _ (s : State) (names : Registered) (who : Pid) (asn : asn_of (ruled names
   none_refused None first hop = refl
   none_refused (Some a) first hop = seen a ∙ by (admission.begins_with_own names who a) (has_address names who a.next_hop) first hop
     where
-      by : (b c : Bool) → (cond b (cond c None (Some faults.NextHop)) (Some faults.FirstAs) ≡ Some faults.FirstAs → ⊥) → (cond b (cond c None (Some faults.NextHop)) (Some faults.FirstAs) ≡ Some faults.NextHop → ⊥) → or_else (unless (not b) FirstAs) (unless (not c) NextHop) ≡ None
+      by : (b c : Bool) → (cond b (cond c None (Some faults.NextHop)) (Some faults.FirstAs) ≡ Some faults.FirstAs → ⊥) → (cond b (cond c None (Some faults.NextHop)) (Some faults.FirstAs) ≡ Some faults.NextHop → ⊥) → or_else (refused_if (not b) FirstAs) (refused_if (not c) NextHop) ≡ None
       by true true first hop = refl
       by true false first hop = absurd (hop refl)
       by false c first hop = absurd (first refl)

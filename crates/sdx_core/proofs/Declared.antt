@@ -6,8 +6,9 @@ use Rattle.std.specs.List.{list_any}
 use Rattle.std.proofs.lemmas.Bool.{lt-leb}
 use Rattle.events.proofs.Reached.{declared_pid}
 use Rattle.events.specs.After.{with_known, with_participant, with_port}
-use Rattle.events.specs.Fits.{IsStep, IsWellFormed, bare}
-use Rattle.events.specs.Refusals.{if_known, is_name_taken, is_placed, is_port_taken, or_else, refusal, refusal_in_place, unless}
+use Rattle.events.specs.Forms.{IsWellFormed}
+use Rattle.events.specs.Fits.{IsStep, bare}
+use Rattle.events.specs.Refusals.{if_known, is_name_taken, is_placed, is_port_taken, or_else, refusal, refusal_in_place, refused_if}
 use Rattle.events.specs.State.{State}
 use Rattle.events.specs.Tags as events
 use Rattle.events.specs.declared.Entry.{Entry}
@@ -114,7 +115,7 @@ pub participant_step : {s : State} {pool : Tags} → IsKept s pool → s.phase �
 participant_step {s} kept declaring name asn id formed absent few r is =
     quiet_step s (DeclaresParticipant name asn id) r kept.steady formed
     (declaring_at s (DeclaresParticipant name asn id) None declaring refl
-    (ap (λ b. or_else (unless b Clash) (unless (nat_le 256 (length s.routing.participants)) Full)) absent ∙ ap (λ b. unless b Full) (lt-leb 256 (length s.routing.participants) few)))
+    (ap (λ b. or_else (refused_if b Clash) (refused_if (nat_le 256 (length s.routing.participants)) Full)) absent ∙ ap (λ b. refused_if b Full) (lt-leb 256 (length s.routing.participants) few)))
     refl is
 
 pub participant_kept : {s : State} {pool : Tags} → IsKept s pool → s.phase ≡ Declaring → (name : List ℕ) (asn : ℕ) (id : Ip) → IsWellFormed (DeclaresParticipant name asn id)
@@ -132,14 +133,14 @@ pub name_refused : {s : State} {pool : Tags} → IsKept s pool → s.phase ≡ D
 name_refused {s} kept declaring st is name asn id there r reply =
     subst (λ x. IsStep x (DeclaresParticipant name asn id) r x) is
     (refused_step s (DeclaresParticipant name asn id) r Clash (declaring_at s (DeclaresParticipant name asn id) (Some Clash) declaring refl
-    (ap (λ b. or_else (unless b Clash) (unless (nat_le 256 (length s.routing.participants)) Full)) there)) reply)
+    (ap (λ b. or_else (refused_if b Clash) (refused_if (nat_le 256 (length s.routing.participants)) Full)) there)) reply)
 
 pub full_refused : {s : State} {pool : Tags} → IsKept s pool → s.phase ≡ Declaring → (st : State) → s ≡ st → (name : List ℕ) (asn : ℕ) (id : Ip) → is_name_taken s name ≡ false → nat_le 256 (length s.routing.participants) ≡ true
     → (r : Reply) → r ≡ bare (Refused Full) → IsStep st (DeclaresParticipant name asn id) r st
 full_refused {s} kept declaring st is name asn id absent many r reply =
     subst (λ x. IsStep x (DeclaresParticipant name asn id) r x) is
     (refused_step s (DeclaresParticipant name asn id) r Full (declaring_at s (DeclaresParticipant name asn id) (Some Full) declaring refl
-    (ap (λ b. or_else (unless b Clash) (unless (nat_le 256 (length s.routing.participants)) Full)) absent ∙ ap (λ b. unless b Full) many)) reply)
+    (ap (λ b. or_else (refused_if b Clash) (refused_if (nat_le 256 (length s.routing.participants)) Full)) absent ∙ ap (λ b. refused_if b Full) many)) reply)
 
 -- ---- a port
 
@@ -156,7 +157,7 @@ port_step {s} kept declaring name who number ip mac formed known free r is =
     let e : Event = DeclaresPort name number ip mac in
     subst (IsStep s e r) (ap (λ o. with_known s o (λ w. with_port s (port_by w number ip mac))) known)
     (quiet_step s e r kept.steady formed (declaring_at s e None declaring refl
-    (ap (λ o. if_known o (λ w. unless (is_port_taken s number ip mac) Clash)) known ∙ ap (λ b. unless b Clash) free)) refl is)
+    (ap (λ o. if_known o (λ w. refused_if (is_port_taken s number ip mac) Clash)) known ∙ ap (λ b. refused_if b Clash) free)) refl is)
 
 pub port_kept : {s : State} {pool : Tags} → IsKept s pool → s.phase ≡ Declaring → (name : List ℕ) (who : Pid) (number : PortNo) (ip : Ip) (mac : Mac) → IsWellFormed (DeclaresPort name number ip mac)
     → pid_of s.routing name ≡ Some who → is_port_taken s number ip mac ≡ false → IsKept (with_port s (port_by who number ip mac)) pool
@@ -170,7 +171,7 @@ port_refused {s} kept declaring st is name who number ip mac known taken r reply
     let e : Event = DeclaresPort name number ip mac in
     subst (λ x. IsStep x e r x) is
     (refused_step s e r Clash (declaring_at s e (Some Clash) declaring refl
-    (ap (λ o. if_known o (λ w. unless (is_port_taken s number ip mac) Clash)) known ∙ ap (λ b. unless b Clash) taken)) reply)
+    (ap (λ o. if_known o (λ w. refused_if (is_port_taken s number ip mac) Clash)) known ∙ ap (λ b. refused_if b Clash) taken)) reply)
 
 -- ---- the parts after a line
 

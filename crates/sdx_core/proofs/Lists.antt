@@ -2,7 +2,8 @@
 use Rattle.std.proofs.Common.{◌≡◌, ℕ, true, List, ap, refl, subst, sym, ◌∙◌}
 use Rattle.std.specs.Prelude.{Some, None, MatchOption}
 use Rattle.events.specs.After.{running}
-use Rattle.events.specs.Fits.{IsStep, IsWellFormed, all_flows, bare, by_table}
+use Rattle.events.specs.Forms.{IsWellFormed}
+use Rattle.events.specs.Fits.{IsStep, all_flows, bare, by_table}
 use Rattle.events.specs.Refusals.{if_known}
 use Rattle.events.specs.State.{State, port_of}
 use Rattle.events.specs.declared.Event.TheVariants.{Frame, Table}

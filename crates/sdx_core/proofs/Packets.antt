@@ -5,8 +5,9 @@ use Rattle.std.specs.Borrow.{Bor}
 use Rattle.std.specs.FinMap.{FinMap, empty, get, keys}
 use Rattle.std.specs.Option.{option_map}
 use Rattle.events.specs.After.{running}
-use Rattle.events.specs.Fits.{bare, by_table, destination, tagged_frame, IsForwarded, IsSent, IsStep, IsTagged, IsWellFormed}
-use Rattle.events.specs.Refusals.{if_known, is_datagram, refusal, unless}
+use Rattle.events.specs.Forms.{IsWellFormed}
+use Rattle.events.specs.Fits.{bare, by_table, destination, tagged_frame, IsForwarded, IsSent, IsStep, IsTagged}
+use Rattle.events.specs.Refusals.{if_known, is_datagram, refusal, refused_if}
 use Rattle.events.specs.Resolving.{is_resolved, tag_address}
 use Rattle.events.specs.State.{State, port_of, told_to}
 use Rattle.events.specs.Table.{framed}
@@ -34,14 +35,14 @@ use Rattle.sdx_core.proofs.Steps.{in_place, kept_after, placed, quiet_step, refu
 
 pub packet_refused : {s : State} {pool : Tags} → IsKept s pool → is_declared s.phase ≡ true → (st : State) → s ≡ st → (port : PortNo) (bytes : List ℕ) → port_of s port ≡ None → (r : Reply) → r ≡ bare (Refused Unknown) → IsStep st (Packet port bytes) r st
 packet_refused {s} kept ready st is port bytes none r reply =
-    refused_at s st (Packet port bytes) r Unknown is (placed (Packet port bytes) refl refl s.phase ready) (ap (λ o. if_known o (λ x. unless (not (is_datagram bytes)) BadPacket)) none) reply
+    refused_at s st (Packet port bytes) r Unknown is (placed (Packet port bytes) refl refl s.phase ready) (ap (λ o. if_known o (λ x. refused_if (not (is_datagram bytes)) BadPacket)) none) reply
 
 -- a datagram that isn't one is refused
 pub no_packet : {s : State} {pool : Tags} → IsKept s pool → is_declared s.phase ≡ true → (st : State) → s ≡ st → (port : PortNo) (bytes : List ℕ) (q : PortInfo) → port_of s port ≡ Some q → (to : Mac) → length to.0 ≡ 6 → length q.mac.0 ≡ 6
     → (frame : List ℕ) → frame ≡ framed to q.mac bytes → headers_of port frame ≡ None → (r : Reply) → r ≡ bare (Refused BadPacket) → IsStep st (Packet port bytes) r st
 no_packet {s} kept ready st is port bytes q found to six_to six_from frame is_framed none r reply =
     refused_at s st (Packet port bytes) r BadPacket is (placed (Packet port bytes) refl refl s.phase ready)
-    (ap (λ o. if_known o (λ x. unless (not (is_datagram bytes)) BadPacket)) found ∙ ap (λ b. unless (not b) BadPacket) (is_datagram-none port to q.mac bytes six_to six_from (ap (headers_of port) (sym is_framed) ∙ none))) reply
+    (ap (λ o. if_known o (λ x. refused_if (not (is_datagram bytes)) BadPacket)) found ∙ ap (λ b. refused_if (not b) BadPacket) (is_datagram-none port to q.mac bytes six_to six_from (ap (headers_of port) (sym is_framed) ∙ none))) reply
 
 -- the reply by what was found
 abbrev pub reply_by : State → PortInfo → List ℕ → Option Entry → Reply
@@ -96,8 +97,8 @@ module _ (s : State) (pool : Tags) (kept : IsKept s pool) (port : PortNo) (q : P
   not_refused : is_declared s.phase ≡ true → refusal s (Packet port bytes) ≡ None
   not_refused ready =
       in_place s (Packet port bytes) (placed (Packet port bytes) refl refl s.phase ready)
-      ∙ ap (λ o. if_known o (λ x. unless (not (is_datagram bytes)) BadPacket)) found
-      ∙ ap (λ b. unless (not b) BadPacket) datagram
+      ∙ ap (λ o. if_known o (λ x. refused_if (not (is_datagram bytes)) BadPacket)) found
+      ∙ ap (λ b. refused_if (not b) BadPacket) datagram
 
   -- the reply that comes of what is found is right
   pub packet_step : is_declared s.phase ≡ true → IsWellFormed (Packet port bytes) → (o : Option (Prefix × Bor Entry)) → option_map (λ (e : Prefix × Bor Entry). e.0) o ≡ longest_of (keys entries) h.dst → IfSome o (λ e. Some e.1.now ≡ get entries e.0)

@@ -7,8 +7,9 @@ use Rattle.net_types.specs.Exports.{Routing}
 use Rattle.net_types.specs.Keys.{prefix_cmp}
 use Rattle.net_types.specs.declared.address.Ip.{Ip}
 use Rattle.events.specs.After.{next}
-use Rattle.events.specs.Fits.{Fits, IsStep, IsWellFormed, bare}
-use Rattle.events.specs.Refusals.{tags_refusal, unless}
+use Rattle.events.specs.Forms.{IsWellFormed}
+use Rattle.events.specs.Fits.{Fits, IsStep, bare}
+use Rattle.events.specs.Refusals.{tags_refusal, refused_if}
 use Rattle.events.specs.Sound.{rule_count}
 use Rattle.events.specs.State.{State}
 use Rattle.events.specs.Tags as events
@@ -63,13 +64,13 @@ pub short_step : (s : State) (e : Event) (r : Routing) (p : Proposed) (reply : R
 short_step s e r p reply need free leads needs frees below is =
     let less : length (events.free_tags s) < length (groups s r) = omega (arith, needs, frees, below) in
     refused_step s e reply (NoNextHop need free)
-    (leads.refuses ∙ ap (λ b. unless b (NoNextHop (length (groups s r)) (length (events.free_tags s)))) (lt-ltb (length (events.free_tags s)) (length (groups s r)) less)
+    (leads.refuses ∙ ap (λ b. refused_if b (NoNextHop (length (groups s r)) (length (events.free_tags s)))) (lt-ltb (length (events.free_tags s)) (length (groups s r)) less)
     ∙ ap (λ n. Some (NoNextHop n (length (events.free_tags s)))) (sym needs) ∙ ap (λ n. Some (NoNextHop need n)) (sym frees)) is
 
 -- where there are enough, the tags refuse nothing
 enough_pass : (s : State) (r : Routing) → HasEnoughTags s r → tags_refusal s r ≡ None
 enough_pass s r enough =
-    ap (λ b. unless b (NoNextHop (length (groups s r)) (length (events.free_tags s))))
+    ap (λ b. refused_if b (NoNextHop (length (groups s r)) (length (events.free_tags s))))
     (false_from_ne_true _ (λ less. let below : length (events.free_tags s) < length (groups s r) = ltb-true (length (events.free_tags s)) (length (groups s r)) less in omega (arith, below, enough)))
 
 pub rerouting_of : (s : State) (e : Event) (r : Routing) (p : Proposed) → Leads s e r p → HasEnoughTags s r → IsRerouting s e r

@@ -11,7 +11,8 @@ use Rattle.std.proofs.lemmas.Bool.{eq-eqb}
 use Rattle.std.proofs.lemmas.Option.{cond_some}
 use Rattle.arp_frame.specs.declared.read.ArpRequest.{ArpRequest}
 use Rattle.events.specs.After.{running, with_known}
-use Rattle.events.specs.Fits.{IsStep, IsWellFormed, asks_for, bare, responder_reply}
+use Rattle.events.specs.Forms.{IsWellFormed}
+use Rattle.events.specs.Fits.{IsStep, asks_for, bare, responder_reply}
 use Rattle.events.specs.Refusals.{if_known}
 use Rattle.events.specs.Resolving.{is_answered, port_place, resolved_at, tag_address, unresolved, with_answer, with_resolved}
 use Rattle.events.specs.State.{State, port_of, told_to}

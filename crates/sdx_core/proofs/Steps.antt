@@ -3,7 +3,8 @@ use Rattle.std.proofs.Common.{◌≡◌, true, cond, List, [], ap, refl, subst, 
 use Rattle.std.specs.Prelude.{Some, None, codes, map}
 use Rattle.std.specs.FinMap.{FinMap, empty}
 use Rattle.events.specs.After.{after, next}
-use Rattle.events.specs.Fits.{FitsBy, IsAnswer, IsStep, IsWellFormed, bare}
+use Rattle.events.specs.Forms.{IsWellFormed}
+use Rattle.events.specs.Fits.{FitsBy, IsAnswer, IsStep, bare}
 use Rattle.events.specs.Refusals.{is_placed, refusal, refusal_in_place}
 use Rattle.events.specs.State.{State, first}
 use Rattle.events.specs.Tags as events

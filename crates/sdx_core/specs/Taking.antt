@@ -4,7 +4,8 @@ use Rattle.std.specs.FinMap.{FinMap, get}
 use Rattle.std.specs.List.{filter_map}
 use Rattle.std.specs.Option.{option_map}
 use Rattle.advert_queue.specs.Telling.{tags_of}
-use Rattle.events.specs.Fits.{IsWellFormed, adverts}
+use Rattle.events.specs.Forms.{IsWellFormed}
+use Rattle.events.specs.Fits.{adverts}
 use Rattle.events.specs.State.{State, present, told_to}
 use Rattle.events.specs.declared.Entry.{Entry}
 use Rattle.events.specs.declared.Event.TheVariants.{Drain}

@@ -2,7 +2,8 @@
 
 ghost use Rattle.std.specs.Prelude.{◌≡◌, IfOk, IsTrue};
 ghost use Rattle.net_types.specs.Exports.{Routing};
-ghost use Rattle.events.specs.Fits.{IsStep, IsWellFormed};
+ghost use Rattle.events.specs.Forms.{IsWellFormed};
+ghost use Rattle.events.specs.Fits.{IsStep};
 ghost use Rattle.events.specs.Lines.{is_utf8};
 ghost use Rattle.events.specs.declared.Event.{Event};
 ghost use Rattle.events.specs.declared.Event.TheVariants as lines;

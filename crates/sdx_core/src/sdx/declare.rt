@@ -1,7 +1,8 @@
 //! The lines that declare: the pool and the table, participants and their ports.
 
 ghost use Rattle.std.specs.Prelude.{◌≡◌, ◌||◌, ◌∷◌, [], take, IfOk};
-ghost use Rattle.events.specs.Fits.{IsStep, IsWellFormed};
+ghost use Rattle.events.specs.Forms.{IsWellFormed};
+ghost use Rattle.events.specs.Fits.{IsStep};
 ghost use Rattle.events.specs.declared.Event.TheVariants as lines;
 ghost use Rattle.net_types.specs.Octets.{same_octets};
 ghost use Rattle.sdx_core.specs.Placed.{lies_in};

@@ -1,7 +1,8 @@
 //! The lines that send a datagram from the router at a port, or a frame as it is.
 
 ghost use Rattle.std.specs.Prelude.{◌≡◌, ◌≤◌, IfOk, Some, length};
-ghost use Rattle.events.specs.Fits.{IsStep, IsWellFormed};
+ghost use Rattle.events.specs.Forms.{IsWellFormed};
+ghost use Rattle.events.specs.Fits.{IsStep};
 ghost use Rattle.events.specs.Resolving.{is_resolved};
 ghost use Rattle.events.specs.declared.Event.TheVariants as lines;
 ghost use Rattle.sdx_core.specs.Leaving.{sent_by};

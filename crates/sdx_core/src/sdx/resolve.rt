@@ -1,7 +1,8 @@
 //! The lines by which routers learn the MACs of next hops (RFC 826).
 
 ghost use Rattle.std.specs.Prelude.{◌≡◌, IfOk};
-ghost use Rattle.events.specs.Fits.{IsStep, IsWellFormed};
+ghost use Rattle.events.specs.Forms.{IsWellFormed};
+ghost use Rattle.events.specs.Fits.{IsStep};
 ghost use Rattle.net_types.specs.Octets.{same_octets};
 ghost use Rattle.events.specs.declared.Event.TheVariants as lines;
 

@@ -1,7 +1,8 @@
 //! The line by which a participant takes what is pending for it.
 
 ghost use Rattle.std.specs.Prelude.{◌≡◌, ◌<◌, ℕ, IfOk, List, length};
-ghost use Rattle.events.specs.Fits.{IsStep, IsWellFormed};
+ghost use Rattle.events.specs.Forms.{IsWellFormed};
+ghost use Rattle.events.specs.Fits.{IsStep};
 ghost use Rattle.events.specs.State.{present};
 ghost use Rattle.events.specs.declared.Event.TheVariants as lines;
 ghost use Rattle.sdx_core.specs.Changing.{IsSender};

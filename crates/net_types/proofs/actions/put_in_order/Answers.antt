@@ -12,4 +12,4 @@ pub returns : goal.returns
 returns c =
     let sorted = c.sort_unstable_by.ensures.sorted (λ x y. is_lt (action_cmp x y)) (ranks_by actions_total (λ (a : Action). a)) (answers_always _ _ _ (λ f a r next k. search rules)) in
     dedup_same _ (eq_by_cmp action_cmp) _ (λ x y b f' x' y' called. (search rules, search rules, search rules, search rules)) _ _ c.dedup_by.ensures.filtered
-    ∙ actions_in_order c.args.actions.old.items c.sort_unstable_by.new.self.items c.sort_unstable_by.ensures.permutation sorted
+    ∙ actions_in_order c.args.actions.now.items c.sort_unstable_by.new.self.items c.sort_unstable_by.ensures.permutation sorted

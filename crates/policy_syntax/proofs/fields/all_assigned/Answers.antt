@@ -2,7 +2,7 @@ use Rattle.std.proofs.Common.{arith}
 use Rattle.std.specs.Prelude.{codes}
 use Rattle.net_types.specs.PolicyGrammar.{with_field}
 use Rattle.grammar.specs.Octets.{among}
-use Rattle.policy_syntax.specs.PolicyReading.{read_set, read_sets}
+use Rattle.net_types.specs.PolicyReading.{read_set, read_sets}
 use Rattle.grammar.proofs.RepeatLoops.{starts_reading}
 use Rattle.policy_syntax.proofs.fields.all_assigned.Goals as goal
 

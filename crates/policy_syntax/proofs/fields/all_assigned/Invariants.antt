@@ -2,7 +2,7 @@ use Rattle.std.proofs.Common.{◌≤◌, length}
 use Rattle.std.specs.Prelude.{codes}
 use Rattle.net_types.specs.PolicyGrammar.{with_field}
 use Rattle.grammar.specs.Octets.{among}
-use Rattle.policy_syntax.specs.PolicyReading.{read_set, read_sets}
+use Rattle.net_types.specs.PolicyReading.{read_set, read_sets}
 use Rattle.grammar.proofs.RepeatLoops.{StillReads}
 use Rattle.policy_syntax.proofs.fields.all_assigned.Given as goal
 

@@ -2,7 +2,7 @@ use Rattle.std.proofs.Common.{arith}
 use Rattle.std.specs.Prelude.{codes}
 use Rattle.net_types.specs.Policies.{Then, Both}
 use Rattle.grammar.specs.Octets.{among}
-use Rattle.policy_syntax.specs.PolicyReading.{read_then, read_thens, read_plus, read_pluses, read_pred_group, read_policy_group}
+use Rattle.net_types.specs.PolicyReading.{read_then, read_thens, read_plus, read_pluses, read_pred_group, read_policy_group}
 use Rattle.policy_syntax.specs.Views.{policy_of}
 use Rattle.grammar.proofs.RepeatLoops.{starts_reading}
 use Rattle.policy_syntax.proofs.policies.+policies.Goals as goal

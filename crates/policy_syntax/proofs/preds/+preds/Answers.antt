@@ -2,7 +2,7 @@ use Rattle.std.proofs.Common.{arith}
 use Rattle.std.specs.Prelude.{codes}
 use Rattle.net_types.specs.Policies.{And, Or}
 use Rattle.grammar.specs.Octets.{among}
-use Rattle.policy_syntax.specs.PolicyReading.{read_and, read_ands, read_or, read_ors, read_pred_group}
+use Rattle.net_types.specs.PolicyReading.{read_and, read_ands, read_or, read_ors, read_pred_group}
 use Rattle.policy_syntax.specs.Views.{pred_of}
 use Rattle.grammar.proofs.RepeatLoops.{starts_reading}
 use Rattle.policy_syntax.proofs.preds.+preds.Goals as goal

@@ -1,5 +1,5 @@
 use Rattle.std.proofs.Common.{sym, subst}
-use Rattle.events.specs.Fits.{IsWellFormed}
+use Rattle.events.specs.Forms.{IsWellFormed}
 use Rattle.replay_text.proofs.Formed.{line_formed}
 use Rattle.replay_text.proofs.lines.read_line.Goals as goal
 

@@ -1,7 +1,8 @@
 -- Reading a policy from left to right, one octet ahead.
-use Rattle.std.specs.Prelude.{ℕ, zero, suc, List, length, codes}
+use Rattle.std.specs.Prelude.{ℕ, zero, suc, List, length, codes, Result}
 use Rattle.grammar.specs.Tokens.{is_letter}
-use Rattle.grammar.specs.TextReading.{Reader, ◌>>=◌, ◌>>◌, pure, place, read_word, read_either, read_many}
+use Rattle.grammar.specs.TextReading.{Fault, Reader, ◌>>=◌, ◌>>◌, pure, place, read_word, read_either, read_many}
+use Rattle.grammar.specs.Texts.{read_whole}
 use Rattle.grammar.specs.Octets.{among}
 use Rattle.grammar.specs.TokenReading.{read_parens, read_too_deep, read_address, read_sign, read_spaces, read_name, read_number}
 use Rattle.net_types.specs.Policies.{Target, Name, Test, Src, Dst, Proto, Sport, Dport, Pred, Yes, Is, Not, And, Or, Policy, Drop, Pass, Block, Fwd, Match, Set, Both, Then}
@@ -208,3 +209,7 @@ unfoldable pub read_start : ℕ → Reader Policy
 read_start d = do
   read_spaces
   read_policy (read_pred_group d) (read_policy_group d)
+
+-- the policy that a whole text spells with at most 64 groups open at once, or why it spells none, and where
+unfoldable pub policy_of_text : List ℕ → Result Policy Fault
+policy_of_text text = read_whole (read_start 64) text
