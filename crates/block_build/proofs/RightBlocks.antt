@@ -1,5 +1,5 @@
 -- The rules that are built are right, and right rules are no more than the cells.
-use Rattle.std.proofs.Common.{◌≡◌, ◌≤◌, true, cond, suc, length, List, [], ◌∷◌, map, refl, inl, inr, sym, ap, ◌∙◌, subst}
+use Rattle.std.proofs.Common.{◌≡◌, ◌≤◌, Bool, true, false, cond, suc, length, List, [], ◌∷◌, map, refl, inl, inr, sym, ap, ◌∙◌, subst}
 use Rattle.std.specs.Prelude.{Option, Some, None, is_some, nat_eq}
 use Rattle.std.specs.List.{list_all}
 use Rattle.std.specs.Option.{option_map, option_map_or}
