@@ -3,8 +3,9 @@ use Rattle.std.proofs.Common.{◌≡◌, ◌≤◌, List, [], ◌∷◌, ◌++�
 use Rattle.std.specs.Prelude.{None, is_some}
 use Rattle.std.proofs.lemmas.Bool.{eqb-true}
 use Rattle.events.specs.Sound.{IsRight, cubes_of}
-use Rattle.events.specs.State.{ArePolicies}
-use Rattle.exchange_laws.proofs.Dropping.{DropAll, reads_drop}
+use Rattle.events.proofs.Routed.{TextsDrop, all_drop}
+use Rattle.events.specs.State.{State, ArePolicies}
+use Rattle.exchange_laws.proofs.Dropping.{texts_drop}
 use Rattle.exchange_laws.proofs.LivePairs.{live_at}
 use Rattle.exchange_laws.specs.Counts.{SteadyHaveOneEach}
 use Rattle.net_types.proofs.FindLemmas.{find-IsFound}
@@ -23,14 +24,14 @@ use Rattle.net_types.specs.declared.route.PortInfo.{PortInfo}
 use Rattle.net_types.specs.declared.rule.Rule.{Rule}
 
 -- policies that drop have no atoms
-no_atoms : (ps : Policies) → DropAll ps.outbound → DropAll ps.inbound → (port : PortNo) (part : Part) → cell_atoms ps port part ≡ []
-no_atoms ps out into port part =
-    ap (λ (t : Policy). union_over (freed port) (atoms t) ++ union_over (λ (o : Offer). atoms (policy_of ps.inbound o.exporter)) part.offers) (out part.sender)
+no_atoms : (s : State) (ps : Policies) → TextsDrop s → ArePolicies s ps → (port : PortNo) (part : Part) → cell_atoms ps port part ≡ []
+no_atoms s ps drop are port part =
+    ap (λ (t : Policy). union_over (freed port) (atoms t) ++ union_over (λ (o : Offer). atoms (policy_of ps.inbound o.exporter)) part.offers) (all_drop s.outbound ps.outbound drop.outbound are.outbound part.sender.0)
     ∙ none part.offers
   where
     none : (offers : List Offer) → union_over (λ (o : Offer). atoms (policy_of ps.inbound o.exporter)) offers ≡ []
     none [] = refl
-    none (o ∷ offers) = ap (λ (t : Policy). atoms t ++ union_over (λ (x : Offer). atoms (policy_of ps.inbound x.exporter)) offers) (into o.exporter) ∙ none offers
+    none (o ∷ offers) = ap (λ (t : Policy). atoms t ++ union_over (λ (x : Offer). atoms (policy_of ps.inbound x.exporter)) offers) (all_drop s.inbound ps.inbound drop.inbound are.inbound o.exporter.0) ∙ none offers
 
 -- rules of which each has the cube of everything, and that are right, are one
 one_rule : (ps : Policies) (part : Part) (port : PortNo) (rules : List Rule) → port.0 ≤ 65279 → IsRight ps part port rules → ((c : Cube) → Member c (cubes_of rules) → c ≡ everything) → length rules ≡ 1
@@ -46,7 +47,6 @@ pub steady_have_one_each : SteadyHaveOneEach
 steady_have_one_each s steady pair rules has =
     let right = steady.sound.right.2 pair rules has in
     let ps : Policies = steady.sound.right.0 in
-    let are : ArePolicies s ps = steady.sound.right.1 in
     let part : Part = right.0 in
     let at = live_at s pair (sym (steady.sound.pairs pair) ∙ ap is_some has) in
     let q : PortInfo = at.0 in
@@ -54,6 +54,4 @@ steady_have_one_each s steady pair rules has =
     let small = (steady.numbered q found.stands).1 in
     let same : q.number.0 ≡ pair.port.0 = eqb-true q.number.0 pair.port.0 found.passes in
     one_rule ps part pair.port rules (subst (λ n. n ≤ 65279) same small) right.2 (λ c m.
-    subst (λ cubes. IsMeet cubes c)
-    (no_atoms ps (reads_drop s.routing.participants s.outbound ps.outbound steady.drop.outbound are.outbound) (reads_drop s.routing.participants s.inbound ps.inbound steady.drop.inbound are.inbound) pair.port part)
-    (right.2.meets c m))
+    subst (λ cubes. IsMeet cubes c) (no_atoms s ps (texts_drop s s.routing.participants steady.drop.outbound steady.drop.inbound) steady.sound.right.1 pair.port part) (right.2.meets c m))

@@ -4,11 +4,12 @@ use Rattle.std.specs.Prelude.{Option, Some, None, is_some}
 use Rattle.std.specs.FinMap.{get}
 use Rattle.std.specs.Option.{option_and_then, option_map}
 use Rattle.std.proofs.lemmas.Bool.{or_cases, or_left}
+use Rattle.events.proofs.Routed.{TextsDrop, dropped_answer}
 use Rattle.events.specs.Sound.{IsRight, IsSound, owners_part, part_of, rule_count}
 use Rattle.events.specs.State.{State, ArePolicies, AreRead, port_of, present, told_to}
 use Rattle.events.specs.Table.{done_by}
 use Rattle.events.specs.Tags.{is_live_pair, pairs, retagged, tells}
-use Rattle.exchange_laws.proofs.Dropping.{DropAll, dropped_answer, reads_drop}
+use Rattle.exchange_laws.proofs.Dropping.{texts_drop}
 use Rattle.exchange_laws.proofs.LivePairs.{live_at, live_from, live_tag, pair_listed, present_part}
 use Rattle.exchange_laws.proofs.Lists.{TableOf, clash, cond_there, get_tabulated, some_of}
 use Rattle.exchange_laws.proofs.TagsAfter.{carried_have_tags, live_tags_stay, signatures_are_kept, tags_stay_pooled}
@@ -49,18 +50,18 @@ one_right ps part port actions ordered gives =
       ordered = λ x m. elim m [ inl same ↦ subst (λ (y : Rule). AreInOrder y.actions) (sym same) ordered | inr no_more ↦ absurd no_more ];
     }
 
-pub default_right : (ps : Policies) → DropAll ps.outbound → DropAll ps.inbound → (part : Part) (port : PortNo) → IsRight ps part port (default_rules part)
-default_right ps out into part port = by (offered_hole part.offers part.best) refl
+pub default_right : (s : State) (ps : Policies) → TextsDrop s → ArePolicies s ps → (part : Part) (port : PortNo) → IsRight ps part port (default_rules part)
+default_right s ps drop are part port = by (offered_hole part.offers part.best) refl
   where
     to : PortNo
     to = offered_port part.offers part.best
 
     gives : (h : Headers) → part_answer ps part h ≡ cond (offered_hole part.offers part.best) [] (record { headers = h; port = to } ∷ [])
-    gives h = dropped_answer ps out into part.sender (is_offered part.offers) (offered_hole part.offers) part.best (offered_port part.offers) h
+    gives h = dropped_answer s ps drop are part.sender (is_offered part.offers) (offered_hole part.offers) part.best (offered_port part.offers) h
 
     by : (b : Bool) → offered_hole part.offers part.best ≡ b → IsRight ps part port (cond b discarding (rule_to to) ∷ [])
     by true hole = one_right ps part port [] tt (λ h. sym (gives h ∙ ap (λ b. cond b [] (record { headers = h; port = to } ∷ [])) hole))
-    by false open = one_right ps part port (record { port = to; set = no_change } ∷ []) (λ y m. absurd m, tt) (λ h. sym (gives h ∙ ap (λ b. cond b [] (record { headers = h; port = to } ∷ [])) open))
+    by false kept = one_right ps part port (record { port = to; set = no_change } ∷ []) (λ y m. absurd m, tt) (λ h. sym (gives h ∙ ap (λ b. cond b [] (record { headers = h; port = to } ∷ [])) kept))
 
 -- the same texts and the same participants have the same policies
 same_policies : (s s2 : State) (ps : Policies) → s2.routing.participants ≡ s.routing.participants → s2.outbound ≡ s.outbound → s2.inbound ≡ s.inbound → ArePolicies s ps → ArePolicies s2 ps
@@ -138,8 +139,7 @@ module _ (s : State) (r : Routing) (change : IsChange s r) where
   default_table drop = record {
     pairs = pairs_live;
     old = λ pair rules before is. old_case pair rules (is_live_pair s1 pair) (is_live_pair s pair) before (sym (rules_are_those s r pooled pair) ∙ is);
-    new = λ ps are pair rules dead is.
-        new_case ps (reads_drop s.routing.participants s.outbound ps.outbound drop.outbound are.outbound) (reads_drop s.routing.participants s.inbound ps.inbound drop.inbound are.inbound) pair rules (is_live_pair s1 pair) (is_live_pair s pair) dead (sym (rules_are_those s r pooled pair) ∙ is);
+    new = λ ps are pair rules dead is. new_case ps are pair rules (is_live_pair s1 pair) (is_live_pair s pair) dead (sym (rules_are_those s r pooled pair) ∙ is);
   }
     where
       old_case : (pair : Pair) (rules : List Rule) (b c : Bool) → c ≡ true → cond b (cond c (get s.table pair) (option_map default_rules (owners_part s1 pair))) None ≡ Some rules → get s.table pair ≡ Some rules
@@ -147,16 +147,16 @@ module _ (s : State) (r : Routing) (change : IsChange s r) where
       old_case pair rules true false before e = absurd (clash before refl)
       old_case pair rules false c before e = absurd (cc)
 
-      default : (ps : Policies) → DropAll ps.outbound → DropAll ps.inbound → (pair : Pair) (rules : List Rule) (o : Option Part) → owners_part s1 pair ≡ o → option_map default_rules o ≡ Some rules
+      default : (ps : Policies) → ArePolicies s1 ps → (pair : Pair) (rules : List Rule) (o : Option Part) → owners_part s1 pair ≡ o → option_map default_rules o ≡ Some rules
           → (part : Part) × (owners_part s1 pair ≡ Some part) × IsRight ps part pair.port rules
-      default ps out into pair rules None part e = absurd (cc)
-      default ps out into pair rules (Some x) part e = (x, part, subst (IsRight ps x pair.port) (some_of (default_rules x) rules e) (default_right ps out into x pair.port))
+      default ps are pair rules None part e = absurd (cc)
+      default ps are pair rules (Some x) part e = (x, part, subst (IsRight ps x pair.port) (some_of (default_rules x) rules e) (default_right s1 ps (texts_drop s1 s.routing.participants drop.outbound drop.inbound) are x pair.port))
 
-      new_case : (ps : Policies) → DropAll ps.outbound → DropAll ps.inbound → (pair : Pair) (rules : List Rule) (b c : Bool) → c ≡ false → cond b (cond c (get s.table pair) (option_map default_rules (owners_part s1 pair))) None ≡ Some rules
+      new_case : (ps : Policies) → ArePolicies s1 ps → (pair : Pair) (rules : List Rule) (b c : Bool) → c ≡ false → cond b (cond c (get s.table pair) (option_map default_rules (owners_part s1 pair))) None ≡ Some rules
           → (part : Part) × (owners_part s1 pair ≡ Some part) × IsRight ps part pair.port rules
-      new_case ps out into pair rules true true dead e = absurd (clash refl dead)
-      new_case ps out into pair rules true false dead e = default ps out into pair rules (owners_part s1 pair) refl e
-      new_case ps out into pair rules false c dead e = absurd (cc)
+      new_case ps are pair rules true true dead e = absurd (clash refl dead)
+      new_case ps are pair rules true false dead e = default ps are pair rules (owners_part s1 pair) refl e
+      new_case ps are pair rules false c dead e = absurd (cc)
 
   -- ---- any table
 
