@@ -1,6 +1,6 @@
 //! The pairs that go with tags that no prefix has any more, and those that come with fresh tags.
 
-ghost use Rattle.std.specs.Prelude.{◌≡◌, ◌++◌, IfOk, OnOk, map};
+ghost use Rattle.std.specs.Prelude.{◌≡◌, ◌∷◌, ◌++◌, [], IfOk, OnOk, map};
 ghost use Rattle.net_types.specs.Sets.{union_over};
 ghost use Rattle.registry.specs.Registered.{Registered};
 ghost use Rattle.live_pairs.specs.Pairs.{default_port, flow_of, forward, forwards, gone_pairs, is_told, new_flows, offer_port, pair_at, part_forwards, part_pairs, rule_by, untold, was_told};
@@ -146,16 +146,26 @@ fn forwards(
     Ok(all)
 }
 
+/// An action alone.
+fn alone(alloc: Global, action: Action) -> Result<Actions, Memory>
+    ensures { IfOk result (λ actions. actions ≡ action ∷ []) }
+{
+    let mut actions = Actions::new(alloc);
+    actions.push(action)?;
+    Ok(actions)
+}
+
 /// By the port, and nowhere where there is none.
 fn actions_by(alloc: Global, port: Option<PortNo>) -> Result<Actions, Memory>
     ensures { IfOk result (λ actions. actions ≡ (rule_by port).actions) }
 {
-    let mut actions = Actions::new(alloc);
-    if let Some(port) = port {
-        let set = Assign::none();
-        actions.push(Action { port, set })?;
+    match port {
+        Some(port) => {
+            let set = Assign::none();
+            alone(alloc, Action { port, set })
+        }
+        None => Ok(Actions::new(alloc)),
     }
-    Ok(actions)
 }
 
 /// The rule by which everything leaves by the port, or is discarded where there is none.
