@@ -5,7 +5,7 @@ use Rattle.events.specs.Fits.{Fits}
 use Rattle.events.specs.Legal.{Legal}
 use Rattle.events.specs.State.{State}
 use Rattle.events.specs.declared.Event.{Event}
-use Rattle.events.specs.declared.Event.TheVariants.{Bad, Exchange, Participant as DeclaresParticipant, Port as DeclaresPort, Update, Down, Export, Drain, Arp, Resolve, Packet, Frame, Table}
+use Rattle.events.specs.declared.Event.TheVariants.{Bad, Exchange, Participant as DeclaresParticipant, Port as DeclaresPort, Update, Down, Export, Outbound, Inbound, Take, Drain, Arp, Resolve, Packet, Frame, Recompile, Work, Table}
 use Rattle.events.specs.declared.Reply.{Reply}
 use Rattle.exchange_laws.specs.Steady.{IsSteady}
 use Rattle.net_types.specs.Sets.{Member}
@@ -31,10 +31,15 @@ HasOctets (DeclaresParticipant name asn id) = Unit {0}
 HasOctets (Update name bytes) = Unit {0}
 HasOctets (Down name) = Unit {0}
 HasOctets (Export name text) = Unit {0}
+HasOctets (Outbound name text) = Unit {0}
+HasOctets (Inbound name text) = Unit {0}
+HasOctets (Take name count) = Unit {0}
 HasOctets (Drain name) = Unit {0}
 HasOctets (Arp port bytes) = Unit {0}
 HasOctets (Resolve port) = Unit {0}
 HasOctets (Frame port bytes) = Unit {0}
+HasOctets Recompile = Unit {0}
+HasOctets (Work units) = Unit {0}
 HasOctets Table = Unit {0}
 
 -- each declared port has a MAC

@@ -1,5 +1,5 @@
 -- The rules after a line that changes the routes, while all policies drop (this exchange's own rule).
-use Rattle.std.specs.Prelude.{◌≡◌, ◌<◌, ◌≤◌, true, false, List, [], ◌∷◌, length, Option, Some, None, is_some, if◌then◌else◌}
+use Rattle.std.specs.Prelude.{◌≡◌, ◌<◌, ◌≤◌, true, false, List, [], ◌∷◌, codes, length, map, Option, Some, None, is_some, if◌then◌else◌}
 use Rattle.std.specs.FinMap.{FinMap, get}
 use Rattle.std.specs.Option.{option_map}
 use Rattle.events.specs.Sound.{IsRight, IsSound, owners_part, rule_count}
@@ -7,7 +7,7 @@ use Rattle.events.specs.State.{State, ArePolicies}
 use Rattle.events.specs.Tags.{is_live_pair, pairs, retagged}
 use Rattle.exchange_laws.specs.Fresh.{HasEnoughTags}
 use Rattle.exchange_laws.specs.Retagging.{TagsArePooled}
-use Rattle.net_types.specs.Answers.{Policies, offered_port}
+use Rattle.net_types.specs.Answers.{Policies, offered_hole, offered_port}
 use Rattle.net_types.specs.Cubes.{everything}
 use Rattle.net_types.specs.Exports.{Routing}
 use Rattle.net_types.specs.Headers.{no_change}
@@ -20,13 +20,27 @@ use Rattle.net_types.specs.declared.route.PortInfo.{PortInfo}
 use Rattle.net_types.specs.declared.rule.Pair.{Pair}
 use Rattle.net_types.specs.declared.rule.Rule.{Rule}
 
+-- each participant's policies are the text `drop`, which names nobody
+pub record AllDrop (s : State) : Type 0 where
+  pub outbound : s.outbound ≡ map (λ m. codes "drop") s.routing.participants
+  pub inbound : s.inbound ≡ map (λ m. codes "drop") s.routing.participants
+  pub named : s.routing.named ≡ map (λ m. []) s.routing.participants
+
 -- everything leaves by the port
 abbrev pub rule_to : PortNo → Rule
 rule_to q = record { cube = everything; actions = record { port = q; set = no_change } ∷ [] }
 
--- where all policies drop, everything leaves by the port of the best offer
+-- everything is discarded
+abbrev pub discarding : Rule
+discarding = record { cube = everything; actions = [] }
+
+-- where all policies drop, everything leaves by the port of the best offer, or is discarded where that is a hole
+abbrev pub default_rule : Part → Rule
+default_rule part = if offered_hole part.offers part.best then discarding else rule_to (offered_port part.offers part.best)
+
+-- that rule alone
 abbrev pub default_rules : Part → List Rule
-default_rules part = rule_to (offered_port part.offers part.best) ∷ []
+default_rules part = default_rule part ∷ []
 
 -- a pair that was live keeps its rules, and one that wasn't gets those of its owner's part
 abbrev pub rules_after : State → State → Pair → Option (List Rule)
@@ -68,7 +82,7 @@ RulesAreThose =
 pub record IsTableAfter (s s1 : State) (table : FinMap pair_cmp (List Rule)) : Type 0 where
   pub pairs : (pair : Pair) → is_some (get table pair) ≡ is_live_pair s1 pair
   pub old : (pair : Pair) (rules : List Rule) → is_live_pair s pair ≡ true → get table pair ≡ Some rules → get s.table pair ≡ Some rules
-  pub new : (ps : Policies) → ArePolicies s ps → (pair : Pair) (rules : List Rule) → is_live_pair s pair ≡ false → get table pair ≡ Some rules
+  pub new : (ps : Policies) → ArePolicies s1 ps → (pair : Pair) (rules : List Rule) → is_live_pair s pair ≡ false → get table pair ≡ Some rules
       → (part : Part) × (owners_part s1 pair ≡ Some part) × IsRight ps part pair.port rules
 
 -- with any such table whose rules fit, the state is sound, whatever the policies
@@ -83,10 +97,10 @@ NewPairsHaveParts =
     (s : State) (r : Routing) → IsChange s r → (pair : Pair) → is_live_pair s pair ≡ false → is_live_pair (retagged s r) pair ≡ true
     → is_some (owners_part (retagged s r) pair) ≡ true
 
--- the default table is such a table
+-- while all policies drop, the default table is such a table
 abbrev pub DefaultsAreTables : Type 0
-DefaultsAreTables = (s : State) (r : Routing) → IsChange s r → IsTableAfter s (retagged s r) (table_after s (retagged s r))
+DefaultsAreTables = (s : State) (r : Routing) → IsChange s r → AllDrop s → IsTableAfter s (retagged s r) (table_after s (retagged s r))
 
--- where the default rules fit the table, the state is sound
+-- and where the default rules fit the table, the state is sound
 abbrev pub ChangesStaySound : Type 0
-ChangesStaySound = (s : State) (r : Routing) → IsChange s r → rule_count (with_rules s (retagged s r)) ≤ s.capacity → IsSound (with_rules s (retagged s r))
+ChangesStaySound = (s : State) (r : Routing) → IsChange s r → AllDrop s → rule_count (with_rules s (retagged s r)) ≤ s.capacity → IsSound (with_rules s (retagged s r))

@@ -1,5 +1,5 @@
 -- What holds of the state between any two lines (this exchange's own rule).
-use Rattle.std.specs.Prelude.{◌≡◌, ℕ, ◌+◌, ◌≤◌, ◌<◌, Bool, List, codes, length, map, slice_get, Some}
+use Rattle.std.specs.Prelude.{◌≡◌, ℕ, ◌+◌, ◌≤◌, ◌<◌, Bool, List, length, slice_get, Some, None}
 use Rattle.std.specs.FinMap.{FinMap, empty}
 use Rattle.std.specs.Option.{option_map}
 use Rattle.std.specs.Ordering.{is_lt}
@@ -14,6 +14,8 @@ use Rattle.events.specs.declared.Event.{Event}
 use Rattle.events.specs.declared.Phase.TheVariants.{Running, Start}
 use Rattle.events.specs.declared.Reply.{Reply}
 use Rattle.exchange_laws.specs.Retagging.{KeptAreLive, LiveAreKept, TagsArePooled}
+-- each participant's policies drop
+pub use Rattle.exchange_laws.specs.Rules.{AllDrop}
 use Rattle.exchange_laws.specs.Rules.{OwnersAreDeclared}
 use Rattle.net_types.specs.Exports.{Routing, route}
 use Rattle.net_types.specs.Keys.{ip_cmp, prefix_cmp}
@@ -44,11 +46,6 @@ pub record PortsDiffer (ports : List PortInfo) : Type 0 where
 abbrev pub PortsAreNumbered : List PortInfo → Type 0
 PortsAreNumbered ports = (q : PortInfo) → Member q ports → (1 ≤ q.number.0) × (q.number.0 ≤ 65279)
 
--- each participant's policies are the text `drop`
-pub record AllDrop (s : State) : Type 0 where
-  pub outbound : s.outbound ≡ map (λ m. codes "drop") s.routing.participants
-  pub inbound : s.inbound ≡ map (λ m. codes "drop") s.routing.participants
-
 -- the pool and the table are as large as a line may say, and at the start there is no pool
 pub record IsSized (s : State) : Type 0 where
   pub start : s.phase ≡ Start → s.size ≡ 0
@@ -70,7 +67,7 @@ pub record IsNew (s : State) : Type 0 where
 
 -- The state is sound. The live tags are the pool's, and exactly they are kept. Each port, each route and each map of what
 -- was told is a declared participant's, ports differ, and each NEXT_HOP is at a port of its route's participant. The lists
--- are as long as what is declared, all policies drop, and nothing is there before the exchange runs.
+-- are as long as what is declared, all policies drop, no job runs, and nothing is there before the exchange runs.
 pub record IsSteady (s : State) : Type 0 where
   pub sound : IsSound s
   pub pooled : TagsArePooled s
@@ -87,6 +84,7 @@ pub record IsSteady (s : State) : Type 0 where
   pub rising : (ips : List Ip) → Member ips s.resolved → IsRising is_ip_before ips
   pub few : length s.routing.participants ≤ 256
   pub drop : AllDrop s
+  pub idle : s.owed ≡ None
   pub sized : IsSized s
   pub new : (s.phase ≡ Running → ⊥) → IsNew s
 

@@ -4,6 +4,7 @@ use Rattle.std.specs.FinMap.{FinMap, retain_keys}
 use Rattle.events.specs.After.{next, running, settled, with_told}
 use Rattle.events.specs.Fits.{IsAccepted, IsTaken}
 use Rattle.events.specs.Sound.{IsSound}
+use Rattle.events.specs.Pending.{pending}
 use Rattle.events.specs.State.{State, port_of, present, told_to}
 use Rattle.events.specs.declared.Entry.{Entry}
 use Rattle.events.specs.Tags.{is_live, is_live_pair, tells}
@@ -61,5 +62,5 @@ GoneTagsWereTold =
 -- a participant takes all that is pending with the reply that says so, and the state is the one in which it was told what is present
 abbrev pub DrainsAreAccepted : Type 0
 DrainsAreAccepted =
-    (s : State) (name : List ℕ) (who : Pid) (reply : Reply) → IsSound s → pid_of s.routing name ≡ Some who → IsTaken s (told_anew s who (present s who)) who reply
+    (s : State) (name : List ℕ) (who : Pid) (reply : Reply) → IsSound s → pid_of s.routing name ≡ Some who → IsTaken s (told_anew s who (present s who)) who (pending s who) reply
     → (next s (Drain name) reply ≡ told_anew s who (present s who)) × IsAccepted s (Drain name) reply

@@ -1,5 +1,5 @@
 -- The test of how wide a policy is says what the relation says.
-use Rattle.std.proofs.Common.{◌≡◌, ℕ, ◌<◌, Bool, true, false, cond, not, ◌||◌, nat_lt, nat_eq, List, [], ◌∷◌, filter, length, refl, inl, inr, sym, ap, ◌∙◌, subst, arith}
+use Rattle.std.proofs.Common.{◌≡◌, ◌↔◌, ℕ, ◌<◌, Bool, true, false, cond, not, ◌||◌, nat_lt, nat_eq, List, [], ◌∷◌, filter, length, refl, inl, inr, sym, ap, ◌∙◌, subst, arith}
 use Rattle.std.specs.List.{list_any}
 use Rattle.std.proofs.lemmas.Bool.{and_from, and_parts, eqb-true, or_cases, cases_Bool, false≢true, lt-ltb, ltb-true}
 use Rattle.net_types.specs.declared.address.Ip.{Ip}
@@ -113,3 +113,12 @@ width_tested p = (to, from)
       | inl many ↦ ap (λ b. b || nat_lt 1024 (length (each_once same_assign (mods w.part)))) (lt-ltb 65536 (length (meets (atoms w.part))) many)
       | inr many ↦ either_true (nat_lt 65536 (length (meets (atoms w.part)))) _ (lt-ltb 1024 (length (each_once same_assign (mods w.part))) (more-once same_assign assign_test 1024 (mods w.part) many))
     ])
+
+-- what is true exactly of policies that are too wide is the test
+pub as_tested : (p : Policy) (wide : Bool) → (wide ≡ true ↔ IsTooWide p) → wide ≡ is_too_wide p
+as_tested p wide is = by wide (is_too_wide p) is (width_tested p)
+  where
+    by : (a b : Bool) → (a ≡ true ↔ IsTooWide p) → (b ≡ true ↔ IsTooWide p) → a ≡ b
+    by true b f g = sym (g.1 (f.0 refl))
+    by false true f g = absurd (false≢true (f.1 (g.0 refl)))
+    by false false f g = refl

@@ -9,11 +9,9 @@ mod mods;
 mod policies;
 mod preds;
 mod sets;
-#[cfg(test)]
-mod tests;
 mod width;
 #[cfg(test)]
 mod widths;
 
 pub use policies::compile;
-pub use width::{count_meets, too_wide};
+pub use width::{count_meets, too_wide, width_is_tested};

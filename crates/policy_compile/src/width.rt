@@ -3,7 +3,7 @@
 ghost use Rattle.std.specs.Prelude.{◌≡◌, ◌↔◌, ◌<◌, ◌≤◌, ◌^◌, ◌+◌, IsTrue, length, IfOk};
 ghost use Rattle.net_types.specs.Meets.{meets};
 ghost use Rattle.net_types.specs.Policies.{atoms};
-ghost use Rattle.net_types.specs.Widths.{IsTooWide};
+ghost use Rattle.net_types.specs.Widths.{IsTooWide, is_too_wide, WidthIsTested};
 ghost use Rattle.policy_syntax.specs.Views.{policy_of};
 ghost use Rattle.policy_compile.specs.Narrow.{HasWideMods, HasWideMeets};
 ghost use Rattle.policy_compile.specs.Apart.{IsNarrowed};
@@ -91,7 +91,8 @@ fn has_wide_meets(alloc: Global, tree: &Tree<'_>) -> Result<bool, Memory>
 
 /// Whether some part of a policy has more than 65536 meets or more than 1024 different assignments.
 pub fn too_wide(alloc: Global, tree: &Tree<'_>) -> Result<bool, Memory>
-    ensures { IfOk result (λ wide. IsTrue wide ↔ IsTooWide (policy_of tree.now)) }
+    ensures wide { IfOk result (λ wide. IsTrue wide ↔ IsTooWide (policy_of tree.now)) }
+    ensures tested { IfOk result (λ wide. wide ≡ is_too_wide (policy_of tree.now)) }
 {
     let by_mods = has_wide_mods(alloc, tree)?;
     if by_mods {
@@ -100,3 +101,8 @@ pub fn too_wide(alloc: Global, tree: &Tree<'_>) -> Result<bool, Memory>
     let by_meets = has_wide_meets(alloc, tree)?;
     Ok(by_meets)
 }
+
+/// The test of width that the definitions have says what the relation says.
+pub fn width_is_tested()
+    ensures { WidthIsTested }
+{}

@@ -1,5 +1,5 @@
 -- What an answer beside the reading of a text says.
-use Rattle.std.proofs.Common.{◌≡◌, ℕ, ◌≤◌, List, length, Result, Ok, Err, refl}
+use Rattle.std.proofs.Common.{◌≡◌, ℕ, ◌≤◌, List, length, Result, Ok, Err, refl, subst}
 use Rattle.std.specs.Prelude.{IfOk, IfErr, MatchResult}
 use Rattle.grammar.specs.Texts.{IsText, IsTextCause, read_whole}
 use Rattle.grammar.specs.Reading.{OutOfMemory}
@@ -8,7 +8,7 @@ use Rattle.net_types.specs.Policies.{Policy}
 use Rattle.policy_syntax.specs.declared.fault.SyntaxFault.{SyntaxFault}
 use Rattle.policy_syntax.specs.declared.fault.SyntaxFault.TheVariants.{TextLong, Syntax, TooDeep, Memory}
 use Rattle.net_types.specs.PolicyGrammar.{policy}
-use Rattle.net_types.specs.PolicyReading.{read_start}
+use Rattle.net_types.specs.PolicyReading.{read_start, policy_of_text}
 use Rattle.policy_syntax.specs.After.{after_policy}
 use Rattle.policy_syntax.specs.Answers.{cause_of, Gives, IsCause, FindsText}
 use Rattle.policy_syntax.specs.ReadsBack.{EachPart, ReadsBack}
@@ -56,3 +56,12 @@ module _ {X : Type 0} (view : X → Policy) (max_len limit : ℕ) (text : List �
       go : (r : Result X SyntaxFault) → MatchResult r (λ x. view x ≡ p) (λ e. cause_of e ≡ OutOfMemory) → MatchResult r (λ x. view x ≡ p) (λ e. e ≡ Memory)
       go (Ok x) k = k
       go (Err e) k = only_memory e k
+
+  -- the text was not too long
+  pub never_long : result ≡ Err TextLong → ⊥
+  never_long e = subst (λ r. Gives view r (read_whole (read_start limit) text)) e h
+
+-- what is answered is what reading the text gives
+pub reads_said : {X : Type 0} (view : X → Policy) (text : List ℕ) (result : Result X SyntaxFault) → Gives view result (read_whole (read_start 64) text) → Gives view result (policy_of_text text)
+unfolding policy_of_text
+reads_said view text result h = h
