@@ -1,5 +1,5 @@
 -- What holds of the state between any two lines (this exchange's own rule).
-use Rattle.std.specs.Prelude.{◌≡◌, ℕ, ◌+◌, ◌≤◌, ◌<◌, Bool, List, [], codes, length, map, slice_get, Some, None}
+use Rattle.std.specs.Prelude.{◌≡◌, ℕ, ◌+◌, ◌≤◌, ◌<◌, Bool, List, length, slice_get, Some, None}
 use Rattle.std.specs.FinMap.{FinMap, empty}
 use Rattle.std.specs.Option.{option_map}
 use Rattle.std.specs.Ordering.{is_lt}
@@ -14,6 +14,8 @@ use Rattle.events.specs.declared.Event.{Event}
 use Rattle.events.specs.declared.Phase.TheVariants.{Running, Start}
 use Rattle.events.specs.declared.Reply.{Reply}
 use Rattle.exchange_laws.specs.Retagging.{KeptAreLive, LiveAreKept, TagsArePooled}
+-- each participant's policies drop
+pub use Rattle.exchange_laws.specs.Rules.{AllDrop}
 use Rattle.exchange_laws.specs.Rules.{OwnersAreDeclared}
 use Rattle.net_types.specs.Exports.{Routing, route}
 use Rattle.net_types.specs.Keys.{ip_cmp, prefix_cmp}
@@ -43,12 +45,6 @@ pub record PortsDiffer (ports : List PortInfo) : Type 0 where
 -- the number of each port is one that a line may have
 abbrev pub PortsAreNumbered : List PortInfo → Type 0
 PortsAreNumbered ports = (q : PortInfo) → Member q ports → (1 ≤ q.number.0) × (q.number.0 ≤ 65279)
-
--- each participant's policies are the text `drop`, which names nobody
-pub record AllDrop (s : State) : Type 0 where
-  pub outbound : s.outbound ≡ map (λ m. codes "drop") s.routing.participants
-  pub inbound : s.inbound ≡ map (λ m. codes "drop") s.routing.participants
-  pub named : s.routing.named ≡ map (λ m. []) s.routing.participants
 
 -- the pool and the table are as large as a line may say, and at the start there is no pool
 pub record IsSized (s : State) : Type 0 where
