@@ -6,7 +6,6 @@ use Rattle.std.proofs.lemmas.Bool.{cases_Bool, eqb-true, eq-eqb, and_parts, fals
 use Rattle.net_types.specs.Answers.{is_offered, offered_hole, offered_port}
 use Rattle.net_types.specs.Sets.{Member}
 use Rattle.net_types.specs.declared.address.Pid.{Pid}
-use Rattle.net_types.specs.declared.address.PortNo.{PortNo}
 use Rattle.net_types.specs.declared.route.Offer.{Offer}
 use Rattle.block_build.specs.Offers.{each_once}
 
