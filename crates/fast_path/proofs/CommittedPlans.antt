@@ -79,7 +79,7 @@ module _ (s : State) (r : Routing) (plan : Plan) (steady : IsSteady s) (alike : 
 
   -- the rules afterwards are those before, less those that are dropped, and those that are added
   pub rules_committed : rule_count s2 + length plan.drops ≡ rule_count s + length plan.adds
-  rules_committed = rules_then_counted s r change plan.drops plan.adds is.gone is.new (steady_have_one_each s steady)
+  rules_committed = rules_then_counted s r change steady.drop plan.drops plan.adds is.gone is.new (steady_have_one_each s steady)
 
   -- no more pairs go than the table has rules
   few_drops : length plan.drops ≤ rule_count s
@@ -128,4 +128,4 @@ module _ (s : State) (r : Routing) (plan : Plan) (steady : IsSteady s) (alike : 
   pub line_committed : (e : Event) → IsRerouting s e r → (next s e plan_reply ≡ s2) × Fits s e plan_reply
   line_committed e rerouting =
       subst (λ cs. (next s e (record (bare Fine) { tags = cs; drops = plan.drops; adds = plan.adds }) ≡ s2) × Fits s e (record (bare Fine) { tags = cs; drops = plan.drops; adds = plan.adds }))
-      (sym is.tags) (plan_accepted s r change plan.drops plan.adds is.gone is.new e rerouting is.fits)
+      (sym is.tags) (plan_accepted s r change steady.drop plan.drops plan.adds is.gone is.new e rerouting is.fits)

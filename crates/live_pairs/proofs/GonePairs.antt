@@ -10,7 +10,7 @@ use Rattle.exchange_laws.proofs.ListedPairs.{gone_are_dropped}
 use Rattle.exchange_laws.proofs.Lists.{clash, some_of}
 use Rattle.exchange_laws.proofs.LivePairs.{live_at, live_from, port_Member, present_tag}
 use Rattle.exchange_laws.proofs.OwnHops.{numbered_port}
-use Rattle.exchange_laws.proofs.RulesAfter.{default_table}
+use Rattle.exchange_laws.proofs.RulesAfter.{pairs_live}
 use Rattle.exchange_laws.proofs.TagsAfter.{live_of, live_tags_stay, signatures_are_kept}
 use Rattle.exchange_laws.specs.Steady.{PortsDiffer}
 use Rattle.exchange_laws.specs.Listed.{AreLiveOnly, HasLivePairs}
@@ -142,7 +142,7 @@ module _ (s : State) (r : Routing) (change : IsChange s r) where
 
 -- the table has the live pairs after the change
 pub has_live : (s : State) (r : Routing) → IsChange s r → HasLivePairs (with_rules s (retagged s r))
-has_live s r change = (default_table s r change).pairs
+has_live s r change = pairs_live s r change
 
 pub gone_pairs_are_those : GonePairsAreThose
 gone_pairs_are_those s r ts change own emptied = gone_live_only s r change ts own emptied
