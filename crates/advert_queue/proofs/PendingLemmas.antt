@@ -5,7 +5,7 @@ use Rattle.std.specs.FinMap.{FinMap, empty, get, keys, values, entries, entries_
 use Rattle.std.specs.FinMap.Entries.{is_sorted}
 use Rattle.std.specs.List.{list_any}
 use Rattle.std.specs.Ordering.{eq_by_cmp}
-use Rattle.net_types.proofs.OrderedLemmas.{any_member, member_any, ordered_is, ordered_rises, ordered_same}
+use Rattle.net_types.proofs.OrderedLemmas.{any_member, member_any, ordered_is, ordered_rises, ordered_same, any_ordered}
 use Rattle.events.specs.Pending.{pending as pending_of, same_entry}
 use Rattle.events.specs.Fits.{advert, adverts as adverts_of}
 use Rattle.events.specs.State.{State, told_to, present as present_of}
@@ -16,7 +16,6 @@ use Rattle.net_types.proofs.OrderLemmas.{prefix_tie, prefixes_total, tags_total}
 use Rattle.net_types.proofs.PassLemmas.{any_map}
 use Rattle.net_types.proofs.TieLemmas.{nat_ties, same_from_tie, tag_cmp-IsAntisymmetric}
 use Rattle.net_types.proofs.ValueLemmas.{no_entries}
-use Rattle.advert_queue.proofs.SortedLists.{any_ordered}
 use Rattle.net_types.proofs.PlaceLemmas.{entries_of_sorted}
 use Rattle.net_types.proofs.RisingLemmas.{before, filter-IsRising, filter-Member, Member-filter}
 use Rattle.net_types.proofs.SetLemmas.{Member-append_left, Member-append_right, Member-append_cases, map-map}

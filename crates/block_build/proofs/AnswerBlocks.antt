@@ -1,5 +1,6 @@
 -- What the receivers' rules give leaves as a part's answer says.
 use Rattle.std.proofs.Common.{◌≡◌, Bool, true, false, cond, Option, Some, None, unwrap_or, List, [], ◌∷◌, ◌++◌, map, refl, sym, ap, ◌∙◌, subst}
+use Rattle.std.proofs.lemmas.List.{append-nil, append_assoc}
 use Rattle.classifier.proofs.DecideLemmas.{same_add_all}
 use Rattle.classifier.specs.Items.{Item, add_all}
 use Rattle.classifier.specs.Meaning.{given, carried, meaning, ends_with_everything}
@@ -32,17 +33,9 @@ use Rattle.block_build.specs.declared.receive.Receiver.{Receiver}
 
 -- ---- lists
 
-append-nil : {A : Type 0} (xs : List A) → xs ++ [] ≡ xs
-append-nil [] = refl
-append-nil (x ∷ xs) = ap (λ ws. x ∷ ws) (append-nil xs)
-
-append-assoc : {A : Type 0} (xs ys zs : List A) → (xs ++ ys) ++ zs ≡ xs ++ (ys ++ zs)
-append-assoc [] ys zs = refl
-append-assoc (x ∷ xs) ys zs = ap (λ ws. x ∷ ws) (append-assoc xs ys zs)
-
 union-append : {A B : Type 0} (f : A → List B) (xs ys : List A) → union_over f (xs ++ ys) ≡ union_over f xs ++ union_over f ys
 union-append f [] ys = refl
-union-append f (x ∷ xs) ys = ap (λ zs. f x ++ zs) (union-append f xs ys) ∙ sym (append-assoc (f x) (union_over f xs) (union_over f ys))
+union-append f (x ∷ xs) ys = ap (λ zs. f x ++ zs) (union-append f xs ys) ∙ sym (append_assoc (f x) (union_over f xs) (union_over f ys))
 
 -- ---- what leaves by the actions of some items
 
@@ -87,7 +80,7 @@ outs-exits hop h kept [] = SetLemmas.same_eq (sym (append-nil (outs h kept)))
 outs-exits hop h kept (i ∷ items) =
     SetLemmas.same_trans (outs-exits hop h (add_exit kept i.0 (exit_of hop i.1)) items)
     (SetLemmas.same_trans (SetLemmas.same_append (outs-exit h kept i.0 (exit_of hop i.1)) (SetLemmas.same_refl (exits_in hop h items)))
-    (SetLemmas.same_eq (append-assoc (outs h kept) (leaves (apply i.0 h) (exit_of hop i.1)) (exits_in hop h items))))
+    (SetLemmas.same_eq (append_assoc (outs h kept) (leaves (apply i.0 h) (exit_of hop i.1)) (exits_in hop h items))))
 
 arrived-Stay : (l : Loc) → arrived Stay l ≡ l
 arrived-Stay Stay = refl
@@ -116,7 +109,7 @@ module _ (left : Bool) (best : Pid) (items : List Item) (h : Headers) where
   outs-gathered kept (r ∷ rs) =
       SetLemmas.same_trans (outs-gathered (cond (goes_to left best items r.who) (add_all kept (given r.lines h)) kept) rs)
       (SetLemmas.same_trans (SetLemmas.same_append (of (goes_to left best items r.who)) (SetLemmas.same_refl (union_over by_receiver rs)))
-      (SetLemmas.same_eq (append-assoc (outs h kept) (by_receiver r) (union_over by_receiver rs))))
+      (SetLemmas.same_eq (append_assoc (outs h kept) (by_receiver r) (union_over by_receiver rs))))
     where
       of : (b : Bool) → SameMembers (outs h (cond b (add_all kept (given r.lines h)) kept)) (outs h kept ++ cond b (outs h (given r.lines h)) [])
       of true = outs-add_all h kept (given r.lines h)

@@ -6,7 +6,7 @@ use Rattle.classifier.specs.Meaning as lines
 use Rattle.net_types.proofs.CubeLemmas.{has_option, has-meet, has-met, has-everything, option_ext, some_from_has, witness}
 use Rattle.net_types.proofs.MeetLemmas.{IsMeet-everything, IsMeet-meet, IsMeet-member, IsMeet-wider, IsMeet-append_left, IsMeet-append_right, meets-IsMeet}
 use Rattle.net_types.proofs.SetLemmas
-use Rattle.net_types.proofs.WidthLemmas.{no_longer, meets-Differ}
+use Rattle.net_types.proofs.WidthLemmas.{no_longer, meets-HasNoRepeats}
 use Rattle.net_types.proofs.MeetLemmas.{IsMeet-meets}
 use Rattle.net_types.specs.Answers.{Policies, is_offered, leaves_by, offered_hole, offered_port, or_unchanged, part_answer, policy_of, received_at, sent}
 use Rattle.net_types.specs.Cells.{cell_atoms, freed, freed_from}
@@ -216,5 +216,5 @@ right_for_views ps part port v rules there is right = record {
 
 pub no_more_cells : NoMoreCells
 no_more_cells ps part port v is =
-    no_longer (meets (view_atoms v port part)) (meets (cell_atoms ps port part)) (meets-Differ (view_atoms v port part))
+    no_longer (meets (view_atoms v port part)) (meets (cell_atoms ps port part)) (meets-HasNoRepeats (view_atoms v port part))
     (λ c k. IsMeet-meets (cell_atoms ps port part) c (IsMeet-wider (view_atoms v port part) (cell_atoms ps port part) (view_wider ps part port v is) c (meets-IsMeet (view_atoms v port part) c k)))

@@ -10,7 +10,7 @@ use Rattle.classifier.specs.Lines.{add_lines}
 use Rattle.classifier.specs.Meaning as lines
 use Rattle.classifier.specs.Meaning.{decide, given, meaning, HasDistinctCubes, ends_with_everything}
 use Rattle.classifier.specs.declared.line.Line.{Line}
-use Rattle.events.specs.Sound.{HasNoRepeats, cubes_of}
+use Rattle.events.specs.Sound.{cubes_of}
 use Rattle.events.specs.Table.{done_by, first_rule}
 use Rattle.net_types.proofs.ActionOrder.{actions_rise}
 use Rattle.net_types.proofs.CubeLemmas.{within_refl}
@@ -22,8 +22,7 @@ use Rattle.net_types.specs.Actions.{AreInOrder}
 use Rattle.net_types.specs.Answers.{is_offered}
 use Rattle.net_types.specs.Cubes.{everything, has}
 use Rattle.net_types.specs.Meets.{IsMeet, meets}
-use Rattle.net_types.specs.Sets.{Member}
-use Rattle.net_types.specs.Widths.{Differ}
+use Rattle.net_types.specs.Sets.{Member, HasNoRepeats}
 use Rattle.net_types.specs.declared.address.Pid.{Pid}
 use Rattle.net_types.specs.declared.address.PortNo.{PortNo}
 use Rattle.net_types.specs.declared.cube.Cube.{Cube}
@@ -133,12 +132,8 @@ module _ (v : Viewed) (port : PortNo) (p : Part) (t : IsTotal v) (there : is_off
 
 -- ---- right rules are no more than the cells
 
-differ-repeats : {A : Type 0} (xs : List A) → HasNoRepeats xs → Differ xs
-differ-repeats [] d = tt
-differ-repeats (x ∷ xs) d = (λ k. d.0 k, differ-repeats xs d.1)
-
 pub within_cells : (atoms cubes : List Cube) → HasNoRepeats cubes → ((c : Cube) → Member c cubes → IsMeet atoms c) → length cubes ≤ length (meets atoms)
-within_cells atoms cubes d each = no_longer cubes (meets atoms) (differ-repeats cubes d) (λ c k. IsMeet-meets atoms c (each c k))
+within_cells atoms cubes d each = no_longer cubes (meets atoms) d (λ c k. IsMeet-meets atoms c (each c k))
 
 length-cubes : (xs : List Line) → length (lines.cubes_of xs) ≡ length xs
 length-cubes [] = refl

@@ -15,7 +15,7 @@ use Rattle.events.specs.declared.Reply.{Reply}
 use Rattle.exchange_laws.proofs.Counted.{live_pairs_are_counted, pairs_are_live}
 use Rattle.exchange_laws.proofs.OneRuleEach.{steady_have_one_each}
 use Rattle.exchange_laws.specs.Rerouting.{IsRerouting}
-use Rattle.exchange_laws.specs.Rules.{IsChange, IsDeclaredAlike, with_rules}
+use Rattle.exchange_laws.specs.Rules.{IsChange, IsDeclaredAlike, with_default_rules}
 use Rattle.exchange_laws.specs.Steady.{IsSteady}
 use Rattle.net_types.specs.Exports.{Routing}
 use Rattle.fast_path.proofs.CommittedFresh.{tags_kept}
@@ -46,7 +46,7 @@ module _ (s : State) (r : Routing) (plan : Plan) (steady : IsSteady s) (alike : 
 
   -- the state afterwards
   abbrev s2 : State
-  s2 = with_rules s s1
+  s2 = with_default_rules s s1
 
   pub change : IsChange s r
   change = record { sound = steady.sound; pooled = steady.pooled; owners = steady.owners; alike = alike; enough = is.enough }

@@ -21,7 +21,7 @@ use Rattle.exchange_laws.proofs.RulesAfter.{defaults_are_tables, pairs_live, rul
 use Rattle.exchange_laws.specs.Counts.{HasOneRuleEach, rules_at}
 use Rattle.exchange_laws.specs.Listed.{AreLiveOnly, HasLivePairs}
 use Rattle.exchange_laws.specs.Rerouting.{IsRerouting}
-use Rattle.exchange_laws.specs.Rules.{AllDrop, IsChange, default_rules, table_after, with_rules}
+use Rattle.exchange_laws.specs.Rules.{AllDrop, IsChange, default_rules, table_after, with_default_rules}
 use Rattle.net_types.proofs.PassLemmas.{some_there}
 use Rattle.net_types.proofs.SetLemmas.{Member-map, map-Member, union-map}
 use Rattle.net_types.specs.Exports.{Routing}
@@ -35,7 +35,7 @@ module _ (s : State) (r : Routing) (change : IsChange s r) where
   s1 = retagged s r
 
   abbrev s2 : State
-  s2 = with_rules s s1
+  s2 = with_default_rules s s1
 
   live_pairs_then : HasLivePairs s2
   live_pairs_then = pairs_live s r change

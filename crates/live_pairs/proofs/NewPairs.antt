@@ -20,7 +20,7 @@ use Rattle.exchange_laws.proofs.Sames.{signatures_test}
 use Rattle.exchange_laws.proofs.TagsAfter.{signatures_are_kept, tags_are}
 use Rattle.exchange_laws.specs.Steady.{PortsDiffer}
 use Rattle.exchange_laws.specs.Listed.{AreLiveOnly}
-use Rattle.exchange_laws.specs.Rules.{IsChange, default_rule, default_rules, discarding, rule_to, with_rules}
+use Rattle.exchange_laws.specs.Rules.{IsChange, default_rule, default_rules, discarding, rule_to, with_default_rules}
 use Rattle.live_pairs.proofs.Forwards.{IsBy, forward_listed, forward_of, forwards_tie, forwards_total, get_mapped, get_taken, mapped_at, one_each, pairs_rise, rules_of, taken_at}
 use Rattle.live_pairs.proofs.GonePairs.{has_live}
 use Rattle.live_pairs.proofs.PortsAndTags.{IsPortOf, found_number, number_listed, port_listed, present_from}
@@ -226,7 +226,7 @@ module _ (s : State) (r : Routing) (change : IsChange s r) (own : PortsDiffer s.
   new_flow_rules f m = let is = new_of f m in ap (option_map default_rules) is.owns ∙ ap (λ rule. Some (rule ∷ [])) (rule_is is.part) ∙ ap (λ n. Some (rule_by n ∷ [])) (sym is.to)
 
   -- the rule of each
-  new_rules : (pair : Pair) → Member pair (map (λ (f : Forward). f.pair) listed) → get (with_rules s s1).table pair ≡ Some (rules_of (owner_port s1) pair)
+  new_rules : (pair : Pair) → Member pair (map (λ (f : Forward). f.pair) listed) → get (with_default_rules s s1).table pair ≡ Some (rules_of (owner_port s1) pair)
   new_rules pair m =
       let image = map-Member (λ (f : Forward). f.pair) listed pair m in
       let is = new_of image.of image.stands in
@@ -245,7 +245,7 @@ new_pairs_are_those s r change own = new_live_only s r change own
 pub new_flows_are_added : NewFlowsAreAdded
 new_flows_are_added s r change own =
     let fs : List Forward = listed s r change own in
-    new_are_added s (with_rules s (retagged s r)) (map (λ (f : Forward). f.pair) fs) (rules_of (owner_port (retagged s r))) change.sound.pairs (has_live s r change)
+    new_are_added s (with_default_rules s (retagged s r)) (map (λ (f : Forward). f.pair) fs) (rules_of (owner_port (retagged s r))) change.sound.pairs (has_live s r change)
     (let are = new_live_only s r change own in record { rising = are.rising; each = are.each; all = are.all })
     (new_rules s r change own)
     ∙ union-map (λ pair. flows_of (pair, rules_of (owner_port (retagged s r)) pair)) (λ (f : Forward). f.pair) fs
