@@ -3,8 +3,6 @@
 
 mod ascending;
 mod queue;
-#[cfg(test)]
-mod tests;
 mod told;
 
 pub use queue::{adverts, pending};

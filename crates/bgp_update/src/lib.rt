@@ -17,8 +17,6 @@ mod octets;
 mod prefixes;
 mod ranges;
 mod said;
-#[cfg(test)]
-mod tests;
 
 pub use decoding::decode;
 pub use fault::UpdateFault;

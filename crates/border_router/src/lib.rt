@@ -8,8 +8,6 @@ mod heard;
 mod message;
 mod octets;
 mod router;
-#[cfg(test)]
-mod tests;
 
 pub use fault::TagFault;
 pub use heard::News;

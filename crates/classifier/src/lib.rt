@@ -13,8 +13,6 @@ mod results;
 mod run;
 mod runs;
 mod seen;
-#[cfg(test)]
-mod tests;
 mod tight;
 
 pub use classifier::Classifier;

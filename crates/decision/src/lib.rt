@@ -4,8 +4,6 @@
 mod candidate;
 mod choice;
 mod eliminations;
-#[cfg(test)]
-mod tests;
 
 pub use candidate::Candidate;
 pub use choice::best;

@@ -7,6 +7,7 @@ use Rattle.events.specs.After.{next, next_by, with_known, with_told, settled, ru
 use Rattle.events.specs.Fits.{FitsBy, IsAccepted, IsTaken}
 use Rattle.events.specs.Headline.{DrainDrains}
 use Rattle.events.specs.Legal.{state_after}
+use Rattle.events.specs.Pending.{pending}
 use Rattle.events.specs.State.{State, Entry, IsDrained, present}
 use Rattle.events.specs.declared.Event.TheVariants.{Drain}
 use Rattle.events.specs.declared.Head.TheVariants.{Fine}
@@ -27,8 +28,8 @@ drained_after s name r who within known =
     let present_in : Option Pid → FinMap prefix_cmp Entry = λ o. present (with_known s o (λ w. settled (running (with_told s w (present s w))))) who in
     ap (λ o. unwrap_or (slice_get (told_in o) who.0) empty) known ∙ get_set s.told who.0 (present s who) empty within ∙ sym (ap present_in known)
 
-head_is : (s s' : State) (r : Reply) (who : Pid) (o : Option Pid) → o ≡ Some who → MatchOption o ⊥ (λ w. IsTaken s s' w r) → r.head ≡ Fine
-head_is s s' r who o known taken = let P : Option Pid → Type 0 = λ x. MatchOption x ⊥ (λ w. IsTaken s s' w r) in let here : P (Some who) = subst P known taken in here.head
+head_is : (s s' : State) (r : Reply) (who : Pid) (o : Option Pid) → o ≡ Some who → MatchOption o ⊥ (λ w. IsTaken s s' w (pending s w) r) → r.head ≡ Fine
+head_is s s' r who o known taken = let P : Option Pid → Type 0 = λ x. MatchOption x ⊥ (λ w. IsTaken s s' w (pending s w) r) in let here : P (Some who) = subst P known taken in here.head
 
 pub drains : DrainDrains
 drains es rs legal name r who none fits known =

@@ -1,7 +1,7 @@
+pub mod DropText
 pub mod Reached
 pub mod Drains
 pub mod Drained
 pub mod Candidates
-pub mod Exporters
 pub mod Routed
 pub mod Accepted

@@ -1,26 +1,30 @@
 -- What holds of every state that a legal run reaches.
 use Rattle.std.proofs.Common.{◌≡◌, ℕ, zero, suc, ◌+◌, ◌<◌, Bool, true, false, cond, nat_eq, List, [], ◌∷◌, ◌++◌, length, map, sym, ap, subst, ◌∙◌, refl, arith, sum_by, inl, inr}
-use Rattle.std.specs.Prelude.{◌&&◌, Option, Some, None, Result, Ok, Err, is_some, slice_get, slice_set, find, unwrap_or}
+use Rattle.std.specs.Prelude.{◌&&◌, ◌-◌, nat_lt, take, Option, Some, None, Result, Ok, Err, is_some, slice_get, slice_set, find, unwrap_or}
 use Rattle.std.specs.FinMap.{empty, entries, get-empty, len-entries, len-empty}
 use Rattle.std.specs.List.{position_from}
 use Rattle.std.specs.Option.{option_map, option_map_or}
 use Rattle.std.specs.declared.cmp.Ordering.{Ordering}
 use Rattle.std.proofs.lemmas.List.{length-append}
-use Rattle.events.specs.After.{next, next_by, after, accepted, with_port, with_known, without_from, bound_read, ruled, updated, running, settled, with_told}
+use Rattle.events.specs.After.{next, next_by, after, accepted, bound_read, merged, received_by, ruled, running, sent_by, settled, taken, updated, with_known, with_port, with_told, without_from, worked}
 use Rattle.events.specs.Fits.{FitsBy, Passes, is_building}
 use Rattle.events.specs.Legal.{Legal, LegalFrom, state_after, state_from}
+use Rattle.events.specs.Pending.{pending, with_all_news}
 use Rattle.events.specs.Refusals.{refusal}
 use Rattle.events.specs.Sound.{IsSound, rule_count}
-use Rattle.events.specs.State.{State, first, present, port_of}
-use Rattle.events.specs.Resolving.{port_place, resolved_at, unresolved, with_answer, with_resolved, is_answered}
+use Rattle.events.specs.State.{State, first, port_of, present, told_to}
+use Rattle.events.specs.Resolving.{port_place, resolved_at, unresolved, with_answer, with_resolved, is_pool_request}
 use Rattle.events.specs.Tags.{retagged}
 use Rattle.events.specs.declared.Event.{Event}
-use Rattle.events.specs.declared.Event.TheVariants.{Bad, Exchange, Participant as DeclaresParticipant, Port as DeclaresPort, Update, Down, Export, Drain, Arp, Resolve, Packet, Frame, Table}
+use Rattle.events.specs.declared.Event.TheVariants.{Bad, Exchange, Participant as DeclaresParticipant, Port as DeclaresPort, Update, Down, Export, Outbound, Inbound, Take, Drain, Arp, Resolve, Packet, Frame, Recompile, Work, Table}
 use Rattle.events.specs.declared.Head.{Head}
-use Rattle.events.specs.declared.Head.TheVariants.{Fine, Unrouted, Unresolved, Silent, Refused}
+use Rattle.events.specs.declared.Head.TheVariants.{Fine, Working, Finished, Unrouted, Unresolved, Silent, Refused}
 use Rattle.events.specs.declared.Refusal.{Refusal}
 use Rattle.events.specs.declared.Reply.{Reply}
+use Rattle.grammar.specs.TextReading.{Fault as Misread}
 use Rattle.net_types.specs.ExportReading.{rules_of_text}
+use Rattle.net_types.specs.Policies.{Policy}
+use Rattle.net_types.specs.PolicyReading.{policy_of_text}
 use Rattle.net_types.specs.Exports.{pid_of, Routing}
 use Rattle.net_types.specs.declared.export.ExportRule.{ExportRule}
 use Rattle.net_types.specs.Arp.{asked_ip, asker_mac}
@@ -138,6 +142,16 @@ ruled_declared : (s : State) (who : Pid) (rules : Option (List ExportRule)) → 
 ruled_declared s who (Some rules) is = record { owners = is.owners; told = is.told }
 ruled_declared s who None is = is
 
+-- and so does an outbound policy
+sent_declared : (s : State) (who : Pid) (text : List ℕ) (read : Result Policy Misread) → IsDeclared s → IsDeclared (sent_by s who text read)
+sent_declared s who text (Ok p) is = record { owners = is.owners; told = is.told }
+sent_declared s who text (Err fault) is = is
+
+-- a job declares nothing
+worked_declared : (s : State) (units owed : ℕ) (b : Bool) → IsDeclared s → IsDeclared (cond b (running (record s { owed = Some (owed - units) })) (merged s))
+worked_declared s units owed true is = record { owners = is.owners; told = is.told }
+worked_declared s units owed false is = record { owners = is.owners; told = is.told }
+
 -- what routers resolve declares nothing
 resolved_declared : (s : State) (n : PortNo) (ips : List Ip) → IsDeclared s → IsDeclared (with_resolved s n ips)
 resolved_declared s n ips is = at (port_place s n)
@@ -147,7 +161,7 @@ resolved_declared s n ips is = at (port_place s n)
     at (Some place) = record { owners = is.owners; told = is.told }
 
 answer_declared : (s : State) (q : PortInfo) (frame : List ℕ) → IsDeclared s → IsDeclared (with_answer s q frame)
-answer_declared s q frame is = by (is_answered s frame && same_octets (asker_mac frame).0 q.mac.0)
+answer_declared s q frame is = by (is_pool_request s frame && same_octets (asker_mac frame).0 q.mac.0)
   where
     by : (b : Bool) → IsDeclared (cond b (with_resolved s q.number (asked_ip frame ∷ [])) s)
     by true = resolved_declared s q.number (asked_ip frame ∷ []) is
@@ -178,6 +192,15 @@ after_declared s (Down name) is =
     known_declared s (pid_of s.routing name) (λ who. retagged s (without_from s.routing who)) is (λ who e. record { owners = is.owners; told = is.told })
 after_declared s (Export name text) is =
     known_declared s (pid_of s.routing name) (λ who. ruled s who (bound_read s.routing (rules_of_text text))) is (λ who e. ruled_declared s who (bound_read s.routing (rules_of_text text)) is)
+after_declared s (Outbound name text) is =
+    known_declared s (pid_of s.routing name) (λ who. sent_by s who text (policy_of_text text)) is (λ who e. sent_declared s who text (policy_of_text text) is)
+after_declared s (Inbound name text) is =
+    known_declared s (pid_of s.routing name) (λ who. received_by s who text) is (λ who e. record { owners = is.owners; told = is.told })
+after_declared s (Take name count) is =
+    known_declared s (pid_of s.routing name) (λ who. settled (running (taken s who (take count (pending s who))))) is (λ who e. record {
+      owners = is.owners;
+      told = set_length s.told who.0 (with_all_news (present s who) (told_to s who) (take count (pending s who))) ∙ is.told;
+    })
 after_declared s (Drain name) is =
     known_declared s (pid_of s.routing name) (λ who. settled (running (with_told s who (present s who)))) is (λ who e. record {
       owners = is.owners;
@@ -189,6 +212,8 @@ after_declared s (Resolve port) is =
     known_declared s (port_of s port) (λ q. running (with_resolved s port (unresolved s q))) is (λ q e. running_declared (with_resolved s port (unresolved s q)) (resolved_declared s port (unresolved s q) is))
 after_declared s (Packet port bytes) is = record { owners = is.owners; told = is.told }
 after_declared s (Frame port bytes) is = record { owners = is.owners; told = is.told }
+after_declared s Recompile is = record { owners = is.owners; told = is.told }
+after_declared s (Work units) is = known_declared s s.owed (worked s units) is (λ owed e. worked_declared s units owed (nat_lt units owed) is)
 after_declared s Table is = record { owners = is.owners; told = is.told }
 
 accepted_declared : (s : State) (e : Event) (r : Reply) → IsDeclared s → IsDeclared (accepted s e r)
@@ -197,6 +222,8 @@ accepted_declared s e r is = let later : IsDeclared (after s e) = after_declared
 pub next_declared : (s : State) (e : Event) (r : Reply) (h : Head) → IsDeclared s → IsDeclared (next_by h s e r)
 next_declared s e r (Refused why) is = is
 next_declared s e r Fine is = accepted_declared s e r is
+next_declared s e r (Working units) is = accepted_declared s e r is
+next_declared s e r Finished is = accepted_declared s e r is
 next_declared s e r Unrouted is = accepted_declared s e r is
 next_declared s e r (Unresolved ip) is = accepted_declared s e r is
 next_declared s e r Silent is = accepted_declared s e r is

@@ -1,5 +1,5 @@
 -- Each line has a reply that fits.
-use Rattle.std.proofs.Common.{◌≡◌, ◌⊎◌, ◌&&◌, nat_eq, ℕ, zero, suc, ◌<◌, ◌≤◌, ◌^◌, Bool, true, false, cond, not, List, [], ◌∷◌, ◌++◌, map, sym, ap, subst, ◌∙◌, refl, arith, inl, inr}
+use Rattle.std.proofs.Common.{◌≡◌, ◌⊎◌, ◌&&◌, nat_eq, ℕ, ◌<◌, ◌≤◌, ◌^◌, Bool, true, false, cond, not, List, [], ◌∷◌, ◌++◌, map, sym, ap, subst, ◌∙◌, refl, arith, inl, inr}
 use Rattle.std.specs.Prelude.{Option, Some, None, is_some, MatchOption, slice_get, slice_set, unwrap_or}
 use Rattle.std.specs.FinMap.{FinMap, contains_key-keys, empty, get, get-empty, keys}
 use Rattle.std.specs.Option.{option_map_or}
@@ -7,19 +7,19 @@ use Rattle.std.proofs.lemmas.Bool.{cases_lt, false≢true}
 use Rattle.net_types.proofs.OrderedLemmas.{member_any}
 use Rattle.events.specs.After.{after, next, next_by, running, settled, with_known, with_port, with_told}
 use Rattle.events.specs.Forms.{IsWellFormed}
-use Rattle.events.specs.Fits.{Fits, FitsBy, IsAnswer, IsSent, IsTagged, added, adverts, asks_for, bare, by_table, all_flows, destination, dropped, is_building, none_rebuilt, responder_reply, tag_changes, tagged_frame}
+use Rattle.events.specs.Fits.{Fits, FitsBy, IsAnswer, IsSent, IsTagged, added, adverts, asks_for, bare, by_table, all_flows, destination, dropped, none_rebuilt, responder_reply, tag_changes, tagged_frame}
 use Rattle.events.specs.Legal.{LegalFrom}
+use Rattle.events.specs.Pending.{pending}
 use Rattle.events.specs.Refusals.{is_datagram, refusal, refused_if}
-use Rattle.events.specs.Resolving.{is_answered, is_resolved, port_place, resolved_at, tag_address, unresolved, with_answer, with_resolved}
+use Rattle.events.specs.Resolving.{is_pool_request, is_resolved, port_place, resolved_at, tag_address, unresolved, with_answer, with_resolved}
 use Rattle.events.specs.Sound.{rule_count}
 use Rattle.events.specs.State.{State, first, port_of, present, told_to}
-use Rattle.events.specs.Table.{framed}
 use Rattle.events.specs.Tags.{retagged}
 use Rattle.events.specs.declared.Entry.{Entry}
 use Rattle.events.specs.declared.Event.{Event}
-use Rattle.events.specs.declared.Event.TheVariants.{Bad, Exchange, Participant as DeclaresParticipant, Port as DeclaresPort, Update, Down, Export, Drain, Arp, Resolve, Packet, Frame, Table}
+use Rattle.events.specs.declared.Event.TheVariants.{Bad, Exchange, Participant as DeclaresParticipant, Port as DeclaresPort, Update, Down, Export, Outbound, Inbound, Take, Drain, Arp, Resolve, Packet, Frame, Recompile, Work, Table}
 use Rattle.events.specs.declared.Head.{Head}
-use Rattle.events.specs.declared.Head.TheVariants.{Fine, Unrouted, Unresolved, Silent, Refused}
+use Rattle.events.specs.declared.Head.TheVariants.{Fine, Working, Finished, Unrouted, Unresolved, Silent, Refused}
 use Rattle.events.specs.declared.Refusal.{Refusal}
 use Rattle.events.specs.declared.Refusal.TheVariants.{BadPacket, TableFull}
 use Rattle.events.specs.declared.Reply.{Reply}
@@ -38,8 +38,8 @@ use Rattle.exchange_laws.proofs.SteadySteps.{starts_steady, steps_stay_steady}
 use Rattle.exchange_laws.proofs.ToldAnew.{drains_are_accepted}
 use Rattle.exchange_laws.specs.Quiet.{is_quiet}
 use Rattle.exchange_laws.specs.Replying.{AreOctets, HasOctets, IsMac, LinesHaveReplies, PortsHaveMacs, RunsGoOn}
-use Rattle.exchange_laws.specs.Rerouting.{IsRerouting}
-use Rattle.exchange_laws.specs.Rules.{IsChange, table_after, with_rules}
+use Rattle.exchange_laws.specs.Rerouting.{IsRerouting, is_rerouting}
+use Rattle.exchange_laws.specs.Rules.{IsChange, table_after, with_default_rules}
 use Rattle.exchange_laws.specs.Steady.{IsSteady}
 use Rattle.exchange_laws.specs.Telling.{told_anew}
 use Rattle.net_types.proofs.FindLemmas.{find-IsFound}
@@ -58,6 +58,7 @@ use Rattle.net_types.specs.declared.address.Mac.{Mac}
 use Rattle.net_types.specs.declared.address.PortNo.{PortNo}
 use Rattle.net_types.specs.declared.prefix.Prefix.{Prefix}
 use Rattle.net_types.specs.declared.route.PortInfo.{PortInfo}
+use Rattle.net_types.specs.Frames.{framed}
 
 -- ---- octets
 
@@ -82,7 +83,7 @@ resolved_macs s n ips macs = at (port_place s n)
     at (Some place) = macs
 
 answered_macs : (s : State) (q : PortInfo) (frame : List ℕ) → PortsHaveMacs s → PortsHaveMacs (running (with_answer s q frame))
-answered_macs s q frame macs = by (is_answered s frame && same_octets (asker_mac frame).0 q.mac.0)
+answered_macs s q frame macs = by (is_pool_request s frame && same_octets (asker_mac frame).0 q.mac.0)
   where
     by : (b : Bool) → PortsHaveMacs (running (cond b (with_resolved s q.number (asked_ip frame ∷ [])) s))
     by true = resolved_macs s q.number (asked_ip frame ∷ []) macs
@@ -102,41 +103,48 @@ port_macs s q macs mac x m = elim (Member-append_cases s.routing.ports (q ∷ []
     new (inl same) = subst (λ (y : PortInfo). IsMac y.mac) (sym same) mac
     new (inr none) = elim none [ ]
 
-building_macs : (s : State) (e : Event) → PortsHaveMacs s → is_building e ≡ true → refusal s e ≡ None → PortsHaveMacs (after s e)
-building_macs s e macs building none =
-    let r = rerouted s e building none in
+rerouted_macs : (s : State) (e : Event) → PortsHaveMacs s → is_rerouting e ≡ true → refusal s e ≡ None → PortsHaveMacs (after s e)
+rerouted_macs s e macs rerouting none =
+    let r = rerouted s e rerouting none in
     subst PortsHaveMacs (sym r.leaves) (λ q m. macs q (subst (Member q) r.alike.ports m))
 
-after_macs : (s : State) (e : Event) → PortsHaveMacs s → HasOctets e → refusal s e ≡ None → PortsHaveMacs (after s e)
-after_macs s Bad macs octets none = macs
-after_macs s (Exchange base size capacity) macs octets none = macs
-after_macs s (DeclaresParticipant name asn id) macs octets none = macs
-after_macs s (DeclaresPort name number ip mac) macs octets none =
+after_macs : (s : State) (e : Event) → PortsHaveMacs s → IsWellFormed e → HasOctets e → refusal s e ≡ None → PortsHaveMacs (after s e)
+after_macs s Bad macs formed octets none = macs
+after_macs s (Exchange base size capacity) macs formed octets none = macs
+after_macs s (DeclaresParticipant name asn id) macs formed octets none = macs
+after_macs s (DeclaresPort name number ip mac) macs formed octets none =
     known_macs s (pid_of s.routing name) (λ who. with_port s (record { owner = who; number = number; ip = ip; mac = mac })) macs (λ who. port_macs s (record { owner = who; number = number; ip = ip; mac = mac }) macs octets)
-after_macs s (Update name bytes) macs octets none = building_macs s (Update name bytes) macs refl none
-after_macs s (Down name) macs octets none = building_macs s (Down name) macs refl none
-after_macs s (Export name text) macs octets none = building_macs s (Export name text) macs refl none
-after_macs s (Drain name) macs octets none = known_macs s (pid_of s.routing name) (λ who. settled (running (with_told s who (present s who)))) macs (λ who. macs)
-after_macs s (Arp n bytes) macs octets none = known_macs s (port_of s n) (λ q. running (with_answer s q bytes)) macs (λ q. answered_macs s q bytes macs)
-after_macs s (Resolve n) macs octets none = known_macs s (port_of s n) (λ q. running (with_resolved s n (unresolved s q))) macs (λ q. resolved_macs s n (unresolved s q) macs)
-after_macs s (Packet n bytes) macs octets none = macs
-after_macs s (Frame n bytes) macs octets none = macs
-after_macs s Table macs octets none = macs
+after_macs s (Update name bytes) macs formed octets none = rerouted_macs s (Update name bytes) macs refl none
+after_macs s (Down name) macs formed octets none = rerouted_macs s (Down name) macs refl none
+after_macs s (Export name text) macs formed octets none = rerouted_macs s (Export name text) macs refl none
+after_macs s (Outbound name text) macs formed octets none = absurd formed
+after_macs s (Inbound name text) macs formed octets none = absurd formed
+after_macs s (Take name count) macs formed octets none = absurd formed
+after_macs s (Drain name) macs formed octets none = known_macs s (pid_of s.routing name) (λ who. settled (running (with_told s who (present s who)))) macs (λ who. macs)
+after_macs s (Arp n bytes) macs formed octets none = known_macs s (port_of s n) (λ q. running (with_answer s q bytes)) macs (λ q. answered_macs s q bytes macs)
+after_macs s (Resolve n) macs formed octets none = known_macs s (port_of s n) (λ q. running (with_resolved s n (unresolved s q))) macs (λ q. resolved_macs s n (unresolved s q) macs)
+after_macs s (Packet n bytes) macs formed octets none = macs
+after_macs s (Frame n bytes) macs formed octets none = macs
+after_macs s Recompile macs formed octets none = absurd formed
+after_macs s (Work units) macs formed octets none = absurd formed
+after_macs s Table macs formed octets none = macs
 
 next_macs : (s : State) (e : Event) (r : Reply) (h : Head) → PortsHaveMacs s → PortsHaveMacs (after s e) → PortsHaveMacs (next_by h s e r)
 next_macs s e r (Refused why) macs later = macs
 next_macs s e r Fine macs later = later
+next_macs s e r (Working units) macs later = later
+next_macs s e r Finished macs later = later
 next_macs s e r Unrouted macs later = later
 next_macs s e r (Unresolved ip) macs later = later
 next_macs s e r Silent macs later = later
 
 -- a reply that fits leaves each port its MAC
-step_macs : (s : State) (e : Event) (r : Reply) → PortsHaveMacs s → HasOctets e → Fits s e r → PortsHaveMacs (next s e r)
-step_macs s e r macs octets fits = by (refusal s e) refl fits
+step_macs : (s : State) (e : Event) (r : Reply) → PortsHaveMacs s → IsWellFormed e → HasOctets e → Fits s e r → PortsHaveMacs (next s e r)
+step_macs s e r macs formed octets fits = by (refusal s e) refl fits
   where
     by : (o : Option Refusal) → refusal s e ≡ o → FitsBy o s e r → PortsHaveMacs (next s e r)
     by (Some why) is fits = subst (λ x. PortsHaveMacs (next s e x)) (sym fits) macs
-    by None none fits = next_macs s e r r.head macs (after_macs s e macs octets none)
+    by None none fits = next_macs s e r r.head macs (after_macs s e macs formed octets none)
 
 -- ---- a datagram
 
@@ -204,24 +212,24 @@ drain_reply : (s : State) (name : List ℕ) → IsSteady s → refusal s (Drain 
 drain_reply s name steady none =
     let k = known (pid_of s.routing name) (λ who. None) (passes s (Drain name) none).1 in
     let s1 : State = told_anew s k.0 (present s k.0) in
-    let r : Reply = record (bare Fine) { drops = dropped s s1 none_rebuilt; adverts = adverts s k.0 } in
+    let r : Reply = record (bare Fine) { drops = dropped s s1 none_rebuilt; adverts = adverts s k.0 (pending s k.0) } in
     let law = drains_are_accepted s name k.0 r steady.sound k.1 (record { head = refl; tags = refl; drops = refl; adds = refl; adverts = refl; asks = refl; frames = refl }) in
     (r, accepted_lines_fit s (Drain name) r none law.1)
 
-building_reply : (s : State) (e : Event) → IsSteady s → is_building e ≡ true → refusal s e ≡ None → (r : Reply) × Fits s e r
-building_reply s e steady building none = by (cases_lt s.capacity (rule_count (with_rules s (retagged s to.routing))))
+rerouting_reply : (s : State) (e : Event) → IsSteady s → is_rerouting e ≡ true → refusal s e ≡ None → (r : Reply) × Fits s e r
+rerouting_reply s e steady rerouting none = by (cases_lt s.capacity (rule_count (with_default_rules s (retagged s to.routing))))
   where
     to : Rerouted s e
-    to = rerouted s e building none
+    to = rerouted s e rerouting none
 
     is : IsRerouting s e to.routing
-    is = record { passes = none; building = building; leaves = to.leaves }
+    is = record { passes = none; building = rerouting; leaves = to.leaves }
 
     change : IsChange s to.routing
     change = reroutings_are_changes s e to.routing steady.sound steady.pooled steady.owners is
 
     s1 : State
-    s1 = with_rules s (retagged s to.routing)
+    s1 = with_default_rules s (retagged s to.routing)
 
     built : Reply
     built = record (bare Fine) { tags = tag_changes s.tag s1.tag; drops = dropped s s1 none_rebuilt; adds = added s s1 none_rebuilt }
@@ -230,7 +238,7 @@ building_reply s e steady building none = by (cases_lt s.capacity (rule_count (w
     by (inl over) = (bare (Refused (TableFull (rule_count s1) s.capacity)), full_tables_are_refused s e to.routing is change (steady_have_one_each s steady) over)
     by (inr few) = (
       built,
-      (reroutings_are_accepted s e to.routing (table_after s (retagged s to.routing)) built is change (defaults_are_tables s to.routing change) (defaults_are_rules s to.routing steady.pooled) few
+      (reroutings_are_accepted s e to.routing (table_after s (retagged s to.routing)) built is change (defaults_are_tables s to.routing change steady.drop) (defaults_are_rules s to.routing steady.pooled) few
           (record { head = refl; tags = refl; drops = refl; adds = refl; adverts = refl; asks = refl; frames = refl })).1,
     )
 
@@ -239,14 +247,19 @@ answered s Bad steady macs formed octets none = absurd (let never = (passes s Ba
 answered s (Exchange base size capacity) steady macs formed octets none = quietly s (Exchange base size capacity) (bare Fine) steady formed none refl refl
 answered s (DeclaresParticipant name asn id) steady macs formed octets none = quietly s (DeclaresParticipant name asn id) (bare Fine) steady formed none refl refl
 answered s (DeclaresPort name number ip mac) steady macs formed octets none = quietly s (DeclaresPort name number ip mac) (bare Fine) steady formed none refl refl
-answered s (Update name bytes) steady macs formed octets none = building_reply s (Update name bytes) steady refl none
-answered s (Down name) steady macs formed octets none = building_reply s (Down name) steady refl none
-answered s (Export name text) steady macs formed octets none = building_reply s (Export name text) steady refl none
+answered s (Update name bytes) steady macs formed octets none = rerouting_reply s (Update name bytes) steady refl none
+answered s (Down name) steady macs formed octets none = rerouting_reply s (Down name) steady refl none
+answered s (Export name text) steady macs formed octets none = rerouting_reply s (Export name text) steady refl none
+answered s (Outbound name text) steady macs formed octets none = absurd formed
+answered s (Inbound name text) steady macs formed octets none = absurd formed
+answered s (Take name count) steady macs formed octets none = absurd formed
 answered s (Drain name) steady macs formed octets none = drain_reply s name steady none
 answered s (Arp n bytes) steady macs formed octets none = quietly s (Arp n bytes) (responder_reply s bytes) steady formed none refl refl
 answered s (Resolve n) steady macs formed octets none = resolve_reply s n steady formed none
 answered s (Packet n bytes) steady macs formed octets none = packet_reply s n bytes steady macs formed octets none
 answered s (Frame n bytes) steady macs formed octets none = frame_reply s n bytes steady formed none
+answered s Recompile steady macs formed octets none = absurd formed
+answered s (Work units) steady macs formed octets none = absurd formed
 answered s Table steady macs formed octets none = quietly s Table (record (bare Fine) { adds = all_flows s }) steady formed none refl refl
 
 pub lines_have_replies : LinesHaveReplies
@@ -264,7 +277,7 @@ replies_from s [] steady macs written = ([], tt)
 replies_from s (e ∷ fs) steady macs written =
     let here = written e (inl refl) in
     let r = lines_have_replies s e steady macs here.0 here.1 in
-    let later = replies_from (next s e r.0) fs (steps_stay_steady s e r.0 steady here.0 r.1) (step_macs s e r.0 macs here.1 r.1) (λ x m. written x (inr m)) in
+    let later = replies_from (next s e r.0) fs (steps_stay_steady s e r.0 steady here.0 r.1) (step_macs s e r.0 macs here.0 here.1 r.1) (λ x m. written x (inr m)) in
     (r.0 ∷ later.0, (r.1, later.1))
 
 from_go_on : (s : State) (es fs : List Event) (rs : List Reply) → IsSteady s → PortsHaveMacs s → ((e : Event) → Member e (es ++ fs) → IsWellFormed e × HasOctets e) → LegalFrom s es rs
@@ -274,7 +287,7 @@ from_go_on s [] fs (r ∷ rs) steady macs written legal = absurd legal
 from_go_on s (e ∷ es) fs [] steady macs written legal = absurd legal
 from_go_on s (e ∷ es) fs (r ∷ rs) steady macs written legal =
     let here = written e (inl refl) in
-    let later = from_go_on (next s e r) es fs rs (steps_stay_steady s e r steady here.0 legal.0) (step_macs s e r macs here.1 legal.0) (λ x m. written x (inr m)) legal.1 in
+    let later = from_go_on (next s e r) es fs rs (steps_stay_steady s e r steady here.0 legal.0) (step_macs s e r macs here.0 here.1 legal.0) (λ x m. written x (inr m)) legal.1 in
     (later.0, (legal.0, later.1))
 
 pub runs_go_on : RunsGoOn

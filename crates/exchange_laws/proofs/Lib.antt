@@ -3,6 +3,7 @@ pub mod Sames
 pub mod FreshTags
 pub mod TagsAfter
 pub mod LivePairs
+pub mod Dropping
 pub mod RulesAfter
 pub mod Flows
 pub mod Built

@@ -1,43 +1,45 @@
 -- What a line does to the state, where no refusal stops it: it gives the pool, declares, changes the routes, takes what is
 -- pending, or has routers resolve addresses.
 use Rattle.std.proofs.Common.{◌≡◌, ℕ, ◌≤◌, ◌<◌, Bool, true, false, cond, ◌&&◌, nat_le, List, [], ◌∷◌, ◌++◌, length, sym, ap, subst, ◌∙◌, refl, inl, inr}
-use Rattle.std.specs.Prelude.{Option, Some, None, slice_set}
+use Rattle.std.specs.Prelude.{Option, Some, None, Result, Ok, Err, slice_set}
 use Rattle.std.specs.Option.{option_map_or}
-use Rattle.std.specs.Cmp.{IsTotalOrder, nat_cmp_total}
-use Rattle.std.specs.FinMap.{IsAntisymmetric, nat_cmp-IsAntisymmetric}
 use Rattle.std.proofs.lemmas.Bool.{leb-false}
-use Rattle.std.proofs.lemmas.Cmp.{on_total}
 use Rattle.net_types.proofs.OrderedLemmas.{ordered_rises}
 use Rattle.events.proofs.Reached.{declared_pid}
-use Rattle.events.specs.After.{after, running, settled, with_known, with_participant, with_port, with_told}
+use Rattle.events.specs.After.{after, bound_read, ruled, running, settled, updated, with_known, with_participant, with_port, with_told, without_from}
 use Rattle.events.specs.Forms.{IsWellFormed}
-use Rattle.events.specs.Fits.{is_building}
 use Rattle.events.specs.Refusals.{is_name_taken, is_placed, is_port_taken, refusal, refused_if}
-use Rattle.events.specs.Resolving.{is_answered, port_place, resolved_at, unresolved, with_answer, with_resolved}
+use Rattle.events.specs.Resolving.{is_pool_request, port_place, resolved_at, unresolved, with_answer, with_resolved}
 use Rattle.events.specs.State.{State, port_of, present}
 use Rattle.events.specs.Tags.{retagged}
 use Rattle.events.specs.declared.Event.{Event}
-use Rattle.events.specs.declared.Event.TheVariants.{Bad, Exchange, Participant as DeclaresParticipant, Port as DeclaresPort, Update, Down, Export, Drain, Arp, Resolve, Packet, Frame, Table}
+use Rattle.events.specs.declared.Event.TheVariants.{Bad, Exchange, Participant as DeclaresParticipant, Port as DeclaresPort, Update, Down, Export, Outbound, Inbound, Take, Drain, Arp, Resolve, Packet, Frame, Recompile, Work, Table}
 use Rattle.events.specs.declared.Phase.{Phase}
 use Rattle.events.specs.declared.Phase.TheVariants.{Start, Declaring, Running}
 use Rattle.events.specs.declared.Refusal.TheVariants.{Clash, Full}
 use Rattle.exchange_laws.proofs.Lists.{clash}
 use Rattle.exchange_laws.proofs.OwnHops.{Member_set}
 use Rattle.exchange_laws.proofs.Rerouted.{Rerouted, known, neither, not_stopped, passes, rerouted, set_length}
-use Rattle.exchange_laws.specs.Steady.{is_ip_before}
-use Rattle.net_types.proofs.TieLemmas.{same_from_tie}
+use Rattle.exchange_laws.specs.Rerouting.{is_rerouting}
+use Rattle.net_types.proofs.TieLemmas.{same_from_tie, ip_cmp-IsAntisymmetric}
 use Rattle.net_types.specs.Arp.{asked_ip, asker_mac}
+use Rattle.net_types.specs.ExportReading.{rules_of_text}
 use Rattle.net_types.specs.Exports.{pid_of}
-use Rattle.net_types.specs.Keys.{ip_cmp}
+use Rattle.net_types.specs.Keys.{ip_cmp, is_ip_before}
 use Rattle.net_types.specs.Maps.{ordered}
 use Rattle.net_types.specs.Octets.{same_octets}
 use Rattle.net_types.specs.Sets.{IsRising, Member}
+use Rattle.net_types.specs.UpdateReading.{decoded}
 use Rattle.net_types.specs.declared.address.Ip.{Ip}
 use Rattle.net_types.specs.declared.address.Mac.{Mac}
 use Rattle.net_types.specs.declared.address.Pid.{Pid}
 use Rattle.net_types.specs.declared.address.PortNo.{PortNo}
+use Rattle.net_types.specs.declared.export.ExportRule.{ExportRule}
 use Rattle.net_types.specs.declared.route.Participant.{Participant}
 use Rattle.net_types.specs.declared.route.PortInfo.{PortInfo}
+use Rattle.net_types.specs.declared.update.Fault.{Fault}
+use Rattle.net_types.specs.declared.update.Update.{Update as Message}
+use Rattle.net_types.proofs.OrderLemmas.{ips_total}
 
 -- each list of addresses ascends
 abbrev pub AllRise : List (List Ip) → Type 0
@@ -84,12 +86,6 @@ not_at_start s e out placed start = clash placed (ap (λ phase. is_placed phase 
 
 -- ---- resolved addresses
 
-ips_total : IsTotalOrder ip_cmp
-ips_total = on_total (λ (ip : Ip). ip.0) nat_cmp_total
-
-ip_cmp-IsAntisymmetric : IsAntisymmetric ip_cmp
-ip_cmp-IsAntisymmetric a b e = λ i. record { 0 = nat_cmp-IsAntisymmetric a.0 b.0 e i }
-
 set_rise : (lists : List (List Ip)) (k : ℕ) (ips : List Ip) → AllRise lists → AllRise (slice_set lists k (ordered ip_cmp ips))
 set_rise lists k ips rising list m = elim (Member_set lists k (ordered ip_cmp ips) list m) [
   | inl there ↦ rising list there
@@ -108,7 +104,7 @@ more_resolved s n ips later = at (port_place s n)
         resolved (slice_set s.resolved place (ordered ip_cmp (resolved_at s n ++ ips))) later (set_length s.resolved place (ordered ip_cmp (resolved_at s n ++ ips))) (set_rise s.resolved place (resolved_at s n ++ ips))
 
 answer_resolved : (s : State) (q : PortInfo) (frame : List ℕ) → (s.phase ≡ Start → ⊥) → QuietStep s (running (with_answer s q frame))
-answer_resolved s q frame later = by (is_answered s frame && same_octets (asker_mac frame).0 q.mac.0)
+answer_resolved s q frame later = by (is_pool_request s frame && same_octets (asker_mac frame).0 q.mac.0)
   where
     by : (b : Bool) → QuietStep s (running (cond b (with_resolved s q.number (asked_ip frame ∷ [])) s))
     by true = more_resolved s q.number (asked_ip frame ∷ []) later
@@ -156,13 +152,33 @@ running_step s e out none = same_resolved s (not_at_start s e out (passes s e no
 -- what a line does that no refusal stops
 pub data Step (s : State) (e : Event) : State → Type 0 where
   quiet : (s1 : State) → QuietStep s s1 → Step s e s1
-  routes : (after : Rerouted s e) → (s.phase ≡ Start → ⊥) → Step s e (retagged s after.routing)
+  routes : (after : Rerouted s e) → after.routing.named ≡ s.routing.named → (s.phase ≡ Start → ⊥) → Step s e (retagged s after.routing)
   told : (who : Pid) → (s.phase ≡ Start → ⊥) → Step s e (taken s who)
 
-building_step : (s : State) (e : Event) → is_building e ≡ true → is_placed Start e ≡ false → refusal s e ≡ None → Step s e (after s e)
-building_step s e building out none =
-    let r = rerouted s e building none in
-    subst (Step s e) (sym r.leaves) (routes r (not_at_start s e out (passes s e none).0))
+-- whom the policies name stays
+known_named : {X : Type 0} (s : State) (o : Option X) (f : X → State) → ((x : X) → (f x).routing.named ≡ s.routing.named) → (with_known s o f).routing.named ≡ s.routing.named
+known_named s None f same = refl
+known_named s (Some x) f same = same x
+
+updated_named : (s : State) (who : Pid) (read : Result Message Fault) → (updated s who read).routing.named ≡ s.routing.named
+updated_named s who (Ok u) = refl
+updated_named s who (Err fault) = refl
+
+ruled_named : (s : State) (who : Pid) (rules : Option (List ExportRule)) → (ruled s who rules).routing.named ≡ s.routing.named
+ruled_named s who (Some rules) = refl
+ruled_named s who None = refl
+
+still_named : (s : State) (e : Event) → is_rerouting e ≡ true → (after s e).routing.named ≡ s.routing.named
+still_named s (Update name bytes) rerouting = known_named s (pid_of s.routing name) (λ who. updated s who (decoded bytes)) (λ who. updated_named s who (decoded bytes))
+still_named s (Down name) rerouting = known_named s (pid_of s.routing name) (λ who. retagged s (without_from s.routing who)) (λ who. refl)
+still_named s (Export name text) rerouting =
+    known_named s (pid_of s.routing name) (λ who. ruled s who (bound_read s.routing (rules_of_text text))) (λ who. ruled_named s who (bound_read s.routing (rules_of_text text)))
+still_named s e rerouting = absurd (cc)
+
+rerouting_step : (s : State) (e : Event) → is_rerouting e ≡ true → is_placed Start e ≡ false → refusal s e ≡ None → Step s e (after s e)
+rerouting_step s e rerouting out none =
+    let r = rerouted s e rerouting none in
+    subst (Step s e) (sym r.leaves) (routes r (sym (ap (λ (x : State). x.routing.named) r.leaves) ∙ still_named s e rerouting) (not_at_start s e out (passes s e none).0))
 
 drain_step : (s : State) (name : List ℕ) → refusal s (Drain name) ≡ None → Step s (Drain name) (after s (Drain name))
 drain_step s name none =
@@ -175,12 +191,17 @@ step_of s Bad none formed = absurd (let never = (passes s Bad none).1 in cc)
 step_of s (Exchange base size capacity) none formed = quiet _ (exchange_step s base size capacity none formed)
 step_of s (DeclaresParticipant name asn id) none formed = quiet _ (participant_step s name asn id none)
 step_of s (DeclaresPort name number ip mac) none formed = quiet _ (port_step s name number ip mac none formed)
-step_of s (Update name bytes) none formed = building_step s (Update name bytes) refl refl none
-step_of s (Down name) none formed = building_step s (Down name) refl refl none
-step_of s (Export name text) none formed = building_step s (Export name text) refl refl none
+step_of s (Update name bytes) none formed = rerouting_step s (Update name bytes) refl refl none
+step_of s (Down name) none formed = rerouting_step s (Down name) refl refl none
+step_of s (Export name text) none formed = rerouting_step s (Export name text) refl refl none
+step_of s (Outbound name text) none formed = absurd formed
+step_of s (Inbound name text) none formed = absurd formed
+step_of s (Take name count) none formed = absurd formed
 step_of s (Drain name) none formed = drain_step s name none
 step_of s (Arp n bytes) none formed = quiet _ (arp_step s n bytes none)
 step_of s (Resolve n) none formed = quiet _ (resolve_step s n none)
 step_of s (Packet n bytes) none formed = quiet _ (running_step s (Packet n bytes) refl none)
 step_of s (Frame n bytes) none formed = quiet _ (running_step s (Frame n bytes) refl none)
+step_of s Recompile none formed = absurd formed
+step_of s (Work units) none formed = absurd formed
 step_of s Table none formed = quiet _ (running_step s Table refl none)

@@ -1,6 +1,6 @@
 -- A state without routes and tags, in which nobody was told anything, has no live tags and is sound.
 use Rattle.std.proofs.Common.{◌≡◌, false, List, [], ◌∷◌, length, map, sum_by, sym, ap, subst, ◌∙◌, refl, arith}
-use Rattle.std.specs.Prelude.{Option, Some, None, codes, is_some}
+use Rattle.std.specs.Prelude.{Option, Some, None, is_some}
 use Rattle.std.specs.FinMap.{FinMap, empty, get, get-empty, keys, same_map, values}
 use Rattle.std.specs.List.{list_any}
 use Rattle.std.proofs.lemmas.Bool.{false_from_ne_true, or_from}
@@ -8,10 +8,12 @@ use Rattle.events.specs.Sound.{IsSound, rule_count}
 use Rattle.events.specs.State.{State, AreRead, ArePolicies}
 use Rattle.events.specs.Tags.{is_carried, is_live, is_live_pair, same_tag, tells}
 use Rattle.events.specs.declared.Entry.{Entry}
+use Rattle.exchange_laws.proofs.Dropping.{dropped_read}
 use Rattle.exchange_laws.proofs.FreshTags.{carried_announced}
 use Rattle.exchange_laws.proofs.LivePairs.{live_tag}
 use Rattle.exchange_laws.proofs.Lists.{TableOf, any_found, clash}
-use Rattle.exchange_laws.specs.Steady.{AllDrop, IsNew}
+use Rattle.exchange_laws.specs.Rules.{AllDrop}
+use Rattle.exchange_laws.specs.Steady.{IsNew}
 use Rattle.net_types.proofs.OrderLemmas.{pairs_total}
 use Rattle.net_types.proofs.TieLemmas.{pair_cmp-IsAntisymmetric}
 use Rattle.net_types.proofs.ValueLemmas.{no_entries}
@@ -23,7 +25,6 @@ use Rattle.net_types.specs.Sets.{Member}
 use Rattle.net_types.specs.declared.address.Tag.{Tag}
 use Rattle.net_types.specs.declared.prefix.Prefix.{Prefix}
 use Rattle.net_types.specs.declared.route.Attrs.{Attrs}
-use Rattle.net_types.specs.declared.route.Participant.{Participant}
 use Rattle.net_types.specs.declared.rule.Pair.{Pair}
 use Rattle.net_types.specs.declared.rule.Rule.{Rule}
 
@@ -67,10 +68,6 @@ module _ (s : State) (new : IsNew s) where
   no_tagged p = ap (λ (m : FinMap prefix_cmp Tag). get m p) new.tag ∙ get-empty prefix_cmp p
 
 -- ---- policies that drop
-
-dropped_read : (ms : List Participant) → AreRead (map (λ m. codes "drop") ms) (map (λ m. Drop) ms)
-dropped_read [] = tt
-dropped_read (m ∷ ms) = ((refl, refl), dropped_read ms)
 
 pub drop_policies : (s : State) → AllDrop s → (ps : Policies) × ArePolicies s ps
 drop_policies s drop = (

@@ -1,9 +1,11 @@
 -- While all policies drop, each pair of a steady state has one rule.
-use Rattle.std.proofs.Common.{◌≡◌, ℕ, zero, suc, ◌≤◌, List, [], ◌∷◌, ◌++◌, length, nat_eq, sym, ap, subst, ◌∙◌, refl, arith, inl, inr}
-use Rattle.std.specs.Prelude.{None, slice_get, unwrap_or, is_some}
+use Rattle.std.proofs.Common.{◌≡◌, ◌≤◌, List, [], ◌∷◌, ◌++◌, length, nat_eq, sym, ap, subst, ◌∙◌, refl, arith, inl, inr}
+use Rattle.std.specs.Prelude.{None, is_some}
 use Rattle.std.proofs.lemmas.Bool.{eqb-true}
 use Rattle.events.specs.Sound.{IsRight, cubes_of}
-use Rattle.events.specs.State.{State, ArePolicies, AreRead}
+use Rattle.events.proofs.Routed.{TextsDrop, all_drop}
+use Rattle.events.specs.State.{State, ArePolicies}
+use Rattle.exchange_laws.proofs.Dropping.{texts_drop}
 use Rattle.exchange_laws.proofs.LivePairs.{live_at}
 use Rattle.exchange_laws.specs.Counts.{SteadyHaveOneEach}
 use Rattle.net_types.proofs.FindLemmas.{find-IsFound}
@@ -11,7 +13,7 @@ use Rattle.net_types.specs.Answers.{Policies, policy_of}
 use Rattle.net_types.specs.Cells.{cell_atoms, freed}
 use Rattle.net_types.specs.Cubes.{everything}
 use Rattle.net_types.specs.Meets.{IsMeet}
-use Rattle.net_types.specs.Policies.{Drop, Policy, atoms}
+use Rattle.net_types.specs.Policies.{Policy, atoms}
 use Rattle.net_types.specs.Sets.{Member, union_over}
 use Rattle.net_types.specs.declared.address.PortNo.{PortNo}
 use Rattle.net_types.specs.declared.cube.Cube.{Cube}
@@ -21,23 +23,15 @@ use Rattle.net_types.specs.declared.route.Part.{Part}
 use Rattle.net_types.specs.declared.route.PortInfo.{PortInfo}
 use Rattle.net_types.specs.declared.rule.Rule.{Rule}
 
--- each policy that is read drops
-reads_drop : (texts : List (List ℕ)) (ps : List Policy) → AreRead texts ps → (k : ℕ) → unwrap_or (slice_get ps k) Drop ≡ Drop
-reads_drop [] [] read k = refl
-reads_drop [] (p ∷ ps) read k = absurd read
-reads_drop (t ∷ ts) [] read k = absurd read
-reads_drop (t ∷ ts) (p ∷ ps) read zero = read.0.1
-reads_drop (t ∷ ts) (p ∷ ps) read (suc k) = reads_drop ts ps read.1 k
-
--- so there are no atoms
-no_atoms : (s : State) (ps : Policies) → ArePolicies s ps → (port : PortNo) (part : Part) → cell_atoms ps port part ≡ []
-no_atoms s ps are port part =
-    ap (λ (t : Policy). union_over (freed port) (atoms t) ++ union_over (λ (o : Offer). atoms (policy_of ps.inbound o.exporter)) part.offers) (reads_drop s.outbound ps.outbound are.outbound part.sender.0)
+-- policies that drop have no atoms
+no_atoms : (s : State) (ps : Policies) → TextsDrop s → ArePolicies s ps → (port : PortNo) (part : Part) → cell_atoms ps port part ≡ []
+no_atoms s ps drop are port part =
+    ap (λ (t : Policy). union_over (freed port) (atoms t) ++ union_over (λ (o : Offer). atoms (policy_of ps.inbound o.exporter)) part.offers) (all_drop s.outbound ps.outbound drop.outbound are.outbound part.sender.0)
     ∙ none part.offers
   where
     none : (offers : List Offer) → union_over (λ (o : Offer). atoms (policy_of ps.inbound o.exporter)) offers ≡ []
     none [] = refl
-    none (o ∷ offers) = ap (λ (t : Policy). atoms t ++ union_over (λ (x : Offer). atoms (policy_of ps.inbound x.exporter)) offers) (reads_drop s.inbound ps.inbound are.inbound o.exporter.0) ∙ none offers
+    none (o ∷ offers) = ap (λ (t : Policy). atoms t ++ union_over (λ (x : Offer). atoms (policy_of ps.inbound x.exporter)) offers) (all_drop s.inbound ps.inbound drop.inbound are.inbound o.exporter.0) ∙ none offers
 
 -- rules of which each has the cube of everything, and that are right, are one
 one_rule : (ps : Policies) (part : Part) (port : PortNo) (rules : List Rule) → port.0 ≤ 65279 → IsRight ps part port rules → ((c : Cube) → Member c (cubes_of rules) → c ≡ everything) → length rules ≡ 1
@@ -60,4 +54,4 @@ steady_have_one_each s steady pair rules has =
     let small = (steady.numbered q found.stands).1 in
     let same : q.number.0 ≡ pair.port.0 = eqb-true q.number.0 pair.port.0 found.passes in
     one_rule ps part pair.port rules (subst (λ n. n ≤ 65279) same small) right.2 (λ c m.
-    subst (λ cubes. IsMeet cubes c) (no_atoms s ps steady.sound.right.1 pair.port part) (right.2.meets c m))
+    subst (λ cubes. IsMeet cubes c) (no_atoms s ps (texts_drop s s.routing.participants steady.drop.outbound steady.drop.inbound) steady.sound.right.1 pair.port part) (right.2.meets c m))

@@ -6,12 +6,12 @@ use Rattle.events.specs.After.{after, next}
 use Rattle.events.specs.Forms.{IsWellFormed}
 use Rattle.events.specs.Fits.{FitsBy, IsAccepted, IsAnswer, IsSent, IsTagged, Passes, asks_for, bare, by_table, destination, is_building, responder_reply}
 use Rattle.events.specs.Refusals.{refusal}
-use Rattle.events.specs.Resolving.{is_answered, is_resolved, pool_mac, tag_address, unresolved}
+use Rattle.events.specs.Resolving.{is_pool_request, is_resolved, pool_mac, tag_address, unresolved}
 use Rattle.events.specs.Sound.{IsSound}
 use Rattle.events.specs.State.{State, port_of, told_to}
 use Rattle.events.specs.declared.Entry.{Entry}
 use Rattle.events.specs.declared.Event.{Event}
-use Rattle.events.specs.declared.Event.TheVariants.{Bad, Exchange, Participant as DeclaresParticipant, Port as DeclaresPort, Update, Down, Export, Drain, Arp, Resolve, Packet, Frame, Table}
+use Rattle.events.specs.declared.Event.TheVariants.{Bad, Exchange, Participant as DeclaresParticipant, Port as DeclaresPort, Update, Down, Export, Outbound, Inbound, Take, Drain, Arp, Resolve, Packet, Frame, Recompile, Work, Table}
 use Rattle.events.specs.declared.Head.TheVariants.{Fine, Silent}
 use Rattle.events.specs.declared.Reply.{Reply}
 use Rattle.exchange_laws.proofs.LineSteps.{QuietStep, arp_step, exchange_step, participant, participant_step, pool, port, port_step, resolve_step, resolved, running_step}
@@ -37,11 +37,16 @@ quiet_step s (DeclaresPort name number ip mac) none formed calm = port_step s na
 quiet_step s (Update name bytes) none formed calm = absurd (cc)
 quiet_step s (Down name) none formed calm = absurd (cc)
 quiet_step s (Export name text) none formed calm = absurd (cc)
+quiet_step s (Outbound name text) none formed calm = absurd formed
+quiet_step s (Inbound name text) none formed calm = absurd formed
+quiet_step s (Take name count) none formed calm = absurd formed
 quiet_step s (Drain name) none formed calm = absurd (cc)
 quiet_step s (Arp n bytes) none formed calm = arp_step s n bytes none
 quiet_step s (Resolve n) none formed calm = resolve_step s n none
 quiet_step s (Packet n bytes) none formed calm = running_step s (Packet n bytes) refl none
 quiet_step s (Frame n bytes) none formed calm = running_step s (Frame n bytes) refl none
+quiet_step s Recompile none formed calm = absurd formed
+quiet_step s (Work units) none formed calm = absurd formed
 quiet_step s Table none formed calm = running_step s Table refl none
 
 -- the table stays
@@ -79,7 +84,7 @@ abbrev stays : State → Event → State
 stays s e = record (after s e) { table = s.table }
 
 arp_next : (s : State) (n : PortNo) (bytes : List ℕ) (reply : Reply) → reply ≡ responder_reply s bytes → next s (Arp n bytes) reply ≡ stays s (Arp n bytes)
-arp_next s n bytes reply is = ap (next s (Arp n bytes)) is ∙ by (is_answered s bytes)
+arp_next s n bytes reply is = ap (next s (Arp n bytes)) is ∙ by (is_pool_request s bytes)
   where
     by : (b : Bool) → next s (Arp n bytes) (cond b (record (bare Fine) { asks = record { request = None; reply = arp_reply (asker_mac bytes) (asker_ip bytes) (asked_ip bytes) (pool_mac s (asked_ip bytes)) } ∷ [] }) (bare Silent)) ≡ stays s (Arp n bytes)
     by true = refl
@@ -118,15 +123,22 @@ answer_next s (DeclaresPort name number ip mac) reply s1 calm is = ap (next s (D
 answer_next s (Update name bytes) reply s1 calm is = absurd (cc)
 answer_next s (Down name) reply s1 calm is = absurd (cc)
 answer_next s (Export name text) reply s1 calm is = absurd (cc)
+answer_next s (Outbound name text) reply s1 calm is = absurd (cc)
+answer_next s (Inbound name text) reply s1 calm is = absurd (cc)
+answer_next s (Take name count) reply s1 calm is = absurd (cc)
 answer_next s (Drain name) reply s1 calm is = absurd (cc)
 answer_next s (Arp n bytes) reply s1 calm is = arp_next s n bytes reply is
 answer_next s (Resolve n) reply s1 calm is = resolve_next s n reply (port_of s n) is
 answer_next s (Packet n bytes) reply s1 calm is = packet_next s n bytes reply (port_of s n) is
 answer_next s (Frame n bytes) reply s1 calm is = frame_next s n bytes reply (port_of s n) is
+answer_next s Recompile reply s1 calm is = ap (next s Recompile) is
+answer_next s (Work units) reply s1 calm is = absurd (cc)
 answer_next s Table reply s1 calm is = ap (next s Table) is
 
 builds_nothing : (e : Event) → is_quiet e ≡ true → is_building e ≡ false
+builds_nothing (Take name count) calm = refl
 builds_nothing (Drain name) calm = refl
+builds_nothing (Work units) calm = refl
 builds_nothing e calm = cc
 
 pub quiet_lines_are_accepted : QuietLinesAreAccepted

@@ -1,22 +1,22 @@
 -- What a line that changes the routes leaves: the routes, where they come from, and that there are enough tags.
-use Rattle.std.proofs.Common.{◌≡◌, ℕ, zero, suc, ◌<◌, ◌⊎◌, Bool, true, false, cond, nat_eq, nat_lt, not, List, [], ◌∷◌, length, sym, ap, subst, ◌∙◌, refl, inl, inr}
+use Rattle.std.proofs.Common.{◌≡◌, ℕ, zero, suc, ◌<◌, ◌⊎◌, Bool, true, false, cond, ◌&&◌, nat_eq, nat_lt, not, List, [], ◌∷◌, length, sym, ap, subst, ◌∙◌, refl, inl, inr}
 use Rattle.std.specs.Prelude.{Option, Some, None, Result, Ok, Err, slice_set}
 use Rattle.std.specs.FinMap.{FinMap, get, get-insert, get-remove, insert, remove}
 use Rattle.std.specs.Ordering.{eq_by_cmp}
-use Rattle.std.proofs.lemmas.Bool.{ltb-false}
+use Rattle.std.proofs.lemmas.Bool.{and_parts, ltb-false}
 use Rattle.events.proofs.Reached.{declared_pid}
 use Rattle.events.specs.After.{after, bound_read, ruled, updated, with_known, with_rules, with_update, without_from}
-use Rattle.events.specs.Fits.{is_building}
-use Rattle.events.specs.Refusals.{attrs_refusal, bound_refusal, has_next_hop, if_known, is_placed, or_else, refusal, refusal_in_place, rules_refusal, tags_refusal, text_refusal, refused_if, update_refusal}
+use Rattle.events.specs.Refusals.{attrs_refusal, bound_refusal, has_next_hop, if_known, is_placed, or_else, refusal, refusal_in_place, rules_refusal, suits_job, tags_refusal, text_refusal, refused_if, update_refusal}
 use Rattle.events.specs.State.{State}
 use Rattle.events.specs.Tags.{free_tags, groups, retagged}
 use Rattle.events.specs.declared.Event.{Event}
-use Rattle.events.specs.declared.Event.TheVariants.{Bad, Exchange, Participant, Port, Update, Down, Export, Drain, Arp, Resolve, Packet, Frame, Table}
+use Rattle.events.specs.declared.Event.TheVariants.{Bad, Exchange, Participant, Port, Update, Down, Export, Outbound, Inbound, Take, Drain, Arp, Resolve, Packet, Frame, Recompile, Work, Table}
 use Rattle.events.specs.declared.Refusal.{Refusal}
 use Rattle.events.specs.declared.Refusal.TheVariants.{Misplaced, NextHop, NoNextHop, TextLong}
 use Rattle.exchange_laws.proofs.Lists.{some_of}
 use Rattle.exchange_laws.proofs.ToldAnew.{get_retained}
 use Rattle.exchange_laws.specs.Fresh.{HasEnoughTags}
+use Rattle.exchange_laws.specs.Rerouting.{is_rerouting}
 use Rattle.exchange_laws.specs.Rules.{IsDeclaredAlike}
 use Rattle.net_types.proofs.OrderLemmas.{routes_total}
 use Rattle.net_types.proofs.TieLemmas.{route_cmp-IsAntisymmetric, same_from_tie}
@@ -51,7 +51,9 @@ in_place false o e = absurd (cc)
 
 -- what no refusal stops is in place, and none of its own stops it
 pub passes : (s : State) (e : Event) → refusal s e ≡ None → (is_placed s.phase e ≡ true) × (refusal_in_place s e ≡ None)
-passes s e none = in_place (is_placed s.phase e) (refusal_in_place s e) none
+passes s e none =
+    let there = in_place (suits_job s.owed e && is_placed s.phase e) (refusal_in_place s e) none in
+    ((and_parts (suits_job s.owed e) (is_placed s.phase e) there.0).1, there.1)
 
 pub known : {X : Type 0} (o : Option X) (f : X → Option Refusal) → if_known o f ≡ None → (x : X) × (o ≡ Some x) × (f x ≡ None)
 known None f e = absurd (cc)
@@ -122,13 +124,15 @@ pub record HasOwnHop (s : State) (who : Pid) (a : Attrs) : Type 0 where
   pub declared : who.0 < length s.routing.participants
   pub hop : has_next_hop s who a.next_hop ≡ true
 
--- the routes after a line, for which there are enough tags; each was there, or its NEXT_HOP was looked at
+-- the routes after a line, for which there are enough tags, and by which the policies name whom they named; each was there,
+-- or its NEXT_HOP was looked at
 pub record Rerouted (s : State) (e : Event) : Type 0 where
   pub routing : Routing
   pub leaves : after s e ≡ retagged s routing
   pub alike : IsDeclaredAlike s.routing routing
   pub enough : HasEnoughTags s routing
   pub rules : length routing.rules ≡ length s.routing.rules
+  pub named : routing.named ≡ s.routing.named
   pub each : (who : Pid) (p : Prefix) (a : Attrs) → route routing who p ≡ Some a → (route s.routing who p ≡ Some a) ⊎ HasOwnHop s who a
 
 pub update_leaves : (s : State) (name bytes : List ℕ) (who : Pid) (u : Message) → pid_of s.routing name ≡ Some who → decoded bytes ≡ Ok u → after s (Update name bytes) ≡ retagged s (with_update s.routing who u)
@@ -150,6 +154,7 @@ update_case s name bytes who declared (Ok u) read none =
       alike = record { participants = refl; ports = refl };
       enough = enough_tags s (with_update s.routing who u) both.1;
       rules = refl;
+      named = refl;
       each = λ w p a is. elim (updated_from who u s.routing.routes (record { from = w; prefix = p }) a is) [
         | inl there ↦ inl there
         | inr own ↦ inr (subst (λ x. HasOwnHop s x a) (sym own.0) (record { declared = declared_pid s.routing name who declared; hop = hop a (ap (attrs_refusal s who) (sym own.1) ∙ both.0) }))
@@ -175,6 +180,7 @@ export_case s name text who declared (Ok named) read none = by (bound (pid_of s.
       alike = record { participants = refl; ports = refl };
       enough = enough_tags s (with_rules s.routing who rules) none;
       rules = set_length s.routing.rules who.0 rules;
+      named = refl;
       each = λ w p a there. inl there;
     }
 
@@ -182,8 +188,8 @@ text_passes : (s : State) (who : Pid) (text : List ℕ) (b : Bool) → cond b (S
 text_passes s who text true none = absurd (cc)
 text_passes s who text false none = none
 
--- each line that builds rules is such a line, where no refusal stops it
-pub rerouted : (s : State) (e : Event) → is_building e ≡ true → refusal s e ≡ None → Rerouted s e
+-- each line that changes the routes leaves such routes, where no refusal stops it
+pub rerouted : (s : State) (e : Event) → is_rerouting e ≡ true → refusal s e ≡ None → Rerouted s e
 rerouted s (Update name bytes) building none =
     let who = known (pid_of s.routing name) (λ w. update_refusal s w (decoded bytes)) (passes s (Update name bytes) none).1 in
     update_case s name bytes who.0 who.1 (decoded bytes) refl who.2
@@ -194,6 +200,7 @@ rerouted s (Down name) building none =
       alike = record { participants = refl; ports = refl };
       enough = enough_tags s (without_from s.routing who.0) who.2;
       rules = refl;
+      named = refl;
       each = λ w p a is. inl (not_gone who.0 s.routing.routes (record { from = w; prefix = p }) a is);
     }
 rerouted s (Export name text) building none =
@@ -203,9 +210,14 @@ rerouted s Bad building none = absurd (cc)
 rerouted s (Exchange base size capacity) building none = absurd (cc)
 rerouted s (Participant name asn id) building none = absurd (cc)
 rerouted s (Port name number ip mac) building none = absurd (cc)
+rerouted s (Outbound name text) building none = absurd (cc)
+rerouted s (Inbound name text) building none = absurd (cc)
+rerouted s (Take name count) building none = absurd (cc)
 rerouted s (Drain name) building none = absurd (cc)
 rerouted s (Arp port bytes) building none = absurd (cc)
 rerouted s (Resolve port) building none = absurd (cc)
 rerouted s (Packet port bytes) building none = absurd (cc)
 rerouted s (Frame port bytes) building none = absurd (cc)
+rerouted s Recompile building none = absurd (cc)
+rerouted s (Work units) building none = absurd (cc)
 rerouted s Table building none = absurd (cc)

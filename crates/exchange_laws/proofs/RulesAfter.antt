@@ -1,31 +1,38 @@
 -- The rules after a line that changes the routes are right, while all policies drop.
-use Rattle.std.proofs.Common.{◌≡◌, ◌<◌, ◌≤◌, Bool, true, false, cond, List, length, sym, ap, subst, ◌∙◌, refl, inl, inr}
+use Rattle.std.proofs.Common.{◌≡◌, ◌<◌, ◌≤◌, Bool, true, false, cond, List, [], ◌∷◌, length, map, sym, ap, subst, ◌∙◌, refl, inl, inr}
 use Rattle.std.specs.Prelude.{Option, Some, None, is_some}
 use Rattle.std.specs.FinMap.{get}
 use Rattle.std.specs.Option.{option_and_then, option_map}
 use Rattle.std.proofs.lemmas.Bool.{or_cases, or_left}
-use Rattle.events.proofs.Routed.{dropped_answer}
+use Rattle.events.proofs.Routed.{TextsDrop, dropped_answer}
 use Rattle.events.specs.Sound.{IsRight, IsSound, owners_part, part_of, rule_count}
-use Rattle.events.specs.State.{State, ArePolicies, port_of, present, told_to}
+use Rattle.events.specs.State.{State, ArePolicies, AreRead, port_of, present, told_to}
+use Rattle.events.specs.Table.{done_by}
 use Rattle.events.specs.Tags.{is_live_pair, pairs, retagged, tells}
+use Rattle.exchange_laws.proofs.Dropping.{texts_drop}
 use Rattle.exchange_laws.proofs.LivePairs.{live_at, live_from, live_tag, pair_listed, present_part}
 use Rattle.exchange_laws.proofs.Lists.{TableOf, clash, cond_there, get_tabulated, some_of}
 use Rattle.exchange_laws.proofs.TagsAfter.{carried_have_tags, live_tags_stay, signatures_are_kept, tags_stay_pooled}
 use Rattle.exchange_laws.specs.Retagging.{TagsArePooled}
-use Rattle.exchange_laws.specs.Rules.{ChangesStaySound, DefaultsAreTables, IsChange, IsTableAfter, NewPairsHaveParts, OwnersAreDeclared, RulesAreThose, TablesStaySound, default_rules, rule_to, rules_after, table_after}
+use Rattle.exchange_laws.specs.Rules.{AllDrop, ChangesStaySound, DefaultsAreTables, IsChange, IsTableAfter, NewPairsHaveParts, OwnersAreDeclared, RulesAreThose, TablesStaySound, default_rules, discarding, rule_to, rules_after, table_after}
 use Rattle.net_types.proofs.CubeLemmas.{has-everything}
 use Rattle.net_types.proofs.MeetLemmas.{IsMeet-everything}
 use Rattle.net_types.proofs.OrderLemmas.{pairs_total}
 use Rattle.net_types.proofs.PassLemmas.{some_there}
 use Rattle.net_types.proofs.SetLemmas.{same_eq}
 use Rattle.net_types.proofs.TieLemmas.{pair_cmp-IsAntisymmetric, same_from_tie}
-use Rattle.net_types.specs.Answers.{Policies, is_offered, offered_port}
+use Rattle.net_types.specs.Actions.{AreInOrder}
+use Rattle.net_types.specs.Answers.{Policies, is_offered, offered_hole, offered_port, part_answer}
 use Rattle.net_types.specs.Cells.{cell_atoms}
+use Rattle.net_types.specs.Cubes.{everything}
 use Rattle.net_types.specs.Exports.{Routing, pid_of}
+use Rattle.net_types.specs.Headers.{no_change}
 use Rattle.net_types.specs.Keys.{pair_cmp}
 use Rattle.net_types.specs.Meets.{IsMeet}
 use Rattle.net_types.specs.Sets.{Member}
+use Rattle.net_types.specs.declared.actions.Action.{Action}
 use Rattle.net_types.specs.declared.address.PortNo.{PortNo}
+use Rattle.net_types.specs.declared.headers.Headers.{Headers}
 use Rattle.net_types.specs.declared.route.Part.{Part}
 use Rattle.net_types.specs.declared.route.PortInfo.{PortInfo}
 use Rattle.net_types.specs.declared.rule.Pair.{Pair}
@@ -33,13 +40,36 @@ use Rattle.net_types.specs.declared.rule.Rule.{Rule}
 
 -- ---- the rule where all policies drop
 
-pub default_right : (s : State) (ps : Policies) → ArePolicies s ps → (part : Part) (port : PortNo) → IsRight ps part port (default_rules part)
-default_right s ps are part port =
-    let rule : Rule = rule_to (offered_port part.offers part.best) in record {
-      gives = λ h valid at. (rule, ap (λ b. cond b (Some rule) None) (has-everything h), same_eq (sym (dropped_answer s ps are part.sender (is_offered part.offers) part.best (offered_port part.offers) h)));
+-- one rule for everything is right, where its actions are what the part gives
+one_right : (ps : Policies) (part : Part) (port : PortNo) (actions : List Action) → AreInOrder actions → ((h : Headers) → map (done_by h) actions ≡ part_answer ps part h) → IsRight ps part port (record { cube = everything; actions = actions } ∷ [])
+one_right ps part port actions ordered gives =
+    let rule : Rule = record { cube = everything; actions = actions } in record {
+      gives = λ h valid at. (rule, ap (λ b. cond b (Some rule) None) (has-everything h), same_eq (gives h));
       differ = (λ m. m, tt);
       meets = λ c m. elim m [ inl same ↦ subst (IsMeet (cell_atoms ps port part)) (sym same) (IsMeet-everything (cell_atoms ps port part)) | inr no_more ↦ absurd no_more ];
+      ordered = λ x m. elim m [ inl same ↦ subst (λ (y : Rule). AreInOrder y.actions) (sym same) ordered | inr no_more ↦ absurd no_more ];
     }
+
+pub default_right : (s : State) (ps : Policies) → TextsDrop s → ArePolicies s ps → (part : Part) (port : PortNo) → IsRight ps part port (default_rules part)
+default_right s ps drop are part port = by (offered_hole part.offers part.best) refl
+  where
+    to : PortNo
+    to = offered_port part.offers part.best
+
+    gives : (h : Headers) → part_answer ps part h ≡ cond (offered_hole part.offers part.best) [] (record { headers = h; port = to } ∷ [])
+    gives h = dropped_answer s ps drop are part.sender (is_offered part.offers) (offered_hole part.offers) part.best (offered_port part.offers) h
+
+    by : (b : Bool) → offered_hole part.offers part.best ≡ b → IsRight ps part port (cond b discarding (rule_to to) ∷ [])
+    by true hole = one_right ps part port [] tt (λ h. sym (gives h ∙ ap (λ b. cond b [] (record { headers = h; port = to } ∷ [])) hole))
+    by false kept = one_right ps part port (record { port = to; set = no_change } ∷ []) (λ y m. absurd m, tt) (λ h. sym (gives h ∙ ap (λ b. cond b [] (record { headers = h; port = to } ∷ [])) kept))
+
+-- the same texts and the same participants have the same policies
+same_policies : (s s2 : State) (ps : Policies) → s2.routing.participants ≡ s.routing.participants → s2.outbound ≡ s.outbound → s2.inbound ≡ s.inbound → ArePolicies s ps → ArePolicies s2 ps
+same_policies s s2 ps alike outbound inbound are = record {
+  names = are.names ∙ (λ i. pid_of (record s2.routing { participants = sym alike i }));
+  outbound = subst (λ texts. AreRead texts ps.outbound) (sym outbound) are.outbound;
+  inbound = subst (λ texts. AreRead texts ps.inbound) (sym inbound) are.inbound;
+}
 
 -- ---- the table
 
@@ -105,8 +135,8 @@ module _ (s : State) (r : Routing) (change : IsChange s r) where
       by true false live new = mapped default_rules (owners_part s1 pair) ∙ part_there pair live new
       by false c dead before = refl
 
-  pub default_table : IsTableAfter s s1 (table_after s s1)
-  default_table = record {
+  pub default_table : AllDrop s → IsTableAfter s s1 (table_after s s1)
+  default_table drop = record {
     pairs = pairs_live;
     old = λ pair rules before is. old_case pair rules (is_live_pair s1 pair) (is_live_pair s pair) before (sym (rules_are_those s r pooled pair) ∙ is);
     new = λ ps are pair rules dead is. new_case ps are pair rules (is_live_pair s1 pair) (is_live_pair s pair) dead (sym (rules_are_those s r pooled pair) ∙ is);
@@ -117,12 +147,12 @@ module _ (s : State) (r : Routing) (change : IsChange s r) where
       old_case pair rules true false before e = absurd (clash before refl)
       old_case pair rules false c before e = absurd (cc)
 
-      default : (ps : Policies) → ArePolicies s ps → (pair : Pair) (rules : List Rule) (o : Option Part) → owners_part s1 pair ≡ o → option_map default_rules o ≡ Some rules
+      default : (ps : Policies) → ArePolicies s1 ps → (pair : Pair) (rules : List Rule) (o : Option Part) → owners_part s1 pair ≡ o → option_map default_rules o ≡ Some rules
           → (part : Part) × (owners_part s1 pair ≡ Some part) × IsRight ps part pair.port rules
       default ps are pair rules None part e = absurd (cc)
-      default ps are pair rules (Some x) part e = (x, part, subst (IsRight ps x pair.port) (some_of (default_rules x) rules e) (default_right s ps are x pair.port))
+      default ps are pair rules (Some x) part e = (x, part, subst (IsRight ps x pair.port) (some_of (default_rules x) rules e) (default_right s1 ps (texts_drop s1 s.routing.participants drop.outbound drop.inbound) are x pair.port))
 
-      new_case : (ps : Policies) → ArePolicies s ps → (pair : Pair) (rules : List Rule) (b c : Bool) → c ≡ false → cond b (cond c (get s.table pair) (option_map default_rules (owners_part s1 pair))) None ≡ Some rules
+      new_case : (ps : Policies) → ArePolicies s1 ps → (pair : Pair) (rules : List Rule) (b c : Bool) → c ≡ false → cond b (cond c (get s.table pair) (option_map default_rules (owners_part s1 pair))) None ≡ Some rules
           → (part : Part) × (owners_part s1 pair ≡ Some part) × IsRight ps part pair.port rules
       new_case ps are pair rules true true dead e = absurd (clash refl dead)
       new_case ps are pair rules true false dead e = default ps are pair rules (owners_part s1 pair) refl e
@@ -145,18 +175,14 @@ module _ (s : State) (r : Routing) (change : IsChange s r) where
 
         by : (b : Bool) → is_live_pair s pair ≡ b → IsRightAt pair rules
         by true before = let right = sound.right.2 pair rules (is.old pair rules before has) in (right.0, part_stays pair before live ∙ right.1, right.2)
-        by false dead = is.new ps sound.right.1 pair rules dead has
+        by false dead = is.new ps (same_policies s s1 ps change.alike.participants refl refl sound.right.1) pair rules dead has
 
     pub stays_sound : rule_count (record s1 { table = table }) ≤ s.capacity → IsSound (record s1 { table = table })
     stays_sound few = record {
       pairs = is.pairs;
       right = (
         ps,
-        record {
-          names = sound.right.1.names ∙ (λ i. pid_of (record r { participants = sym change.alike.participants i }));
-          outbound = sound.right.1.outbound;
-          inbound = sound.right.1.inbound;
-        },
+        same_policies s (record s1 { table = table }) ps change.alike.participants refl refl sound.right.1,
         rules_right,
       );
       few = few;
@@ -171,7 +197,7 @@ pub new_pairs_have_parts : NewPairsHaveParts
 new_pairs_have_parts s r change pair dead live = part_there s r change pair live dead
 
 pub defaults_are_tables : DefaultsAreTables
-defaults_are_tables s r change = default_table s r change
+defaults_are_tables s r change drop = default_table s r change drop
 
 pub changes_stay_sound : ChangesStaySound
-changes_stay_sound s r change few = stays_sound s r change (table_after s (retagged s r)) (default_table s r change) few
+changes_stay_sound s r change drop few = stays_sound s r change (table_after s (retagged s r)) (default_table s r change drop) few

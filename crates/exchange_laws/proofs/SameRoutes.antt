@@ -1,23 +1,24 @@
 -- Updates that leave the routes as they were leave the tags, the signatures and the rules as they were.
-use Rattle.std.proofs.Common.{◌≡◌, Bool, true, false, cond, ◌&&◌, ◌||◌, not, List, [], ◌∷◌, ◌++◌, filter, map, sym, ap, ◌∙◌, refl, inl, inr}
+use Rattle.std.proofs.Common.{◌≡◌, ℕ, ◌+◌, ◌*◌, ◌<◌, Bool, true, false, cond, ◌&&◌, ◌||◌, nat_lt, not, List, [], ◌∷◌, ◌++◌, filter, length, map, sym, ap, ◌∙◌, refl, arith, inl, inr}
 use Rattle.std.specs.Prelude.{Option, Some, None, find, is_none, is_some}
 use Rattle.std.specs.FinMap.{FinMap, contains_key-keys, entries, entries_sorted, get, get-entries, keys, same_map, values}
 use Rattle.std.specs.FinMap.Entries.{find-where_key, is_sorted-where_key, same_entries, where_key}
 use Rattle.std.specs.List.{list_any}
-use Rattle.std.specs.Option.{option_map_or}
+use Rattle.std.specs.Option.{option_map, option_map_or}
+use Rattle.std.proofs.lemmas.Bool.{false_from_ne_true, ltb-true}
 use Rattle.net_types.proofs.OrderedLemmas.{member_any}
 use Rattle.events.specs.After.{running}
 use Rattle.events.specs.Fits.{flows_of, none_rebuilt, tag_changes}
 use Rattle.events.specs.Sound.{IsSound}
 use Rattle.events.specs.State.{State}
-use Rattle.events.specs.Tags.{Group, fresh_tag, group_of, groups, is_carried, is_changed, is_live, kept_signature, retagged, same_group, same_tag, tells}
+use Rattle.events.specs.Tags.{Group, capped, carried, fresh_tag, group_of, groups, is_carried, is_changed, is_live, kept_signature, more_units, retagged, same_group, same_tag, tells}
 use Rattle.events.specs.declared.Phase.TheVariants.{Running}
 use Rattle.exchange_laws.proofs.Lists.{listed_or_none}
 use Rattle.exchange_laws.proofs.Sames.{tag_itself}
 use Rattle.exchange_laws.proofs.TagsAfter.{kept_is, tags_are}
 use Rattle.exchange_laws.proofs.Untouched.{keeps_tag, unchanged}
 use Rattle.exchange_laws.specs.Retagging.{KeptAreLive, TagsArePooled}
-use Rattle.exchange_laws.specs.Unchanged.{NoGroups, NothingIsSaid, RoutesStay}
+use Rattle.exchange_laws.specs.Unchanged.{NoGroups, NothingIsSaid, OwesFew, RoutesStay}
 use Rattle.net_types.proofs.OrderLemmas.{pairs_total, prefixes_total, tags_total}
 use Rattle.net_types.proofs.PassLemmas.{filter_nothing, filter_twice}
 use Rattle.net_types.proofs.SameLemmas.{option_itself}
@@ -42,6 +43,30 @@ module _ (s : State) (sound : IsSound s) where
   tags_same : (retagged s s.routing).tag ≡ s.tag
   tags_same = same_map prefixes_total prefix_cmp-IsAntisymmetric (retagged s s.routing).tag s.tag (λ p. tags_are s s.routing p ∙ keeps_tag s sound s.routing p refl)
 
+  -- nothing is carried that wasn't, and there are no groups
+  no_more : more_units s s.routing ≡ 0
+  no_more =
+      let known : filter (λ p. not (is_carried s.routing p)) (carried s.routing) ≡ [] =
+      filter_twice (λ p. not (is_carried s.routing p)) (is_carried s.routing) (ordered prefix_cmp (announced s.routing))
+      ∙ filter_nothing (λ p. is_carried s.routing p && not (is_carried s.routing p)) (ordered prefix_cmp (announced s.routing)) (λ p. never (is_carried s.routing p)) in
+      ap (λ ps. length ps + length (groups s s.routing) * (length s.routing.ports + 1)) known
+      ∙ ap (λ (gs : List Group). 0 + length gs * (length s.routing.ports + 1)) none ∙ nothing (length s.routing.ports)
+    where
+      never : (b : Bool) → (b && not b) ≡ false
+      never true = refl
+      never false = refl
+
+      nothing : (n : ℕ) → 0 + 0 * (n + 1) ≡ 0
+      nothing n = omega arith
+
+  -- a job owes no more
+  owes_same : (o : Option ℕ) → OwesFew o → (more : ℕ) → more ≡ 0 → option_map (λ n. capped (n + more)) o ≡ o
+  owes_same None few more is = refl
+  owes_same (Some n) few more is =
+      let same : n + more ≡ n = omega arith in
+      let below : nat_lt 1125899906842624 n ≡ false = false_from_ne_true (nat_lt 1125899906842624 n) (λ less. let over : 1125899906842624 < n = ltb-true 1125899906842624 n less in absurd (omega arith)) in
+      ap (λ m. Some (capped m)) same ∙ ap (λ b. Some (cond b 1125899906842624 n)) below
+
   module _ (pooled : TagsArePooled s) (kept : KeptAreLive s) where
     kept_same : (retagged s s.routing).kept ≡ s.kept
     kept_same = same_map tags_total tag_cmp-IsAntisymmetric (retagged s s.routing).kept s.kept (λ t.
@@ -50,14 +75,14 @@ module _ (s : State) (sound : IsSound s) where
         ∙ ap (λ gs. cond (is_live s t) (option_map_or (λ (g : Group). Some g.after) (find (λ g. same_option same_tag (fresh_tag s s.routing g) (Some t)) gs) (get s.kept t)) None) none
         ∙ listed_or_none (is_live s t) (get s.kept t) (kept t))
 
-    pub stays : retagged s s.routing ≡ running s
-    stays = λ i. record s { phase = Running; tag = tags_same i; kept = kept_same i }
+    pub stays : OwesFew s.owed → retagged s s.routing ≡ running s
+    stays few = λ i. record s { phase = Running; tag = tags_same i; kept = kept_same i; owed = owes_same s.owed few (more_units s s.routing) no_more i }
 
 pub no_groups : NoGroups
 no_groups s sound = none s sound
 
 pub routes_stay : RoutesStay
-routes_stay s sound pooled kept = stays s sound pooled kept
+routes_stay s sound pooled kept few = stays s sound pooled kept few
 
 -- ---- the reply
 

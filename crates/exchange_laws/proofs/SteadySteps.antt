@@ -11,12 +11,12 @@ use Rattle.events.specs.Forms.{IsWellFormed}
 use Rattle.events.specs.Fits.{FitsBy}
 use Rattle.events.specs.Legal.{LegalFrom, state_from}
 use Rattle.events.specs.Refusals.{refusal}
-use Rattle.events.specs.Sound.{IsSound}
+use Rattle.events.specs.Sound.{IsSound, HopsAreOwn}
 use Rattle.events.specs.State.{State, first, port_of, present}
-use Rattle.events.specs.Tags.{is_live, retagged, same_tag, tells}
+use Rattle.events.specs.Tags.{capped, is_live, more_units, retagged, same_tag, tells}
 use Rattle.events.specs.declared.Event.{Event}
 use Rattle.events.specs.declared.Head.{Head}
-use Rattle.events.specs.declared.Head.TheVariants.{Fine, Unrouted, Unresolved, Silent, Refused}
+use Rattle.events.specs.declared.Head.TheVariants.{Fine, Working, Finished, Unrouted, Unresolved, Silent, Refused}
 use Rattle.events.specs.declared.Phase.TheVariants.{Start, Declaring, Running}
 use Rattle.events.specs.declared.Refusal.{Refusal}
 use Rattle.events.specs.declared.Reply.{Reply}
@@ -28,12 +28,12 @@ use Rattle.exchange_laws.proofs.Rerouted.{Rerouted, set_length}
 use Rattle.exchange_laws.proofs.TagsAfter.{kept_stay_live, live_stay_kept, tags_stay_pooled}
 use Rattle.exchange_laws.proofs.ToldAnew.{keeps_live, live_kept, present_are_known, tag_was_live}
 use Rattle.exchange_laws.specs.Retagging.{KeptAreLive, LiveAreKept, TagsArePooled}
-use Rattle.exchange_laws.specs.Rules.{OwnersAreDeclared}
-use Rattle.exchange_laws.specs.Steady.{AllDrop, HopsAreOwn, IsNew, IsSized, IsSteady, PortsAreNumbered, PortsDiffer, RoutesAreDeclared, RunsStaySteady, StartsSteady, StepsStaySteady, is_ip_before}
+use Rattle.exchange_laws.specs.Rules.{AllDrop, OwnersAreDeclared}
+use Rattle.exchange_laws.specs.Steady.{IsNew, IsSized, IsSteady, PortsAreNumbered, PortsDiffer, RoutesAreDeclared, RunsStaySteady, StartsSteady, StepsStaySteady}
 use Rattle.net_types.proofs.PassLemmas.{any_more}
 use Rattle.net_types.proofs.SetLemmas.{Member-append_cases, map-append}
 use Rattle.net_types.specs.Exports.{Routing}
-use Rattle.net_types.specs.Keys.{tag_cmp}
+use Rattle.net_types.specs.Keys.{tag_cmp, is_ip_before}
 use Rattle.net_types.specs.Sets.{IsRising, Member}
 use Rattle.net_types.specs.Signatures.{port_with}
 use Rattle.net_types.specs.declared.address.Pid.{Pid}
@@ -57,10 +57,15 @@ pub record IsTidy (s : State) : Type 0 where
   pub rising : AllRise s.resolved
   pub few : length s.routing.participants ≤ 256
   pub drop : AllDrop s
+  pub idle : s.owed ≡ None
   pub sized : IsSized s
   pub new : (s.phase ≡ Running → ⊥) → IsNew s
 
 -- ---- the start
+
+-- no participant is named
+abbrev nobody : List Pid
+nobody = []
 
 first_new : IsNew first
 first_new = record { routes = refl; tag = refl; kept = refl; told = λ entries m. absurd m }
@@ -89,7 +94,8 @@ starts_steady = record {
   resolved = refl;
   rising = λ ips m. absurd m;
   few = omega arith;
-  drop = record { outbound = refl; inbound = refl };
+  drop = record { outbound = refl; inbound = refl; named = refl };
+  idle = refl;
   sized = record { start = λ e. refl; small = omega arith; low = λ later. absurd (later refl); high = omega arith; room = omega arith };
   new = λ later. first_new;
 }
@@ -136,7 +142,8 @@ quiet_tidy s (pool base size capacity start formed) is =
       resolved = is.resolved;
       rising = is.rising;
       few = is.few;
-      drop = record { outbound = is.drop.outbound; inbound = is.drop.inbound };
+      drop = record { outbound = is.drop.outbound; inbound = is.drop.inbound; named = is.drop.named };
+      idle = is.idle;
       sized = record { start = λ e. absurd (cc); small = formed.1; low = λ e. formed.4; high = formed.5; room = formed.3 };
       new = λ e. record { routes = new.routes; tag = new.tag; kept = new.kept; told = new.told };
     }
@@ -159,7 +166,9 @@ quiet_tidy s (participant m declaring few) is =
       drop = record {
         outbound = ap (λ texts. texts ++ codes "drop" ∷ []) is.drop.outbound ∙ sym (map-append (λ (x : Participant). codes "drop") s.routing.participants (m ∷ []));
         inbound = ap (λ texts. texts ++ codes "drop" ∷ []) is.drop.inbound ∙ sym (map-append (λ (x : Participant). codes "drop") s.routing.participants (m ∷ []));
+        named = ap (λ names. names ++ nobody ∷ []) is.drop.named ∙ sym (map-append (λ (x : Participant). nobody) s.routing.participants (m ∷ []));
       };
+      idle = is.idle;
       sized = record { start = is.sized.start; small = is.sized.small; low = is.sized.low; high = is.sized.high; room = is.sized.room };
       new = λ e. record {
         routes = new.routes;
@@ -195,7 +204,8 @@ quiet_tidy s (port q declaring declared free number) is =
         | inr last ↦ elim last [ inl same ↦ subst (IsRising is_ip_before) (sym same) tt | inr none ↦ absurd none ]
       ];
       few = is.few;
-      drop = record { outbound = is.drop.outbound; inbound = is.drop.inbound };
+      drop = record { outbound = is.drop.outbound; inbound = is.drop.inbound; named = is.drop.named };
+      idle = is.idle;
       sized = record { start = is.sized.start; small = is.sized.small; low = is.sized.low; high = is.sized.high; room = is.sized.room };
       new = λ e. record { routes = new.routes; tag = new.tag; kept = new.kept; told = new.told };
     }
@@ -213,13 +223,14 @@ quiet_tidy s (resolved lists later long rising) is = record {
   resolved = long ∙ is.resolved;
   rising = rising is.rising;
   few = is.few;
-  drop = record { outbound = is.drop.outbound; inbound = is.drop.inbound };
+  drop = record { outbound = is.drop.outbound; inbound = is.drop.inbound; named = is.drop.named };
+  idle = is.idle;
   sized = sized_later s (resolving s lists) is.sized later (λ e. cc) refl refl refl;
   new = λ e. absurd (e refl);
 }
 
-routes_tidy : (s : State) (e : Event) (after : Rerouted s e) → (s.phase ≡ Start → ⊥) → IsTidy s → IsTidy (retagged s after.routing)
-routes_tidy s e after later is =
+routes_tidy : (s : State) (e : Event) (after : Rerouted s e) → after.routing.named ≡ s.routing.named → (s.phase ≡ Start → ⊥) → IsTidy s → IsTidy (retagged s after.routing)
+routes_tidy s e after named later is =
     let r : Routing = after.routing in
     let declared : length r.participants ≡ length s.routing.participants = ap length after.alike.participants in record {
       pooled = tags_stay_pooled s r is.pooled;
@@ -239,7 +250,9 @@ routes_tidy s e after later is =
       drop = record {
         outbound = is.drop.outbound ∙ ap (map (λ (x : Participant). codes "drop")) (sym after.alike.participants);
         inbound = is.drop.inbound ∙ ap (map (λ (x : Participant). codes "drop")) (sym after.alike.participants);
+        named = named ∙ is.drop.named ∙ ap (map (λ (x : Participant). nobody)) (sym after.alike.participants);
       };
+      idle = ap (option_map (λ n. capped (n + more_units s r))) is.idle;
       sized = sized_later s (retagged s r) is.sized later (λ e. cc) refl refl refl;
       new = λ e. absurd (e refl);
     }
@@ -259,14 +272,15 @@ told_tidy s who later is = record {
   resolved = is.resolved;
   rising = is.rising;
   few = is.few;
-  drop = record { outbound = is.drop.outbound; inbound = is.drop.inbound };
+  drop = record { outbound = is.drop.outbound; inbound = is.drop.inbound; named = is.drop.named };
+  idle = is.idle;
   sized = sized_later s (taken s who) is.sized later (λ e. cc) refl refl refl;
   new = λ e. absurd (e refl);
 }
 
 step_tidy : (s : State) (e : Event) {s1 : State} → Step s e s1 → IsTidy s → IsTidy s1
 step_tidy s e (quiet s1 step) is = quiet_tidy s step is
-step_tidy s e (routes after later) is = routes_tidy s e after later is
+step_tidy s e (routes after named later) is = routes_tidy s e after named later is
 step_tidy s e (told who later) is = told_tidy s who later is
 
 -- the table is another one
@@ -285,7 +299,8 @@ retable s table is = record {
   resolved = is.resolved;
   rising = is.rising;
   few = is.few;
-  drop = record { outbound = is.drop.outbound; inbound = is.drop.inbound };
+  drop = record { outbound = is.drop.outbound; inbound = is.drop.inbound; named = is.drop.named };
+  idle = is.idle;
   sized = record { start = is.sized.start; small = is.sized.small; low = is.sized.low; high = is.sized.high; room = is.sized.room };
   new = λ e. let new = is.new e in record { routes = new.routes; tag = new.tag; kept = new.kept; told = new.told };
 }
@@ -308,6 +323,7 @@ tidy s steady = record {
   rising = steady.rising;
   few = steady.few;
   drop = steady.drop;
+  idle = steady.idle;
   sized = steady.sized;
   new = steady.new;
 }
@@ -319,6 +335,8 @@ module _ (s : State) (e : Event) (r : Reply) (steady : IsSteady s) (formed : IsW
   next_tidy : refusal s e ≡ None → (h : Head) → IsTidy (next_by h s e r)
   next_tidy none (Refused why) = tidy s steady
   next_tidy none Fine = accepted_tidy none
+  next_tidy none (Working units) = accepted_tidy none
+  next_tidy none Finished = accepted_tidy none
   next_tidy none Unrouted = accepted_tidy none
   next_tidy none (Unresolved ip) = accepted_tidy none
   next_tidy none Silent = accepted_tidy none
@@ -341,6 +359,7 @@ module _ (s : State) (e : Event) (r : Reply) (steady : IsSteady s) (formed : IsW
         rising = is.rising;
         few = is.few;
         drop = is.drop;
+        idle = is.idle;
         sized = is.sized;
         new = is.new;
       }

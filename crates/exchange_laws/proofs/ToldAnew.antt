@@ -11,6 +11,7 @@ use Rattle.std.proofs.lemmas.Bool.{or_cases, or_left, or_parts, or_right}
 use Rattle.std.proofs.lemmas.List.Sums.{sum_by-cons}
 use Rattle.events.specs.After.{next, next_by, put_flows, running, settled, with_known, with_told, without_pairs}
 use Rattle.events.specs.Fits.{IsAccepted, IsTaken, dropped, none_rebuilt}
+use Rattle.events.specs.Pending.{pending}
 use Rattle.events.specs.Sound.{IsRight, IsSound, owners_part, part_of, rule_count}
 use Rattle.events.specs.State.{State, port_of, present, told_to}
 use Rattle.events.specs.declared.Entry.{Entry}
@@ -231,7 +232,7 @@ telling_stays_kept s who entries kept known t live = live_kept s who entries kno
 pub telling_keeps_live : TellingKeepsLive
 telling_keeps_live s who entries t there = keeps_live s who entries t there
 
-module _ (s : State) (name : List ℕ) (who : Pid) (declared : pid_of s.routing name ≡ Some who) (reply : Reply) (taken : IsTaken s (told_anew s who (present s who)) who reply) where
+module _ (s : State) (name : List ℕ) (who : Pid) (declared : pid_of s.routing name ≡ Some who) (reply : Reply) (taken : IsTaken s (told_anew s who (present s who)) who (pending s who) reply) where
   abbrev s2 : State
   s2 = told_anew s who (present s who)
 
@@ -246,7 +247,7 @@ module _ (s : State) (name : List ℕ) (who : Pid) (declared : pid_of s.routing 
   drain_accepted sound = (
     next_is,
     record {
-      answer = subst (λ o. MatchOption o ⊥ (λ w. IsTaken s (next s (Drain name) reply) w reply)) (sym declared) (subst (λ x. IsTaken s x who reply) (sym next_is) taken);
+      answer = subst (λ o. MatchOption o ⊥ (λ w. IsTaken s (next s (Drain name) reply) w (pending s w) reply)) (sym declared) (subst (λ x. IsTaken s x who (pending s who) reply) (sym next_is) taken);
       sound = subst IsSound (sym next_is) (told_sound s who (present s who) (present_are_known s who) sound);
     },
   )

@@ -1,5 +1,5 @@
 -- The rules after a line that changes the routes, while all policies drop (this exchange's own rule).
-use Rattle.std.specs.Prelude.{◌≡◌, ◌<◌, ◌≤◌, true, false, List, [], ◌∷◌, length, Option, Some, None, is_some, if◌then◌else◌}
+use Rattle.std.specs.Prelude.{◌≡◌, ◌<◌, ◌≤◌, true, false, List, [], ◌∷◌, codes, length, map, Option, Some, None, is_some, if◌then◌else◌}
 use Rattle.std.specs.FinMap.{FinMap, get}
 use Rattle.std.specs.Option.{option_map}
 use Rattle.events.specs.Sound.{IsRight, IsSound, owners_part, rule_count}
@@ -19,6 +19,12 @@ use Rattle.net_types.specs.declared.route.Part.{Part}
 use Rattle.net_types.specs.declared.route.PortInfo.{PortInfo}
 use Rattle.net_types.specs.declared.rule.Pair.{Pair}
 use Rattle.net_types.specs.declared.rule.Rule.{Rule}
+
+-- each participant's policies are the text `drop`, which names nobody
+pub record AllDrop (s : State) : Type 0 where
+  pub outbound : s.outbound ≡ map (λ m. codes "drop") s.routing.participants
+  pub inbound : s.inbound ≡ map (λ m. codes "drop") s.routing.participants
+  pub named : s.routing.named ≡ map (λ m. []) s.routing.participants
 
 -- everything leaves by the port
 abbrev pub rule_to : PortNo → Rule
@@ -45,8 +51,8 @@ abbrev pub table_after : State → State → FinMap pair_cmp (List Rule)
 table_after s s1 = tabulate pair_cmp (pairs s1) (λ pair. if is_live_pair s1 pair then rules_after s s1 pair else None)
 
 -- the state with that table
-abbrev pub with_rules : State → State → State
-with_rules s s1 = record s1 { table = table_after s s1 }
+abbrev pub with_default_rules : State → State → State
+with_default_rules s s1 = record s1 { table = table_after s s1 }
 
 -- each port is a declared participant's
 abbrev pub OwnersAreDeclared : Routing → Type 0
@@ -91,10 +97,10 @@ NewPairsHaveParts =
     (s : State) (r : Routing) → IsChange s r → (pair : Pair) → is_live_pair s pair ≡ false → is_live_pair (retagged s r) pair ≡ true
     → is_some (owners_part (retagged s r) pair) ≡ true
 
--- the default table is such a table
+-- while all policies drop, the default table is such a table
 abbrev pub DefaultsAreTables : Type 0
-DefaultsAreTables = (s : State) (r : Routing) → IsChange s r → IsTableAfter s (retagged s r) (table_after s (retagged s r))
+DefaultsAreTables = (s : State) (r : Routing) → IsChange s r → AllDrop s → IsTableAfter s (retagged s r) (table_after s (retagged s r))
 
--- where the default rules fit the table, the state is sound
+-- and where the default rules fit the table, the state is sound
 abbrev pub ChangesStaySound : Type 0
-ChangesStaySound = (s : State) (r : Routing) → IsChange s r → rule_count (with_rules s (retagged s r)) ≤ s.capacity → IsSound (with_rules s (retagged s r))
+ChangesStaySound = (s : State) (r : Routing) → IsChange s r → AllDrop s → rule_count (with_default_rules s (retagged s r)) ≤ s.capacity → IsSound (with_default_rules s (retagged s r))

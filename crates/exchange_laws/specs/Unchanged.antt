@@ -1,5 +1,5 @@
 -- Lines that leave the routes as they were (this exchange's own rule).
-use Rattle.std.specs.Prelude.{◌≡◌, []}
+use Rattle.std.specs.Prelude.{◌≡◌, ℕ, ◌≤◌, [], Option, MatchOption}
 use Rattle.events.specs.After.{running}
 use Rattle.events.specs.Fits.{IsBuilt, bare, none_rebuilt}
 use Rattle.events.specs.Sound.{IsSound}
@@ -12,9 +12,13 @@ use Rattle.exchange_laws.specs.Retagging.{KeptAreLive, TagsArePooled}
 abbrev pub NoGroups : Type 0
 NoGroups = (s : State) → IsSound s → groups s s.routing ≡ []
 
--- by the same routes the tags and the signatures are the same
+-- a job, where one runs, owes no more than a job may owe
+abbrev pub OwesFew : Option ℕ → Type 0
+OwesFew owed = MatchOption owed (Unit {0}) (λ n. n ≤ 1125899906842624)
+
+-- by the same routes the tags and the signatures are the same, and a job owes no more
 abbrev pub RoutesStay : Type 0
-RoutesStay = (s : State) → IsSound s → TagsArePooled s → KeptAreLive s → retagged s s.routing ≡ running s
+RoutesStay = (s : State) → IsSound s → TagsArePooled s → KeptAreLive s → OwesFew s.owed → retagged s s.routing ≡ running s
 
 -- nothing is said where neither tags nor rules change
 abbrev pub NothingIsSaid : Type 0

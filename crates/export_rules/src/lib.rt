@@ -6,8 +6,6 @@ mod fault;
 mod laws;
 mod parsed;
 mod reading;
-#[cfg(test)]
-mod tests;
 
 pub use bound::Bound;
 pub use fault::{BindFault, RulesFault};

@@ -7,8 +7,6 @@ mod datagram;
 mod layout;
 mod ports;
 mod read;
-#[cfg(test)]
-mod tests;
 mod words;
 mod write;
 

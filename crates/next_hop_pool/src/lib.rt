@@ -4,8 +4,6 @@
 mod mac;
 mod place;
 mod pool;
-#[cfg(test)]
-mod tests;
 
 pub use mac::vmac;
 pub use pool::Pool;

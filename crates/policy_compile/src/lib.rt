@@ -9,8 +9,6 @@ mod mods;
 mod policies;
 mod preds;
 mod sets;
-#[cfg(test)]
-mod tests;
 mod width;
 #[cfg(test)]
 mod widths;

@@ -6,8 +6,6 @@ mod inbound;
 mod names;
 mod outbound;
 mod ports;
-#[cfg(test)]
-mod tests;
 
 pub use inbound::check_in;
 pub use names::Names;

@@ -9,8 +9,6 @@ mod policies;
 mod preds;
 mod printing;
 mod rule;
-#[cfg(test)]
-mod tests;
 mod text;
 mod tree;
 

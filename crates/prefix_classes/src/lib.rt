@@ -4,8 +4,6 @@
 mod class_map;
 mod laws;
 mod members;
-#[cfg(test)]
-mod tests;
 
 pub use class_map::ClassMap;
 pub use laws::{

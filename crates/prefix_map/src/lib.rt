@@ -4,8 +4,6 @@
 mod iter;
 mod map;
 mod place;
-#[cfg(test)]
-mod tests;
 
 pub use iter::Iter;
 pub use map::PrefixMap;

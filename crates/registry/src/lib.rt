@@ -7,8 +7,6 @@ mod owners;
 mod participants;
 mod ports;
 mod registry;
-#[cfg(test)]
-mod tests;
 
 pub use fault::RegFault;
 pub use registry::Registry;

@@ -25,7 +25,7 @@ use Rattle.net_types.specs.declared.route.Attrs.{Attrs}
 use Rattle.net_types.proofs.LongestLemmas.{any-member, member-any}
 use Rattle.net_types.proofs.RisingLemmas.{filter-Member, Member-filter, filter-IsRising}
 use Rattle.registry.specs.Registered.{Registered}
-use Rattle.route_server.specs.Rows.{ruled, held_at, held_by, look, Rising, signature_of}
+use Rattle.route_server.specs.Rows.{settled, held_at, held_by, look, Rising, signature_of}
 use Rattle.route_server.specs.Served.{Served, routing, AreDeclared}
 use Rattle.route_server.specs.Effects.{place_attrs, row_at, effect_bests, best_by_row, same_by_rows, is_same, IsEffect, IsEffectOf, routing_after, AreRowsOf, AreEffects}
 use Rattle.route_server.specs.Proposed.{IsProposal}
@@ -75,8 +75,9 @@ all_alike f g h [] = refl
 all_alike f g h (x ∷ xs) = ap (λ b. b && list_all f xs) (h x) ∙ ap (λ b. g x && b) (all_alike f g h xs)
 
 -- what is known of a row of the routes before, and of one of the routes afterwards
-pub record AreKnown (names : Registered) (v : Served) (rules after : List (List ExportRule)) (m : FinMap route_cmp Attrs) (p : Prefix) (old new : List Held) : Type 0 where
-  pub rules_are : rules ≡ v.rules
+pub record AreKnown (names : Registered) (v : Served) (after : List (List ExportRule)) (m : FinMap route_cmp Attrs) (r s : Routing) (p : Prefix) (old new : List Held) : Type 0 where
+  pub before_is : r ≡ settled names v.rules v.named
+  pub after_is : s ≡ settled names after v.named
   pub before : AreDeclared names v.routes
   pub now : AreDeclared names m
   pub old_rises : Rising 0 256 old
@@ -84,25 +85,25 @@ pub record AreKnown (names : Registered) (v : Served) (rules after : List (List 
   pub old_is : (from : Pid) → get v.routes (record { from = from; prefix = p }) ≡ look old from.0
   pub new_is : (from : Pid) → get m (record { from = from; prefix = p }) ≡ look new from.0
 
-abbrev then : List (List ExportRule) → FinMap route_cmp Attrs → Served
-then after m = record { routes = m; rules = after; room = 0 }
+abbrev then : List (List ExportRule) → List (List Pid) → FinMap route_cmp Attrs → Served
+then after named m = record { routes = m; rules = after; named = named; room = 0 }
 
-module _ (names : Registered) (v : Served) (rules after : List (List ExportRule)) (m : FinMap route_cmp Attrs) (p : Prefix) (old new : List Held) (k : AreKnown names v rules after m p old new) where
-  old_sig : signature_of (ruled names rules) p old ≡ signature (routing names v) p
-  old_sig = signature_of_row names v rules old p k.rules_are k.old_rises k.old_is k.before.declared
+module _ (names : Registered) (v : Served) (after : List (List ExportRule)) (m : FinMap route_cmp Attrs) (r s : Routing) (p : Prefix) (old new : List Held) (k : AreKnown names v after m r s p old new) where
+  old_sig : signature_of r p old ≡ signature (routing names v) p
+  old_sig = signature_of_row names v r old p k.before_is k.old_rises k.old_is k.before.declared
 
-  pub new_sig : signature_of (ruled names after) p new ≡ signature (routing_after names after m) p
-  new_sig = signature_of_row names (then after m) after new p refl k.new_rises k.new_is k.now.declared
+  pub new_sig : signature_of s p new ≡ signature (routing_after names after v.named m) p
+  new_sig = signature_of_row names (then after v.named m) s new p k.after_is k.new_rises k.new_is k.now.declared
 
-  old_best : (to : Pid) → best_by_row (ruled names rules) p old to ≡ best_attrs (routing names v) to p
-  old_best to = best_of_row names v rules old to p k.rules_are k.old_rises k.old_is k.before.declared
+  old_best : (to : Pid) → best_by_row r p old to ≡ best_attrs (routing names v) to p
+  old_best to = best_of_row names v r old to p k.before_is k.old_rises k.old_is k.before.declared
 
-  pub new_best : (to : Pid) → best_by_row (ruled names after) p new to ≡ best_attrs (routing_after names after m) to p
-  new_best to = best_of_row names (then after m) after new to p refl k.new_rises k.new_is k.now.declared
+  pub new_best : (to : Pid) → best_by_row s p new to ≡ best_attrs (routing_after names after v.named m) to p
+  new_best to = best_of_row names (then after v.named m) s new to p k.after_is k.new_rises k.new_is k.now.declared
 
-  pub same_is : same_by_rows (ruled names rules) (ruled names after) p old new ≡ is_same (routing names v) (routing_after names after m) p
+  pub same_is : same_by_rows r s p old new ≡ is_same (routing names v) (routing_after names after v.named m) p
   same_is = (λ i. same_signature (new_sig i) (old_sig i)
-      && list_all (λ to. same_option same_attrs (old_best to i) (new_best to i)) (pids (routing names v)))
+      && list_all (λ to. same_option same_attrs (old_best to i) (new_best to i)) (pids (k.before_is i)))
 
 -- ---- one change more
 
@@ -117,46 +118,46 @@ kept_more t cs i c b within is at =
 abbrev prefixes_of : List Effect → List Prefix
 prefixes_of es = map (λ (e : Effect). e.prefix) es
 
-module _ (names : Registered) (v : Served) (rules after : List (List ExportRule)) (m : FinMap route_cmp Attrs) (cs : List Change) (i : ℕ) (c : Change) (old : List Held) (within : i < length cs) (is : c ≡ get_or cs i c) (k : AreKnown names v rules after m c.prefix old c.row) where
+module _ (names : Registered) (v : Served) (after : List (List ExportRule)) (m : FinMap route_cmp Attrs) (r s : Routing) (cs : List Change) (i : ℕ) (c : Change) (old : List Held) (within : i < length cs) (is : c ≡ get_or cs i c) (k : AreKnown names v after m r s c.prefix old c.row) where
   abbrev before : Routing
   before = routing names v
 
   abbrev now : Routing
-  now = routing_after names after m
+  now = routing_after names after v.named m
 
   abbrev test : Change → Bool
   test d = not (is_same before now d.prefix)
 
-  pub effect_none : (es : List Effect) → same_by_rows (ruled names rules) (ruled names after) c.prefix old c.row ≡ true → AreEffects before now cs i es → AreEffects before now cs (i + 1) es
+  pub effect_none : (es : List Effect) → same_by_rows r s c.prefix old c.row ≡ true → AreEffects before now cs i es → AreEffects before now cs (i + 1) es
   effect_none es same h = record {
-    touched = h.touched ∙ ap (map (λ (d : Change). d.prefix)) (sym (kept_more test cs i c false within is (ap not (sym (same_is names v rules after m c.prefix old c.row k) ∙ same)) ∙ append-nil (filter test (take i cs))));
+    touched = h.touched ∙ ap (map (λ (d : Change). d.prefix)) (sym (kept_more test cs i c false within is (ap not (sym (same_is names v after m r s c.prefix old c.row k) ∙ same)) ∙ append-nil (filter test (take i cs))));
     sigs = h.sigs;
     bests = h.bests;
   }
 
-  pub effect_some : (es : List Effect) (e : Effect) → IsEffect (ruled names rules) (ruled names after) old c i e → AreEffects before now cs i es → AreEffects before now cs (i + 1) (es ++ e ∷ [])
+  pub effect_some : (es : List Effect) (e : Effect) → IsEffect r s old c i e → AreEffects before now cs i es → AreEffects before now cs (i + 1) (es ++ e ∷ [])
   effect_some es e f h =
       let here : prefixes_of (es ++ e ∷ []) ≡ prefixes_of es ++ c.prefix ∷ [] = map-append (λ (d : Effect). d.prefix) es (e ∷ []) ∙ ap (λ p. prefixes_of es ++ p ∷ []) f.prefix_is in
       record {
         touched = here ∙ ap (λ ps. ps ++ c.prefix ∷ []) h.touched
             ∙ sym (map-append (λ (d : Change). d.prefix) (filter test (take i cs)) (c ∷ []))
-            ∙ ap (map (λ (d : Change). d.prefix)) (sym (kept_more test cs i c true within is (ap not (sym (same_is names v rules after m c.prefix old c.row k) ∙ f.differs))));
+            ∙ ap (map (λ (d : Change). d.prefix)) (sym (kept_more test cs i c true within is (ap not (sym (same_is names v after m r s c.prefix old c.row k) ∙ f.differs))));
         sigs = map-append (λ (d : Effect). d.sig) es (e ∷ []) ∙ ap (λ xs. xs ++ e.sig ∷ []) h.sigs
-            ∙ ap (λ x. map (signature now) (prefixes_of es) ++ x ∷ []) (f.sig ∙ new_sig names v rules after m c.prefix old c.row k)
+            ∙ ap (λ x. map (signature now) (prefixes_of es) ++ x ∷ []) (f.sig ∙ new_sig names v after m r s c.prefix old c.row k)
             ∙ sym (map-append (signature now) (prefixes_of es) (c.prefix ∷ [])) ∙ ap (map (signature now)) (sym here);
         bests = map-append (effect_bests cs) es (e ∷ []) ∙ ap (λ xs. xs ++ effect_bests cs e ∷ []) h.bests
-            ∙ ap (λ x. map bests_at (prefixes_of es) ++ x ∷ []) (ap (λ row. map (place_attrs row) e.bests.items) (ap (row_at cs) f.at_is ∙ row_here cs i c within is) ∙ f.bests ∙ bests_alike (pids now))
+            ∙ ap (λ x. map bests_at (prefixes_of es) ++ x ∷ []) (ap (λ row. map (place_attrs row) e.bests.items) (ap (row_at cs) f.at_is ∙ row_here cs i c within is) ∙ f.bests ∙ ap (λ x. map (best_by_row s c.prefix c.row) (pids x)) k.after_is ∙ bests_alike (pids now))
             ∙ sym (map-append bests_at (prefixes_of es) (c.prefix ∷ [])) ∙ ap (map bests_at) (sym here);
       }
     where
       bests_at : Prefix → List (Option Attrs)
       bests_at q = map (λ to. best_attrs now to q) (pids now)
 
-      bests_alike : (ws : List Pid) → map (best_by_row (ruled names after) c.prefix c.row) ws ≡ map (λ to. best_attrs now to c.prefix) ws
+      bests_alike : (ws : List Pid) → map (best_by_row s c.prefix c.row) ws ≡ map (λ to. best_attrs now to c.prefix) ws
       bests_alike [] = refl
-      bests_alike (w ∷ ws) = ap (λ o. o ∷ map (best_by_row (ruled names after) c.prefix c.row) ws) (new_best names v rules after m c.prefix old c.row k w) ∙ ap (λ os. best_attrs now w c.prefix ∷ os) (bests_alike ws)
+      bests_alike (w ∷ ws) = ap (λ o. o ∷ map (best_by_row s c.prefix c.row) ws) (new_best names v after m r s c.prefix old c.row k w) ∙ ap (λ os. best_attrs now w c.prefix ∷ os) (bests_alike ws)
 
-  pub effect_more : (es fs : List Effect) (o : Option Effect) → IsEffectOf (ruled names rules) (ruled names after) old c i o → fs ≡ es ++ option_to_list o → AreEffects before now cs i es → AreEffects before now cs (i + 1) fs
+  pub effect_more : (es fs : List Effect) (o : Option Effect) → IsEffectOf r s old c i o → fs ≡ es ++ option_to_list o → AreEffects before now cs i es → AreEffects before now cs (i + 1) fs
   effect_more es fs None f so h = subst (AreEffects before now cs (i + 1)) (sym (so ∙ append-nil es)) (effect_none es f h)
   effect_more es fs (Some e) f so h = subst (AreEffects before now cs (i + 1)) (sym so) (effect_some es e f h)
 
@@ -241,13 +242,13 @@ touched_are r s cs es f rising elsewhere = subst (AreTouched r s) (sym now) (rec
 
 -- the effects of all changes make a proposal
 pub proposal_is : (names : Registered) (v : Served) (rules held : List (List ExportRule)) (m : FinMap route_cmp Attrs) (o : Option (List (List ExportRule))) (cs ds : List Change) (es fs : List Effect) (ps : List Prefix) → held ≡ rules → ds ≡ cs → fs ≡ es → ps ≡ map (λ (e : Effect). e.prefix) fs → unwrap_or o v.rules ≡ rules → AreRowsOf cs m
-    → AreEffects (routing names v) (routing_after names held m) ds (length ds) es → IsRising is_before (map (λ (c : Change). c.prefix) cs)
-    → ((q : RouteKey) → (Member q.prefix (map (λ (c : Change). c.prefix) cs) → ⊥) → get m q ≡ get v.routes q) → ((p : Prefix) → (Member p (map (λ (c : Change). c.prefix) cs) → ⊥) → Differs (routing names v) (routing_after names rules m) p → ⊥)
-    → IsProposal (routing names v) (routing_after names rules m) (record { changes = cs; rules = o; touched = ps; sigs = map (λ (e : Effect). e.sig) es; bests = map (effect_bests cs) es })
+    → AreEffects (routing names v) (routing_after names held v.named m) ds (length ds) es → IsRising is_before (map (λ (c : Change). c.prefix) cs)
+    → ((q : RouteKey) → (Member q.prefix (map (λ (c : Change). c.prefix) cs) → ⊥) → get m q ≡ get v.routes q) → ((p : Prefix) → (Member p (map (λ (c : Change). c.prefix) cs) → ⊥) → Differs (routing names v) (routing_after names rules v.named m) p → ⊥)
+    → IsProposal (routing names v) (routing_after names rules v.named m) (record { changes = cs; rules = o; touched = ps; sigs = map (λ (e : Effect). e.sig) es; bests = map (effect_bests cs) es })
 proposal_is names v rules held m o cs ds es fs ps same_rules same_changes same_effects at own rows f rising kept elsewhere =
     let r = routing names v in
-    let s = routing_after names rules m in
-    let k : AreEffects r s cs (length cs) es = subst (λ xs. AreEffects r s xs (length xs) es) same_changes (subst (λ rs. AreEffects r (routing_after names rs m) ds (length ds) es) same_rules f) in
+    let s = routing_after names rules v.named m in
+    let k : AreEffects r s cs (length cs) es = subst (λ xs. AreEffects r s xs (length xs) es) same_changes (subst (λ rs. AreEffects r (routing_after names rs v.named m) ds (length ds) es) same_rules f) in
     let is : ps ≡ map (λ (e : Effect). e.prefix) es = at ∙ ap (map (λ (e : Effect). e.prefix)) same_effects in
     record {
       touched = subst (AreTouched r s) (sym is) (touched_are r s cs es k rising elsewhere);
@@ -255,4 +256,5 @@ proposal_is names v rules held m o cs ds es fs ps same_rules same_changes same_e
       bests = k.bests ∙ ap (map (λ q. map (λ to. best_attrs s to q) (pids s))) (sym is);
       routes = changes_reach m v.routes cs cs refl rows kept;
       rules = own;
+      named = refl;
     }

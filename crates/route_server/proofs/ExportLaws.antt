@@ -27,10 +27,10 @@ kept_rows m cs rows = record { each = λ c k f. (rows c k).looks f }
 -- where the participant has no route, nothing is another
 module _ (names : Registered) (v : Served) (after : List (List ExportRule)) (from : Pid) (own : List ExportRule) (now : (n : ℕ) → rules_at after n ≡ cond (eqb from.0 n) own (rules_at v.rules n)) where
   abbrev then : Served
-  then = record { routes = v.routes; rules = after; room = 0 }
+  then = record { routes = v.routes; rules = after; named = v.named; room = 0 }
 
   pub other_rules : (ps : List Prefix) → Carries v.routes from ps → (q : Prefix) → (Member q ps → ⊥) → Differs (routing names v) (routing names then) q → ⊥
-  other_rules ps are q away = no_other names v then q (λ to f. same to f (eqb from.0 f.0) refl)
+  other_rules ps are q away = no_other names v then q refl (λ to f. same to f (eqb from.0 f.0) refl)
     where
       none : (o : Option Attrs) → (is_some o ≡ true → ⊥) → o ≡ None
       none None h = refl

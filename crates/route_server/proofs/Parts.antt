@@ -1,16 +1,18 @@
 -- One sender more.
-use Rattle.std.proofs.Common.{◌≡◌, ℕ, suc, ◌+◌, ◌-◌, ◌<◌, true, false, length, get_or, take, List, [], ◌∷◌, ◌++◌, map, Some, None, sym, ap, ◌∙◌, arith, append_assoc, append-nil}
+use Rattle.std.proofs.Common.{◌≡◌, ℕ, suc, ◌+◌, ◌-◌, ◌<◌, Bool, true, false, cond, ◌&&◌, length, get_or, take, List, [], ◌∷◌, ◌++◌, map, filter, Some, None, refl, sym, ap, ◌∙◌, arith, append_assoc, append-nil}
 use Rattle.std.specs.List.{filter_map, cons_option}
 use Rattle.net_types.specs.Exports.{Routing, is_given}
-use Rattle.net_types.specs.Routes.{numbers}
-use Rattle.net_types.specs.Signatures.{offer, port_with}
+use Rattle.net_types.specs.Routes.{Candidate, numbers}
+use Rattle.net_types.specs.Signatures.{counts, is_hole, offer, port_with}
 use Rattle.net_types.specs.declared.route.Offer.{Offer}
 use Rattle.net_types.specs.declared.address.PortNo.{PortNo}
-use Rattle.route_server.proofs.RowSteps.{offered_more, map_push}
+use Rattle.std.proofs.lemmas.List.Elements.{filter-append}
+use Rattle.net_types.proofs.SetLemmas.{map-append}
+use Rattle.route_server.proofs.RowSteps.{offered_more}
 use Rattle.net_types.specs.declared.prefix.Prefix.{Prefix}
 use Rattle.net_types.specs.declared.route.Part.{Part}
 use Rattle.net_types.specs.declared.address.Pid.{Pid}
-use Rattle.route_server.specs.Rows.{offered, part_of, held_by}
+use Rattle.route_server.specs.Rows.{counted, offered, names_at, part_of, held_by}
 use Rattle.route_server.specs.declared.held.Held.{Held}
 
 -- the parts of the senders from low on
@@ -33,14 +35,35 @@ part_none r p row low count sig all lt is h =
     ap (λ o. sig ++ cons_option o (parts_from r p row (low + 1) (count - (low + 1)))) is
     ∙ ap (λ ys. sig ++ ys) (sym (parts_step r p row low count lt)) ∙ h
 
--- one offer more
-pub offer_more : (r : Routing) (to : Pid) (p : Prefix) (row : List Held) (i : ℕ) (h : Held) (xs ys : List Offer) (port : PortNo) → i < length row → h ≡ get_or row i h → true ≡ is_given r h.from to p h.attrs → port ≡ port_with r.ports h.attrs.next_hop
-    → xs ≡ map (offer r) (offered r to p (take i row)) → ys ≡ xs ++ record { exporter = h.from; port = port } ∷ [] → ys ≡ map (offer r) (offered r to p (take (i + 1) row))
-offer_more r to p row i h xs ys port within is given at old now =
-    now ∙ ap (λ q. xs ++ record { exporter = h.from; port = q } ∷ []) at ∙ ap (λ zs. zs ++ offer r (held_by r h) ∷ []) old
-    ∙ sym (ap (map (offer r)) (offered_more r to p row i h true within is given) ∙ map_push (offer r) (offered r to p (take i row)) (held_by r h))
+-- the offers of a row so far
+abbrev pub offers_by : Routing → Pid → Pid → Prefix → List Held → List Offer
+offers_by r to chosen p row = map (offer r) (counted r to chosen (offered r to p row))
 
-pub offer_same : (r : Routing) (to : Pid) (p : Prefix) (row : List Held) (i : ℕ) (h : Held) (xs ys : List Offer) → i < length row → h ≡ get_or row i h → false ≡ is_given r h.from to p h.attrs
-    → xs ≡ map (offer r) (offered r to p (take i row)) → ys ≡ xs → ys ≡ map (offer r) (offered r to p (take (i + 1) row))
-offer_same r to p row i h xs ys within is given old now =
-    now ∙ old ∙ sym (ap (map (offer r)) (offered_more r to p row i h false within is given ∙ append-nil (offered r to p (take i row))))
+module _ (r : Routing) (to chosen : Pid) (p : Prefix) (row : List Held) (i : ℕ) (h : Held) (within : i < length row) (is : h ≡ get_or row i h) where
+  step : (b d : Bool) → b ≡ counts (names_at r.named to.0) chosen h.from → d ≡ is_given r h.from to p h.attrs
+      → offers_by r to chosen p (take (i + 1) row) ≡ offers_by r to chosen p (take i row) ++ cond (b && d) (offer r (held_by r h) ∷ []) []
+  step b d at given =
+      ap (λ cs. map (offer r) (counted r to chosen cs)) (offered_more r to p row i h d within is given)
+      ∙ ap (map (offer r)) (filter-append (λ (c : Candidate). counts (names_at r.named to.0) chosen c.from) (offered r to p (take i row)) (cons_option (cond d (Some (held_by r h)) None) []))
+      ∙ map-append (offer r) (counted r to chosen (offered r to p (take i row))) (counted r to chosen (cons_option (cond d (Some (held_by r h)) None) []))
+      ∙ ap (λ os. offers_by r to chosen p (take i row) ++ os) (last b d at)
+    where
+      last : (b d : Bool) → b ≡ counts (names_at r.named to.0) chosen h.from → map (offer r) (counted r to chosen (cons_option (cond d (Some (held_by r h)) None) [])) ≡ cond (b && d) (offer r (held_by r h) ∷ []) []
+      last true true at = ap (λ t. map (offer r) (cond t (held_by r h ∷ []) [])) (sym at)
+      last true false at = refl
+      last false true at = ap (λ t. map (offer r) (cond t (held_by r h ∷ []) [])) (sym at)
+      last false false at = refl
+
+  step_as : (t : Bool) → t ≡ (counts (names_at r.named to.0) chosen h.from && is_given r h.from to p h.attrs) → offers_by r to chosen p (take (i + 1) row) ≡ offers_by r to chosen p (take i row) ++ cond t (offer r (held_by r h) ∷ []) []
+  step_as t e = step (counts (names_at r.named to.0) chosen h.from) (is_given r h.from to p h.attrs) refl refl
+      ∙ ap (λ u. offers_by r to chosen p (take i row) ++ cond u (offer r (held_by r h) ∷ []) []) (sym e)
+
+  -- one offer more
+  pub offer_more : (xs ys : List Offer) (port : PortNo) (hole : Bool) → true ≡ (counts (names_at r.named to.0) chosen h.from && is_given r h.from to p h.attrs) → port ≡ port_with r.ports h.attrs.next_hop → hole ≡ is_hole h.attrs
+      → xs ≡ offers_by r to chosen p (take i row) → ys ≡ xs ++ record { exporter = h.from; port = port; hole = hole } ∷ [] → ys ≡ offers_by r to chosen p (take (i + 1) row)
+  offer_more xs ys port hole e at held old now =
+      now ∙ (λ j. old j ++ record { exporter = h.from; port = at j; hole = held j } ∷ []) ∙ sym (step_as true e)
+
+  pub offer_same : (xs ys : List Offer) → false ≡ (counts (names_at r.named to.0) chosen h.from && is_given r h.from to p h.attrs)
+      → xs ≡ offers_by r to chosen p (take i row) → ys ≡ xs → ys ≡ offers_by r to chosen p (take (i + 1) row)
+  offer_same xs ys e old now = now ∙ old ∙ sym (step_as false e ∙ append-nil (offers_by r to chosen p (take i row)))

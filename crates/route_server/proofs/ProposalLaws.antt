@@ -1,5 +1,5 @@
 -- What changes reach, and where nothing is another.
-use Rattle.std.proofs.Common.{◌≡◌, Bool, true, false, cond, eqb, List, [], ◌∷◌, map, sym, ap, subst, ◌∙◌, refl, inl, inr, true≢false}
+use Rattle.std.proofs.Common.{◌≡◌, Bool, true, false, cond, eqb, List, [], ◌∷◌, map, filter, sym, ap, subst, ◌∙◌, refl, inl, inr, true≢false}
 use Rattle.std.specs.Prelude.{Option, Some, None, unwrap_or}
 use Rattle.std.specs.List.{filter_map, cons_option}
 use Rattle.std.specs.Option.{option_map, option_map_or, option_and_then}
@@ -11,7 +11,7 @@ use Rattle.net_types.specs.Exports.{Routing, same_prefix, is_given}
 use Rattle.net_types.specs.Keys.{RouteKey, route_cmp}
 use Rattle.net_types.specs.Routes.{Candidate, given, candidates, candidate, best_of, pids}
 use Rattle.net_types.specs.Sets.{Member}
-use Rattle.net_types.specs.Signatures.{part, offer}
+use Rattle.net_types.specs.Signatures.{part, offer, counts}
 use Rattle.net_types.specs.declared.address.Pid.{Pid}
 use Rattle.net_types.specs.declared.export.ExportRule.{ExportRule}
 use Rattle.net_types.specs.declared.prefix.Prefix.{Prefix}
@@ -21,7 +21,7 @@ use Rattle.registry.specs.Registered.{Registered}
 use Rattle.route_server.specs.Edits.{prefixes_of}
 use Rattle.route_server.specs.Effects.{AreRowsOf}
 use Rattle.route_server.specs.Proposed.{Proposed, IsProposal}
-use Rattle.route_server.specs.Rows.{look}
+use Rattle.route_server.specs.Rows.{look, names_at}
 use Rattle.route_server.specs.Served.{Served, routing, one_after, route_after, Reaches}
 use Rattle.route_server.specs.declared.change.Change.{Change}
 
@@ -58,21 +58,24 @@ filter_map_alike : {X Y : Type 0} (f g : X → Option Y) → ((x : X) → f x �
 filter_map_alike f g h [] = refl
 filter_map_alike f g h (x ∷ xs) = ap (λ o. cons_option o (filter_map f xs)) (h x) ∙ ap (cons_option (g x)) (filter_map_alike f g h xs)
 
--- where the same routes are given to everybody, nothing is another
-module _ (names : Registered) (v w : Served) (p : Prefix) (same : (to from : Pid) → given (routing names v) to p from ≡ given (routing names w) to p from) where
+-- where the same routes are given to everybody, and the same are named, nothing is another
+module _ (names : Registered) (v w : Served) (p : Prefix) (named : v.named ≡ w.named) (same : (to from : Pid) → given (routing names v) to p from ≡ given (routing names w) to p from) where
   cands : (to : Pid) → candidates (routing names v) to p ≡ candidates (routing names w) to p
   cands to = filter_map_alike (given (routing names v) to p) (given (routing names w) to p) (same to) (pids (routing names v))
 
+  abbrev part_by : List (List Pid) → Pid → List Candidate → Option Part
+  part_by lists to cs = option_map (λ (c : Candidate). record { sender = to; best = c.from; offers = map (offer (routing names v)) (filter (λ (g : Candidate). counts (names_at lists to.0) c.from g.from) cs) }) (best_of cs)
+
   parts : (to : Pid) → part (routing names v) p to ≡ part (routing names w) p to
-  parts to = ap (λ (cs : List Candidate). option_map (λ (c : Candidate). let x : Part = record { sender = to; best = c.from; offers = map (offer (routing names v)) cs } in x) (best_of cs)) (cands to)
+  parts to = λ i. part_by (named i) to (cands to i)
 
   pub no_other : Differs (routing names v) (routing names w) p → ⊥
   no_other (inl d) = d (filter_map_alike (part (routing names v) p) (part (routing names w) p) parts (pids (routing names v)))
   no_other (inr d) = d.2 (ap (λ cs. option_map (λ (c : Candidate). c.attrs) (best_of cs)) (cands d.0))
 
--- where the routes for a prefix stay, and the rules, nothing is another
-pub same_routes : (names : Registered) (v w : Served) (p : Prefix) → v.rules ≡ w.rules → ((f : Pid) → get w.routes (record { from = f; prefix = p }) ≡ get v.routes (record { from = f; prefix = p })) → Differs (routing names v) (routing names w) p → ⊥
-same_routes names v w p rules same = no_other names v w p (λ to from.
+-- where the routes for a prefix stay, and the rules and names, nothing is another
+pub same_routes : (names : Registered) (v w : Served) (p : Prefix) → v.rules ≡ w.rules → v.named ≡ w.named → ((f : Pid) → get w.routes (record { from = f; prefix = p }) ≡ get v.routes (record { from = f; prefix = p })) → Differs (routing names v) (routing names w) p → ⊥
+same_routes names v w p rules named same = no_other names v w p named (λ to from.
     ap (option_and_then (λ (attrs : Attrs). cond (is_given (routing names v) from to p attrs) (Some (candidate (routing names v) from attrs)) None)) (sym (same from))
     ∙ ap (λ rs. let u : Served = record w { rules = rs } in given (routing names u) to p from) rules)
 
@@ -81,9 +84,10 @@ rules_are f None q d e = ap (λ x. unwrap_or x d) e
 rules_are f (Some x) q d e = ap (λ y. unwrap_or y d) e
 
 -- what a commit does leads to what was proposed
-pub reached_by : (p : Proposed) (old now : FinMap route_cmp Attrs) (rules after : List (List ExportRule)) → ((m : FinMap route_cmp Attrs) → Reaches p.changes old m → now ≡ m) → after ≡ unwrap_or p.rules rules
-    → (r s : Routing) → r.routes ≡ old → r.rules ≡ rules → IsProposal r s p → (now ≡ s.routes) × (after ≡ s.rules)
-reached_by p old now rules after h e r s same_routes same_rules k = (
+pub reached_by : (p : Proposed) (old now : FinMap route_cmp Attrs) (rules after : List (List ExportRule)) (named : List (List Pid)) → ((m : FinMap route_cmp Attrs) → Reaches p.changes old m → now ≡ m) → after ≡ unwrap_or p.rules rules
+    → (r s : Routing) → r.routes ≡ old → r.rules ≡ rules → r.named ≡ named → IsProposal r s p → (now ≡ s.routes) × (after ≡ s.rules) × (named ≡ s.named)
+reached_by p old now rules after named h e r s same_routes same_rules same_named k = (
   h s.routes (subst (λ m. Reaches p.changes m s.routes) same_routes k.routes),
   e ∙ ap (unwrap_or p.rules) (sym same_rules) ∙ k.rules,
+  sym same_named ∙ k.named,
 )

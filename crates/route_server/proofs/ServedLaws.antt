@@ -23,9 +23,11 @@ use Rattle.net_types.specs.declared.route.Attrs.{Attrs}
 use Rattle.net_types.specs.declared.address.Pid.{Pid}
 use Rattle.net_types.specs.declared.export.ExportRule.{ExportRule}
 use Rattle.registry.specs.Registered.{Registered}
-use Rattle.route_server.specs.Rows.{ruled, offered, look, Rising, part_of, signature_of}
+use Rattle.net_types.specs.Exports.{Routing}
+use Rattle.route_server.specs.Rows.{settled, settled_by, offered, look, Rising, part_of, signature_of}
 use Rattle.route_server.specs.Served.{Served, keys_in, route_in, routes_of, AreRows, routing, one_after, route_after, Reaches}
 use Rattle.route_server.specs.declared.held.Held.{Held}
+use Rattle.route_server.specs.declared.terms.Terms.{Terms}
 use Rattle.route_server.proofs.RowLaws.{candidates_offered, look_below}
 
 exact_route : (q k : RouteKey) → eq_by_cmp route_cmp q k ≡ true → q ≡ k
@@ -85,11 +87,15 @@ rising_below n low (x ∷ xs) r h = (r.0, subst (λ b. IfSome (cond b (Some x.at
     below_step m true e k = let is = eqb-true x.from.0 m e in subst (λ o. IfSome o (λ _. m < n)) (sym (look_below m (x.from.0 + 1) 256 xs r.2 (omega (arith, is)))) tt
     below_step m false e k = k
 
+-- what is settled, by its parts
+pub settled_is : (t : Terms) (names : Registered) (rules : List (List ExportRule)) (named : List (List Pid)) → t.names.now ≡ names → t.rules.now ≡ rules → t.named.now ≡ named → settled_by t ≡ settled names rules named
+settled_is t names rules named e f g = λ i. settled (e i) (f i) (g i)
+
 -- the best of a row is the best of all
-pub best_of_row : (names : Registered) (s : Served) (rules : List (List ExportRule)) (row : List Held) (to : Pid) (p : Prefix) → rules ≡ s.rules → Rising 0 256 row → ((from : Pid) → get s.routes (record { from = from; prefix = p }) ≡ look row from.0) → ((k : RouteKey) → IfSome (get s.routes k) (λ _. k.from.0 < length names.participants))
-    → option_map (λ (g : Candidate). g.attrs) (best_of (offered (ruled names rules) to p row)) ≡ best_attrs (routing names s) to p
-best_of_row names s rules row to p same rising is declared =
-    ap (λ rs. option_map (λ (g : Candidate). g.attrs) (best_of (offered (ruled names rs) to p row))) same
+pub best_of_row : (names : Registered) (s : Served) (r : Routing) (row : List Held) (to : Pid) (p : Prefix) → r ≡ settled names s.rules s.named → Rising 0 256 row → ((from : Pid) → get s.routes (record { from = from; prefix = p }) ≡ look row from.0) → ((k : RouteKey) → IfSome (get s.routes k) (λ _. k.from.0 < length names.participants))
+    → option_map (λ (g : Candidate). g.attrs) (best_of (offered r to p row)) ≡ best_attrs (routing names s) to p
+best_of_row names s r row to p same rising is declared =
+    ap (λ x. option_map (λ (g : Candidate). g.attrs) (best_of (offered x to p row))) same
     ∙ ap (λ gs. option_map (λ (g : Candidate). g.attrs) (best_of gs)) (sym (candidates_offered (routing names s) to p row
     (rising_below (length names.participants) 0 row rising (λ m. subst (λ o. IfSome o (λ _. m < length names.participants)) (is (record { 0 = m })) (declared (record { from = record { 0 = m }; prefix = p }))))
     is))
@@ -157,19 +163,19 @@ committed rows new cs m after is h reaches = same_map routes_total route_cmp-IsA
     get-routes_of new q ∙ h q ∙ route_after_alike cs (route_in rows) (get m) (λ k. sym (get-routes_of rows k) ∙ ap (λ n. get n k) is) q ∙ reaches.routes q)
 
 -- the signature of a prefix is that of its row
-pub signature_of_row : (names : Registered) (s : Served) (rules : List (List ExportRule)) (row : List Held) (p : Prefix) → rules ≡ s.rules → Rising 0 256 row → ((from : Pid) → get s.routes (record { from = from; prefix = p }) ≡ look row from.0) → ((k : RouteKey) → IfSome (get s.routes k) (λ _. k.from.0 < length names.participants))
-    → signature_of (ruled names rules) p row ≡ signature (routing names s) p
-signature_of_row names s rules row p same rising is declared =
-    ap (λ rs. signature_of (ruled names rs) p row) same
+pub signature_of_row : (names : Registered) (s : Served) (r : Routing) (row : List Held) (p : Prefix) → r ≡ settled names s.rules s.named → Rising 0 256 row → ((from : Pid) → get s.routes (record { from = from; prefix = p }) ≡ look row from.0) → ((k : RouteKey) → IfSome (get s.routes k) (λ _. k.from.0 < length names.participants))
+    → signature_of r p row ≡ signature (routing names s) p
+signature_of_row names s r row p same rising is declared =
+    ap (λ x. signature_of x p row) same
     ∙ sym (parts_alike (pids (routing names s)))
   where
     below : Rising 0 (length names.participants) row
     below = rising_below (length names.participants) 0 row rising (λ m. subst (λ o. IfSome o (λ _. m < length names.participants)) (is (record { 0 = m })) (declared (record { from = record { 0 = m }; prefix = p })))
 
-    parts_alike : (ws : List Pid) → filter_map (part (routing names s) p) ws ≡ filter_map (λ to. part_of (ruled names s.rules) to (offered (ruled names s.rules) to p row)) ws
+    parts_alike : (ws : List Pid) → filter_map (part (routing names s) p) ws ≡ filter_map (λ to. part_of (routing names s) to (offered (routing names s) to p row)) ws
     parts_alike [] = refl
     parts_alike (w ∷ ws) = ap (λ gs. cons_option (part_of (routing names s) w gs) (filter_map (part (routing names s) p) ws)) (candidates_offered (routing names s) w p row below is)
-        ∙ ap (cons_option (part_of (ruled names s.rules) w (offered (ruled names s.rules) w p row))) (parts_alike ws)
+        ∙ ap (cons_option (part_of (routing names s) w (offered (routing names s) w p row))) (parts_alike ws)
 
 -- without rows there are no routes
 pub no_rows : (rows : FinMap prefix_cmp (List Held)) → rows ≡ empty → AreRows rows

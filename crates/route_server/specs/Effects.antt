@@ -58,9 +58,9 @@ abbrev pub IsEffectOf : Routing → Routing → List Held → Change → ℕ →
 IsEffectOf r s old c at None = same_by_rows r s c.prefix old c.row ≡ true
 IsEffectOf r s old c at (Some e) = IsEffect r s old c at e
 
--- what is declared, with other rules and routes
-abbrev pub routing_after : Registered → List (List ExportRule) → FinMap route_cmp Attrs → Routing
-routing_after names rules m = routing names (record { routes = m; rules = rules; room = 0 })
+-- what is declared and named, with other rules and routes
+abbrev pub routing_after : Registered → List (List ExportRule) → List (List Pid) → FinMap route_cmp Attrs → Routing
+routing_after names rules named m = routing names (record { routes = m; rules = rules; named = named; room = 0 })
 
 -- each change has the row of these routes
 pub record AreRowsOf (cs : List Change) (m : FinMap route_cmp Attrs) : Type 0 where

@@ -21,10 +21,11 @@ pub record Proposed : Type 0 where
   pub bests : List (List (Option Attrs))
 
 -- a proposal has exactly what is another in the second routing than in the first, as it is there, and its changes and
--- rules make the second of the first
+-- rules make the second of the first; whom the outbound policies name stays
 pub record IsProposal (r s : Routing) (p : Proposed) : Type 0 where
   pub touched : AreTouched r s p.touched
   pub sigs : p.sigs ≡ map (signature s) p.touched
   pub bests : p.bests ≡ map (λ q. map (λ to. best_attrs s to q) (pids s)) p.touched
   pub routes : Reaches p.changes r.routes s.routes
   pub rules : unwrap_or p.rules r.rules ≡ s.rules
+  pub named : r.named ≡ s.named

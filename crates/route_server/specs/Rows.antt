@@ -5,9 +5,9 @@ use Rattle.std.specs.List.{filter_map}
 use Rattle.std.specs.Option.{option_map}
 use Rattle.std.specs.FinMap.{empty}
 use Rattle.net_types.specs.Routes.{best_of}
-use Rattle.net_types.specs.Exports.{Routing, is_given}
+use Rattle.net_types.specs.Exports.{Routing, is_given, named_by}
 use Rattle.net_types.specs.Routes.{Candidate, candidate, pids}
-use Rattle.net_types.specs.Signatures.{offer}
+use Rattle.net_types.specs.Signatures.{counts, offer}
 use Rattle.net_types.specs.declared.prefix.Prefix.{Prefix}
 use Rattle.net_types.specs.declared.route.Attrs.{Attrs}
 use Rattle.net_types.specs.declared.export.ExportRule.{ExportRule}
@@ -15,10 +15,19 @@ use Rattle.net_types.specs.declared.route.Part.{Part}
 use Rattle.net_types.specs.declared.address.Pid.{Pid}
 use Rattle.registry.specs.Registered.{Registered}
 use Rattle.route_server.specs.declared.held.Held.{Held}
+use Rattle.route_server.specs.declared.terms.Terms.{Terms}
 
--- what is declared and ruled, without routes
+-- what is declared, ruled and named, without routes
+abbrev pub settled : Registered → List (List ExportRule) → List (List Pid) → Routing
+settled names rules named = record { participants = names.participants; ports = names.ports; rules = rules; named = named; routes = empty }
+
+-- the same, as code has it
+abbrev pub settled_by : Terms → Routing
+settled_by t = settled t.names.now t.rules.now t.named.now
+
+-- what is declared and ruled alone
 abbrev pub ruled : Registered → List (List ExportRule) → Routing
-ruled names rules = record { participants = names.participants; ports = names.ports; rules = rules; routes = empty }
+ruled names rules = settled names rules []
 
 -- a route, with what the choice looks at
 abbrev pub held_by : Routing → Held → Candidate
@@ -51,9 +60,13 @@ pub Rising-prop : (low high : ℕ) (row : List Held) → IsProp (Rising low high
 Rising-prop low high [] x y = Unit-prop x y
 Rising-prop low high (h ∷ hs) x y = λ i. (le_prop x.0 y.0 i, le_prop x.1 y.1 i, Rising-prop (h.from.0 + 1) high hs x.2 y.2 i)
 
+-- of the routes that are given to a sender, those that count beside this best exporter
+abbrev pub counted : Routing → Pid → Pid → List Candidate → List Candidate
+counted r to chosen gs = filter (λ (c : Candidate). counts (named_by r to) chosen c.from) gs
+
 -- a sender's part of the signature, from the routes that are given to it
 abbrev pub part_of : Routing → Pid → List Candidate → Option Part
-part_of r to gs = option_map (λ (c : Candidate). record { sender = to; best = c.from; offers = map (offer r) gs }) (best_of gs)
+part_of r to gs = option_map (λ (c : Candidate). record { sender = to; best = c.from; offers = map (offer r) (counted r to c.from gs) }) (best_of gs)
 
 -- the signature of a prefix with this row
 abbrev pub signature_of : Routing → Prefix → List Held → List Part
@@ -74,6 +87,10 @@ before from row = filter (λ (h : Held). nat_lt h.from.0 from) row
 -- the routes of the participants above one
 abbrev pub after : ℕ → List Held → List Held
 after from row = filter (λ (h : Held). nat_lt from h.from.0) row
+
+-- whom a participant names, by the lists of all
+abbrev pub names_at : List (List Pid) → ℕ → List Pid
+names_at named n = unwrap_or (slice_get named n) []
 
 -- the rules at a place
 abbrev pub rules_at : List (List ExportRule) → ℕ → List ExportRule

@@ -17,10 +17,11 @@ use Rattle.route_server.specs.Rows.{look, Rising}
 use Rattle.route_server.specs.declared.change.Change.{Change}
 use Rattle.route_server.specs.declared.held.Held.{Held}
 
--- the routes, each participant's export rules, and for how many new prefixes there is room
+-- the routes, each participant's export rules, whom its outbound policy names, and for how many new prefixes there is room
 pub record Served : Type 0 where
   pub routes : FinMap route_cmp Attrs
   pub rules : List (List ExportRule)
+  pub named : List (List Pid)
   pub room : ℕ
 
 -- the keys of a prefix's routes
@@ -50,7 +51,7 @@ route_after (c ∷ cs) f q = route_after cs (one_after c f) q
 
 -- with what is declared
 abbrev pub routing : Registered → Served → Routing
-routing names s = record { participants = names.participants; ports = names.ports; rules = s.rules; routes = s.routes }
+routing names s = record { participants = names.participants; ports = names.ports; rules = s.rules; named = s.named; routes = s.routes }
 
 -- with the changes the routes become these
 pub record Reaches (cs : List Change) (before after : FinMap route_cmp Attrs) : Type 0 where

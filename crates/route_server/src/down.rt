@@ -45,7 +45,7 @@ impl RouteServer {
     pub fn propose_down(&self, names: &Registry, from: Pid) -> Result<Proposal, Memory>
         requires { AreDeclared names.now self.now.routes }
         ensures rules { IfOk result (λ p. p.rules ≡ None) }
-        ensures proposal { IfOk result (λ p. IsProposal (routing names.now self.now) (routing_after names.now self.now.rules (without_routes from self.now.routes)) p) }
+        ensures proposal { IfOk result (λ p. IsProposal (routing names.now self.now) (routing_after names.now self.now.rules self.now.named (without_routes from self.now.routes)) p) }
         ensures declared { AreDeclared names.now (without_routes from self.now.routes) }
     {
         let prefixes = prefixes_from(self, from)?;

@@ -7,7 +7,7 @@ ghost use Rattle.net_types.specs.Attributes.{same_option, same_attrs};
 ghost use Rattle.net_types.specs.Keys.{route_cmp};
 ghost use Rattle.net_types.specs.Routes.{pids};
 ghost use Rattle.net_types.specs.declared.route.Attrs.{Attrs};
-ghost use Rattle.route_server.specs.Rows.{ruled};
+ghost use Rattle.route_server.specs.Rows.{settled_by};
 ghost use Rattle.route_server.specs.Served.{routing, AreDeclared};
 ghost use Rattle.route_server.specs.Effects.{place_attrs, best_by_row, IsEffectOf, AreEffects, AreRowsOf, routing_after};
 
@@ -17,6 +17,7 @@ use crate::held::Held;
 use crate::rows::{best_attrs_in, best_in};
 use crate::server::RouteServer;
 use crate::signature::signature_in;
+use crate::terms::Terms;
 use net_types::{ExportRules, Memory, Pid, Prefix, same_items, same_optional};
 use registry::Registry;
 use std::alloc::Global;
@@ -24,18 +25,17 @@ use std::alloc::Global;
 /// The place of each participant's best route in a row.
 fn bests_in(
     alloc: Global,
-    names: &Registry,
-    rules: &[ExportRules],
+    terms: Terms<'_>,
     row: &[Held],
     prefix: Prefix,
 ) -> Result<Vec<Option<usize>>, Memory>
     requires short { length row.now ≤ 256 }
-    ensures { IfOk result (λ bests. map (place_attrs row.now) bests.items ≡ map (best_by_row (ruled names.now rules.now) prefix row.now) (pids (ruled names.now rules.now))) }
+    ensures { IfOk result (λ bests. map (place_attrs row.now) bests.items ≡ map (best_by_row (settled_by terms.entry) prefix row.now) (pids (settled_by terms.entry))) }
 {
     let mut bests = Vec::new(alloc);
-    let count = names.participants().len() as u32;
+    let count = terms.names.participants().len() as u32;
     for number in 0..count {
-        let place = best_in(names, rules, row, Pid(number), prefix);
+        let place = best_in(terms, row, Pid(number), prefix);
         bests.push(place)?;
     }
     Ok(bests)
@@ -43,39 +43,37 @@ fn bests_in(
 
 /// Whether a participant's best attributes stay the same.
 fn same_best(
-    names: &Registry,
-    rules: &[ExportRules],
+    before: Terms<'_>,
     old: &[Held],
-    after: &[ExportRules],
+    after: Terms<'_>,
     new: &[Held],
     to: Pid,
     prefix: Prefix,
 ) -> bool
     requires old_short { length old.now ≤ 256 }
     requires new_short { length new.now ≤ 256 }
-    ensures { result ≡ same_option same_attrs (best_by_row (ruled names.now rules.now) prefix old.now to) (best_by_row (ruled names.now after.now) prefix new.now to) }
+    ensures { result ≡ same_option same_attrs (best_by_row (settled_by before.entry) prefix old.now to) (best_by_row (settled_by after.entry) prefix new.now to) }
 {
-    let before = best_attrs_in(names, rules, old, to, prefix);
-    let now = best_attrs_in(names, after, new, to, prefix);
-    same_optional(before, now)
+    let earlier = best_attrs_in(before, old, to, prefix);
+    let now = best_attrs_in(after, new, to, prefix);
+    same_optional(earlier, now)
 }
 
 /// Whether every participant's best attributes stay the same.
 fn same_bests(
-    names: &Registry,
-    rules: &[ExportRules],
+    before: Terms<'_>,
     old: &[Held],
-    after: &[ExportRules],
+    after: Terms<'_>,
     new: &[Held],
     prefix: Prefix,
 ) -> bool
     requires old_short { length old.now ≤ 256 }
     requires new_short { length new.now ≤ 256 }
-    ensures { result ≡ list_all (λ to. same_option same_attrs (best_by_row (ruled names.now rules.now) prefix old.now to) (best_by_row (ruled names.now after.now) prefix new.now to)) (pids (ruled names.now rules.now)) }
+    ensures { result ≡ list_all (λ to. same_option same_attrs (best_by_row (settled_by before.entry) prefix old.now to) (best_by_row (settled_by after.entry) prefix new.now to)) (pids (settled_by before.entry)) }
 {
-    let count = names.participants().len() as u32;
+    let count = before.names.participants().len() as u32;
     for number in 0..count {
-        if !same_best(names, rules, old, after, new, Pid(number), prefix) {
+        if !same_best(before, old, after, new, Pid(number), prefix) {
             return false;
         }
     }
@@ -91,27 +89,26 @@ fn both(one: bool, two: bool) -> bool
 /// What a change does, or nothing where all stays the same.
 fn effect_of(
     alloc: Global,
-    names: &Registry,
-    rules: &[ExportRules],
+    before: Terms<'_>,
     old: &[Held],
-    after: &[ExportRules],
+    after: Terms<'_>,
     change: &Change,
     at: usize,
 ) -> Result<Option<Effect>, Memory>
     requires old_short { length old.now ≤ 256 }
     requires new_short { length change.now.row ≤ 256 }
-    ensures { IfOk result (λ effect. IsEffectOf (ruled names.now rules.now) (ruled names.now after.now) old.now change.now at effect) }
+    ensures { IfOk result (λ effect. IsEffectOf (settled_by before.entry) (settled_by after.entry) old.now change.now at effect) }
 {
     let prefix = change.prefix;
     let row = change.row.items();
-    let sig = signature_in(alloc, names, after, row, prefix)?;
-    let before = signature_in(alloc, names, rules, old, prefix)?;
-    let same_sig = same_items(sig.items(), before.items());
-    let same_best = same_bests(names, rules, old, after, row, prefix);
+    let sig = signature_in(alloc, after, row, prefix)?;
+    let earlier = signature_in(alloc, before, old, prefix)?;
+    let same_sig = same_items(sig.items(), earlier.items());
+    let same_best = same_bests(before, old, after, row, prefix);
     if both(same_sig, same_best) {
         return Ok(None);
     }
-    let bests = bests_in(alloc, names, after, row, prefix)?;
+    let bests = bests_in(alloc, after, row, prefix)?;
     Ok(Some(Effect {
         at,
         prefix,
@@ -128,14 +125,19 @@ pub fn effects_of(
     changes: &[Change],
 ) -> Result<Vec<Effect>, Memory>
     requires { AreDeclared names.now server.now.routes }
-    ensures { IfOk result (λ effects. (m : FinMap route_cmp Attrs) → AreDeclared names.now m → AreRowsOf changes.now m → AreEffects (routing names.now server.now) (routing_after names.now after.now m) changes.now (length changes.now) effects.items) }
+    ensures { IfOk result (λ effects. (m : FinMap route_cmp Attrs) → AreDeclared names.now m → AreRowsOf changes.now m → AreEffects (routing names.now server.now) (routing_after names.now after.now server.now.named m) changes.now (length changes.now) effects.items) }
 {
     let alloc = server.allocator();
-    let rules = server.rules();
+    let before = server.terms(names);
+    let then = Terms {
+        names,
+        rules: after,
+        named: before.named,
+    };
     let mut effects = Vec::new(alloc);
     for (at, change) in changes.iter().enumerate() {
         let old = server.row(change.prefix);
-        let effect = effect_of(alloc, names, rules, old, after, change, at)?;
+        let effect = effect_of(alloc, before, old, then, change, at)?;
         match effect {
             Some(own) => {
                 effects.push(own)?;

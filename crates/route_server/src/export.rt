@@ -91,7 +91,7 @@ impl RouteServer {
         requires listed { from.0 < length self.now.rules }
         requires declared { AreDeclared names.now self.now.routes }
         ensures rules { IfOk result (λ p. p.rules ≡ Some (slice_set self.now.rules from.0 rules)) }
-        ensures proposal { IfOk result (λ p. IsProposal (routing names.now self.now) (routing_after names.now (slice_set self.now.rules from.0 rules) self.now.routes) p) }
+        ensures proposal { IfOk result (λ p. IsProposal (routing names.now self.now) (routing_after names.now (slice_set self.now.rules from.0 rules) self.now.named self.now.routes) p) }
     {
         let prefixes = prefixes_from(self, from)?;
         let changes = all_kept(self, prefixes.as_slice())?;

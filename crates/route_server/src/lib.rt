@@ -17,6 +17,7 @@ mod rows;
 mod rules;
 mod server;
 mod signature;
+mod terms;
 #[cfg(test)]
 mod tests;
 mod update;

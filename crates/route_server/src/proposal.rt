@@ -94,7 +94,7 @@ impl Proposal {
         requires declared { AreDeclared names.now server.now.routes }
         ensures changes { IfOk result (λ p. p.changes ≡ changes.items) }
         ensures rules { IfOk result (λ p. p.rules ≡ option_map (λ r. r.items) rules) }
-        ensures effects { IfOk result (λ p. (m : FinMap route_cmp Attrs) → let after = routing_after names.now (option_map_or (λ r. r.items) rules server.now.rules) m in AreDeclared names.now m → AreRowsOf changes.items m → IsRising is_before (prefixes_of changes.items)
+        ensures effects { IfOk result (λ p. (m : FinMap route_cmp Attrs) → let after = routing_after names.now (option_map_or (λ r. r.items) rules server.now.rules) server.now.named m in AreDeclared names.now m → AreRowsOf changes.items m → IsRising is_before (prefixes_of changes.items)
             → ((q : RouteKey) → (Member q.prefix (prefixes_of changes.items) → ⊥) → get m q ≡ get server.now.routes q)
             → ((q : Prefix) → (Member q (prefixes_of changes.items) → ⊥) → Differs (routing names.now server.now) after q → ⊥) → IsProposal (routing names.now server.now) after p) }
     {

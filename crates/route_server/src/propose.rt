@@ -33,7 +33,7 @@ fn proposed_update(
     requires short { IfSome update.now.attrs (λ a. sum_by hops_of a.path < 2 ^ 32) }
     requires declared { AreDeclared names.now server.now.routes }
     ensures rules { IfOk result (λ p. p.rules ≡ None) }
-    ensures proposal { IfOk result (λ p. IsProposal (routing names.now server.now) (routing_after names.now server.now.rules (updated from update.now server.now.routes)) p) }
+    ensures proposal { IfOk result (λ p. IsProposal (routing names.now server.now) (routing_after names.now server.now.rules server.now.named (updated from update.now server.now.routes)) p) }
 {
     // At most 256 are declared.
     let _declared = names.participants();
@@ -58,7 +58,7 @@ impl RouteServer {
         ensures first_as { (result ≡ Err RouteFault.FirstAs) ↔ (refusal names.now from update.now ≡ Some RouteFault.FirstAs) }
         ensures next_hop { (result ≡ Err RouteFault.NextHop) ↔ (refusal names.now from update.now ≡ Some RouteFault.NextHop) }
         ensures rules { IfOk result (λ p. p.rules ≡ None) }
-        ensures proposal { IfOk result (λ p. IsProposal (routing names.now self.now) (routing_after names.now self.now.rules (updated from update.now self.now.routes)) p) }
+        ensures proposal { IfOk result (λ p. IsProposal (routing names.now self.now) (routing_after names.now self.now.rules self.now.named (updated from update.now self.now.routes)) p) }
         ensures declared { AreDeclared names.now (updated from update.now self.now.routes) }
     {
         match refusal(names, from, update) {
@@ -75,6 +75,7 @@ impl RouteServer {
         ensures room { OnOk result (length proposal.now.changes ≤ self.new.room) }
         ensures routes { self.new.routes ≡ self.old.routes }
         ensures rules { self.new.rules ≡ self.old.rules }
+        ensures named { self.new.named ≡ self.old.named }
     {
         self.reserve_rows(proposal.rows())
     }
@@ -84,8 +85,9 @@ impl RouteServer {
         requires room { length proposal.changes ≤ self.old.room }
         ensures routes { (m : FinMap route_cmp Attrs) → Reaches proposal.changes self.old.routes m → self.new.routes ≡ m }
         ensures rules { self.new.rules ≡ unwrap_or proposal.rules self.old.rules }
+        ensures named { self.new.named ≡ self.old.named }
         // After a proposal for the routes and rules as they are, these are those that were proposed.
-        ensures reached { (r s : Routing) → r.routes ≡ self.old.routes → r.rules ≡ self.old.rules → IsProposal r s proposal → (self.new.routes ≡ s.routes) × (self.new.rules ≡ s.rules) }
+        ensures reached { (r s : Routing) → r.routes ≡ self.old.routes → r.rules ≡ self.old.rules → r.named ≡ self.old.named → IsProposal r s proposal → (self.new.routes ≡ s.routes) × (self.new.rules ≡ s.rules) × (self.new.named ≡ s.named) }
     {
         let (changes, rules) = proposal.open();
         self.set(changes, rules);

@@ -7,12 +7,13 @@ ghost use Rattle.net_types.specs.Exports.{asns, is_in_path, is_given, asn_of};
 ghost use Rattle.net_types.specs.Routes.{best_of, candidate};
 ghost use Rattle.net_types.specs.Routes as definition;
 ghost use Rattle.decision.specs.Seen.{seen};
-ghost use Rattle.route_server.specs.Rows.{ruled, offered, held_at};
+ghost use Rattle.route_server.specs.Rows.{ruled, settled_by, offered, held_at};
 
 use crate::held::Held;
 use crate::rules::allowed;
+use crate::terms::Terms;
 use decision::{Candidate, best};
-use net_types::{Attrs, ExportRules, Ip, Pid, Prefix, Segment};
+use net_types::{Attrs, Ip, Pid, Prefix, Segment};
 use registry::Registry;
 
 /// How many participants there are at most.
@@ -60,14 +61,14 @@ pub fn asn_of(names: &Registry, who: Pid) -> u32
 }
 
 /// What the choice looks at.
-fn seen_of(names: &Registry, rules: &[ExportRules], held: &Held) -> Candidate
-    ensures { result ≡ seen (candidate (ruled names.now rules.now) held.now.from held.now.attrs) }
+fn seen_of(terms: Terms<'_>, held: &Held) -> Candidate
+    ensures { result ≡ seen (candidate (settled_by terms.entry) held.now.from held.now.attrs) }
 {
-    let (asn, id) = match names.participant(held.from) {
+    let (asn, id) = match terms.names.participant(held.from) {
         Some(participant) => (participant.asn, participant.id),
         None => (0, Ip(0)),
     };
-    let peer = match names.first_port(held.from) {
+    let peer = match terms.names.first_port(held.from) {
         Some(port) => port.ip,
         None => Ip(0),
     };
@@ -82,39 +83,27 @@ fn seen_of(names: &Registry, rules: &[ExportRules], held: &Held) -> Candidate
 }
 
 /// Whether a route is given to a participant.
-pub fn is_given(
-    names: &Registry,
-    rules: &[ExportRules],
-    held: &Held,
-    to: Pid,
-    prefix: Prefix,
-) -> bool
-    ensures { result ≡ is_given (ruled names.now rules.now) held.now.from to prefix held.now.attrs }
+pub fn is_given(terms: Terms<'_>, held: &Held, to: Pid, prefix: Prefix) -> bool
+    ensures { result ≡ is_given (settled_by terms.entry) held.now.from to prefix held.now.attrs }
 {
     held.from.0 != to.0
-        && !is_in_path(asn_of(names, to), held.attrs.path.items())
-        && allowed(rules, held.from, to, prefix)
+        && !is_in_path(asn_of(terms.names, to), held.attrs.path.items())
+        && allowed(terms.rules, held.from, to, prefix)
 }
 
 /// The place of the best of a row's routes that are given to a participant. It takes no memory: what the choice looks at
 /// is put into an array that is as long as a row can be.
-pub fn best_in(
-    names: &Registry,
-    rules: &[ExportRules],
-    row: &[Held],
-    to: Pid,
-    prefix: Prefix,
-) -> Option<usize>
+pub fn best_in(terms: Terms<'_>, row: &[Held], to: Pid, prefix: Prefix) -> Option<usize>
     requires short { length row.now ≤ 256 }
-    ensures best { option_and_then (held_at (ruled names.now rules.now) row.now) result ≡ best_of (offered (ruled names.now rules.now) to prefix row.now) }
+    ensures best { option_and_then (held_at (settled_by terms.entry) row.now) result ≡ best_of (offered (settled_by terms.entry) to prefix row.now) }
     ensures within { IfSome result (λ i. i < length row.now) }
 {
     let mut seen = [NOTHING; MOST];
     let mut places = [0; MOST];
     let mut count = 0;
     for (place, held) in row.iter().enumerate() {
-        if is_given(names, rules, held, to, prefix) {
-            seen[count] = seen_of(names, rules, held);
+        if is_given(terms, held, to, prefix) {
+            seen[count] = seen_of(terms, held);
             places[count] = place;
             count += 1;
         }
@@ -125,15 +114,14 @@ pub fn best_in(
 
 /// The attributes of the best of a row's routes that are given to a participant.
 pub fn best_attrs_in<'a>(
-    names: &Registry,
-    rules: &[ExportRules],
+    terms: Terms<'_>,
     row: &'a [Held],
     to: Pid,
     prefix: Prefix,
 ) -> Option<&'a Attrs>
     requires short { length row.now ≤ 256 }
-    ensures { option_copied result ≡ option_map (λ (c : definition.Candidate). c.attrs) (best_of (offered (ruled names.now rules.now) to prefix row.now)) }
+    ensures { option_copied result ≡ option_map (λ (c : definition.Candidate). c.attrs) (best_of (offered (settled_by terms.entry) to prefix row.now)) }
 {
-    let place = best_in(names, rules, row, to, prefix)?;
+    let place = best_in(terms, row, to, prefix)?;
     Some(&row[place].attrs)
 }

@@ -14,17 +14,20 @@ use crate::change::Change;
 use crate::held::Held;
 use crate::rows::best_attrs_in;
 use crate::signature::signature_in;
-use net_types::{Attrs, ExportRules, Items, Memory, Pid, Prefix, Sig};
+use crate::terms::Terms;
+use net_types::{Attrs, ExportRules, Items, Memory, Pid, Pids, Prefix, Sig};
 use prefix_map::PrefixMap;
 use registry::Registry;
 use std::alloc::Global;
 use std::marker::Model;
 
-/// The routes, by prefix and then by participant, and each participant's export rules.
+/// The routes, by prefix and then by participant, each participant's export rules, and whom each participant's outbound
+/// policy names in a forward.
 #[derive(Drop)]
 pub struct RouteServer {
     rows: PrefixMap<Items<Held>>,
     rules: Vec<ExportRules>,
+    named: Vec<Pids>,
 }
 
 impl Model for RouteServer {
@@ -36,7 +39,7 @@ impl Model for RouteServer {
 
     ghost coded = { Prim.hlevel (codes, map.code) };
 
-    ghost view = { λ a. record { routes = routes_of a.rows.map; rules = a.rules.items; room = a.rows.room } };
+    ghost view = { λ a. record { routes = routes_of a.rows.map; rules = a.rules.items; named = a.named.items; room = a.rows.room } };
 
     ghost invariant = { λ a. AreRows a.rows.map };
 }
@@ -81,35 +84,44 @@ fn keys_of(alloc: Global, rows: &PrefixMap<Items<Held>>) -> Result<Vec<Prefix>, 
 }
 
 impl RouteServer {
-    /// No routes, and no rules.
+    /// No participants, and no routes.
     pub fn new(alloc: Global) -> RouteServer
         ensures routes { result.routes ≡ empty }
         ensures rules { result.rules ≡ [] }
+        ensures named { result.named ≡ [] }
     {
         let rows = PrefixMap::new(alloc);
         RouteServer {
             rows,
             rules: Vec::new(alloc),
+            named: Vec::new(alloc),
         }
     }
 
-    /// A further participant, without rules. After want of memory nothing is another.
+    /// A further participant, without rules, whose policy names nobody. After want of memory nothing is another.
     pub fn add_participant(&mut self) -> Result<(), Memory>
         ensures rules { OnOk result (self.new.rules ≡ self.old.rules ++ [] ∷ []) }
+        ensures named { OnOk result (self.new.named ≡ self.old.named ++ [] ∷ []) }
         ensures routes { self.new.routes ≡ self.old.routes }
         ensures unchanged { OnErr result (self.new ≡ self.old) }
     {
         let alloc = self.allocator();
-        self.rules.push(Items::new(alloc))?;
-        Ok(())
+        self.rules.reserve(1)?;
+        self.named.push(Items::new(alloc))?;
+        match self.rules.push(Items::new(alloc)) {
+            Ok(()) => Ok(()),
+            Err(_) => unreachable!(),
+        }
     }
 
-    /// The last participant goes, with its rules; its routes stay.
+    /// The last participant goes, with its rules and whom its policy names; its routes stay.
     pub fn drop_last(&mut self)
         ensures rules { self.new.rules ≡ take (length self.old.rules - 1) self.old.rules }
+        ensures named { self.new.named ≡ take (length self.old.named - 1) self.old.named }
         ensures routes { self.new.routes ≡ self.old.routes }
     {
         self.rules.pop();
+        self.named.pop();
     }
 
     /// Makes room for so many changes of rows.
@@ -117,6 +129,7 @@ impl RouteServer {
         ensures room { OnOk result (changes ≤ self.new.room) }
         ensures routes { self.new.routes ≡ self.old.routes }
         ensures rules { self.new.rules ≡ self.old.rules }
+        ensures named { self.new.named ≡ self.old.named }
     {
         self.rows.reserve(changes)
     }
@@ -126,6 +139,7 @@ impl RouteServer {
         requires room { length changes.items ≤ self.old.room }
         ensures routes { (m : FinMap route_cmp Attrs) → Reaches changes.items self.old.routes m → self.new.routes ≡ m }
         ensures rules { self.new.rules ≡ option_map_or (λ r. r.items) rules self.old.rules }
+        ensures named { self.new.named ≡ self.old.named }
     {
         put_rows(&mut self.rows, changes);
         if let Some(rules) = rules {
@@ -159,6 +173,19 @@ impl RouteServer {
         self.rules.as_slice()
     }
 
+    /// What decides on the routes, with what is declared.
+    pub(crate) fn terms<'a>(&'a self, names: &'a Registry) -> Terms<'a>
+        ensures names { result.names.now ≡ names.now }
+        ensures rules { result.rules.now ≡ self.now.rules }
+        ensures named { result.named.now ≡ self.now.named }
+    {
+        Terms {
+            names,
+            rules: self.rules(),
+            named: self.named.as_slice(),
+        }
+    }
+
     /// The allocator that the server takes its memory from.
     pub(crate) fn allocator(&self) -> Global {
         *self.rules.allocator()
@@ -170,8 +197,7 @@ impl RouteServer {
         ensures { option_copied result ≡ best_attrs (routing names.now self.now) who prefix }
     {
         let row = self.row(prefix);
-        let rules = self.rules();
-        best_attrs_in(names, rules, row, who, prefix)
+        best_attrs_in(self.terms(names), row, who, prefix)
     }
 
     /// The signature of a prefix: a part for each participant that has a best route, in order of declaration.
@@ -180,8 +206,7 @@ impl RouteServer {
         ensures { IfOk result (λ sig. sig ≡ signature (routing names.now self.now) prefix) }
     {
         let row = self.row(prefix);
-        let rules = self.rules();
-        let sig = signature_in(self.allocator(), names, rules, row, prefix)?;
+        let sig = signature_in(self.allocator(), self.terms(names), row, prefix)?;
         Ok(sig)
     }
 }

@@ -1,14 +1,33 @@
 //! The signature of a prefix.
 
-ghost use Rattle.std.specs.Prelude.{◌≡◌, ◌≤◌, length, map, IfOk};
-ghost use Rattle.net_types.specs.Signatures.{offer, port_with};
-ghost use Rattle.route_server.specs.Rows.{ruled, offered, part_of, signature_of};
+ghost use Rattle.std.specs.Prelude.{◌≡◌, ◌≤◌, ◌&&◌, length, map, nat_eq, IfOk};
+ghost use Rattle.std.specs.List.{list_any};
+ghost use Rattle.net_types.specs.Exports.{is_given};
+ghost use Rattle.net_types.specs.Signatures.{counts, is_hole, offer, port_with};
+ghost use Rattle.net_types.specs.declared.address.Pid.{Pid};
+ghost use Rattle.route_server.specs.Rows.{settled_by, offered, counted, names_at, part_of, signature_of};
 
 use crate::held::Held;
 use crate::rows::{best_in, is_given};
-use net_types::{ExportRules, Ip, Memory, Offer, Offers, Part, Pid, PortNo, Prefix, Sig};
+use crate::terms::Terms;
+use net_types::{Attrs, Ip, Memory, Offer, Offers, Part, Pid, Pids, PortNo, Prefix, Sig};
 use registry::Registry;
 use std::alloc::Global;
+
+/// The community BLACKHOLE, 65535:666.
+// RFC 7999
+const BLACKHOLE: u32 = 4294902426;
+
+/// Whether a route's traffic is to be discarded.
+fn is_hole(attrs: &Attrs) -> bool
+    ensures { result ≡ is_hole attrs.now }
+{
+    attrs
+        .communities
+        .items()
+        .iter()
+        .any(|community| BLACKHOLE == *community)
+}
 
 /// The port that has an address.
 fn port_with(names: &Registry, ip: Ip) -> PortNo
@@ -20,23 +39,55 @@ fn port_with(names: &Registry, ip: Ip) -> PortNo
     }
 }
 
-/// The participants that give their route, and the ports of their next hops.
+/// Whom a participant's outbound policy names.
+fn names_at(named: &[Pids], who: Pid) -> &[Pid]
+    ensures { result.now ≡ names_at named.now who.0 }
+{
+    match named.get(who.0 as usize) {
+        Some(own) => own.items(),
+        None => &[],
+    }
+}
+
+fn is_named(named: &[Pid], who: Pid) -> bool
+    ensures { result ≡ list_any (λ (other : Pid). nat_eq other.0 who.0) named.now }
+{
+    named.iter().any(|other| other.0 == who.0)
+}
+
+/// Whether an exporter is the best one or is named.
+fn counts(named: &[Pid], chosen: Pid, who: Pid) -> bool
+    ensures { result ≡ counts named.now chosen who }
+{
+    who.0 == chosen.0 || is_named(named, who)
+}
+
+/// Whether a route is given to a sender and counts for it.
+fn is_offered(terms: Terms<'_>, held: &Held, to: Pid, chosen: Pid, prefix: Prefix) -> bool
+    ensures { result ≡ (counts (names_at terms.entry.named.now to.0) chosen held.now.from && is_given (settled_by terms.entry) held.now.from to prefix held.now.attrs) }
+{
+    counts(names_at(terms.named, to), chosen, held.from) && is_given(terms, held, to, prefix)
+}
+
+/// What the best exporter and those that the sender names offer to it: the ports of their next hops, and whether what is
+/// sent to them is discarded.
 fn offers_in(
     alloc: Global,
-    names: &Registry,
-    rules: &[ExportRules],
+    terms: Terms<'_>,
     row: &[Held],
     to: Pid,
+    chosen: Pid,
     prefix: Prefix,
 ) -> Result<Offers, Memory>
-    ensures { IfOk result (λ offers. offers ≡ map (offer (ruled names.now rules.now)) (offered (ruled names.now rules.now) to prefix row.now)) }
+    ensures { IfOk result (λ offers. offers ≡ map (offer (settled_by terms.entry)) (counted (settled_by terms.entry) to chosen (offered (settled_by terms.entry) to prefix row.now))) }
 {
     let mut offers = Offers::new(alloc);
     for held in row {
-        if is_given(names, rules, held, to, prefix) {
+        if is_offered(terms, held, to, chosen, prefix) {
             offers.push(Offer {
                 exporter: held.from,
-                port: port_with(names, held.attrs.next_hop),
+                port: port_with(terms.names, held.attrs.next_hop),
+                hole: is_hole(&held.attrs),
             })?;
         }
     }
@@ -46,22 +97,22 @@ fn offers_in(
 /// A sender's part, where it has a best route.
 fn part_in(
     alloc: Global,
-    names: &Registry,
-    rules: &[ExportRules],
+    terms: Terms<'_>,
     row: &[Held],
     to: Pid,
     prefix: Prefix,
 ) -> Result<Option<Part>, Memory>
     requires short { length row.now ≤ 256 }
-    ensures { IfOk result (λ part. part ≡ part_of (ruled names.now rules.now) to (offered (ruled names.now rules.now) to prefix row.now)) }
+    ensures { IfOk result (λ part. part ≡ part_of (settled_by terms.entry) to (offered (settled_by terms.entry) to prefix row.now)) }
 {
-    match best_in(names, rules, row, to, prefix) {
+    match best_in(terms, row, to, prefix) {
         None => Ok(None),
         Some(place) => {
-            let offers = offers_in(alloc, names, rules, row, to, prefix)?;
+            let best = row[place].from;
+            let offers = offers_in(alloc, terms, row, to, best, prefix)?;
             Ok(Some(Part {
                 sender: to,
-                best: row[place].from,
+                best,
                 offers,
             }))
         }
@@ -71,18 +122,17 @@ fn part_in(
 /// The signature of a prefix that has this row.
 pub fn signature_in(
     alloc: Global,
-    names: &Registry,
-    rules: &[ExportRules],
+    terms: Terms<'_>,
     row: &[Held],
     prefix: Prefix,
 ) -> Result<Sig, Memory>
     requires short { length row.now ≤ 256 }
-    ensures { IfOk result (λ sig. sig ≡ signature_of (ruled names.now rules.now) prefix row.now) }
+    ensures { IfOk result (λ sig. sig ≡ signature_of (settled_by terms.entry) prefix row.now) }
 {
     let mut sig = Sig::new(alloc);
-    let count = names.participants().len() as u32;
+    let count = terms.names.participants().len() as u32;
     for number in 0..count {
-        let part = part_in(alloc, names, rules, row, Pid(number), prefix)?;
+        let part = part_in(alloc, terms, row, Pid(number), prefix)?;
         match part {
             Some(own) => {
                 sig.push(own)?;

@@ -1,17 +1,19 @@
 //! What lines of three participants touch, and what is true afterwards.
 
 mod exchange;
+mod holes;
 mod said;
 mod told;
 
 use exchange::{Who, after, bests_after, closed, down};
-use said::{Path, Route, Said};
+use said::{Communities, Path, Route, Said};
 use std::test::Fail;
 
 const OF_B: Route = Route {
     path: Path::Own(65002),
     hop: 2,
     med: None,
+    communities: Communities::None,
 };
 
 fn bests_of(who: Who) -> &'static str {
@@ -58,6 +60,7 @@ enum Line {
     Moved,
     OfC,
     OfCAfterSet,
+    OfCForNobody,
     ByPort3,
 }
 
@@ -66,11 +69,7 @@ fn first_of(line: Line) -> Route {
         Line::OfCAfterSet => Path::Set(65002, 64512, 64513),
         _ => Path::Own(65002),
     };
-    Route {
-        path,
-        hop: 2,
-        med: None,
-    }
+    Route { path, ..OF_B }
 }
 
 fn route_of(line: Line) -> Route {
@@ -78,14 +77,20 @@ fn route_of(line: Line) -> Route {
         Line::WithDiscriminator => (Path::Own(65002), 2, Some(5)),
         Line::ByPort3 => (Path::Own(65002), 3, None),
         Line::OfC | Line::OfCAfterSet => (Path::Long(65003, 64512), 4, None),
+        Line::OfCForNobody => (Path::Long(65003, 65002), 4, None),
         _ => (Path::Own(65002), 2, None),
     };
-    Route { path, hop, med }
+    Route {
+        path,
+        hop,
+        med,
+        communities: Communities::None,
+    }
 }
 
 fn who_of(line: Line) -> Who {
     match line {
-        Line::OfC | Line::OfCAfterSet | Line::OfCGone => Who::C,
+        Line::OfC | Line::OfCAfterSet | Line::OfCForNobody | Line::OfCGone => Who::C,
         _ => Who::B,
     }
 }
@@ -116,9 +121,12 @@ fn told_of(line: Line) -> &'static str {
         Line::OfCGone => "A by B of B2; C by B of B2; ",
         Line::Gone => "10 ",
         Line::Moved => "10 20 ",
-        // A longer path is an offer more. A set counts one, and of equals the lower identifier is the best.
-        Line::OfC => "10 A by B of B2 C4; B by C of C4; C by B of B2; ",
-        Line::OfCAfterSet => "10 A by B of B2 C4; B by C of C4; C by B of B2; ",
+        // A longer path is the best of those alone that have no other. A set counts one, and of equals the lower
+        // identifier is the best.
+        Line::OfC => "10 A by B of B2; B by C of C4; C by B of B2; ",
+        Line::OfCAfterSet => "10 A by B of B2; B by C of C4; C by B of B2; ",
+        // A route that becomes nobody's best touches nothing.
+        Line::OfCForNobody => "A by B of B2; C by B of B2; ",
         // The next hop may be the address of each port of the participant's.
         Line::ByPort3 => "10 A by B of B3; C by B of B3; ",
     }
@@ -137,6 +145,7 @@ fn updates_touch_what_they_change(rt: HostRuntime) -> Result<(), Fail> {
         Line::Moved,
         Line::OfC,
         Line::OfCAfterSet,
+        Line::OfCForNobody,
         Line::ByPort3,
     ];
     for line in lines {
@@ -174,11 +183,7 @@ fn route_in(case: Case) -> Route {
         Case::HopOfC => (Path::Own(65002), 4),
         Case::HopOfNobody => (Path::Own(65002), 9),
     };
-    Route {
-        path,
-        hop,
-        med: None,
-    }
+    Route { path, hop, ..OF_B }
 }
 
 /// The touched prefixes or the fault, and then the signature of 10.0.0.0/8.

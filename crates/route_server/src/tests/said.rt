@@ -5,7 +5,9 @@ ghost use Rattle.net_types.specs.Routes.{hops_of};
 ghost use Rattle.net_types.specs.SoundUpdates.{AreSoundAttrs, Each, IsSoundSegment, IsSoundNextHop, IsSoundUpdate};
 ghost use Rattle.net_types.specs.UpdateSpelling.{is_before};
 
-use net_types::{Asns, Attrs, Ip, Items, Memory, Prefix, Prefixes, Segment, Segments, Update};
+use net_types::{
+    Asns, Attrs, Ip, Items, Memory, Numbers, Prefix, Prefixes, Segment, Segments, Update,
+};
 use std::alloc::Global;
 use std::test::Fail;
 
@@ -23,12 +25,24 @@ pub enum Path {
     SetAlone(u16),
 }
 
-/// A route: its path, the last octet of its next hop 172.16.1.x, and its discriminator.
+/// Communities: BLACKHOLE, 65535:666, and another.
+#[derive(Clone, Copy)]
+pub enum Communities {
+    None,
+    Another,
+    Hole,
+    /// BLACKHOLE between others.
+    Among,
+    Twice,
+}
+
+/// A route: its path, the last octet of its next hop 172.16.1.x, its discriminator, and its communities.
 #[derive(Clone, Copy)]
 pub struct Route {
     pub path: Path,
     pub hop: u8,
     pub med: Option<u32>,
+    pub communities: Communities,
 }
 
 /// An update. The prefixes are those of 8 bits with these first octets.
@@ -94,6 +108,24 @@ fn address(last: u8) -> Ip
     Ip(2886729984 + last as u32)
 }
 
+const BLACKHOLE: u32 = 4294902426;
+
+const ANOTHER: u32 = 4294902425;
+
+fn numbers(alloc: Global, given: &[u32]) -> Result<Numbers, Memory> {
+    Ok(Items::from_vec(Vec::from_slice(alloc, given)?))
+}
+
+fn communities_of(alloc: Global, said: Communities) -> Result<Numbers, Memory> {
+    match said {
+        Communities::None => numbers(alloc, &[]),
+        Communities::Another => numbers(alloc, &[ANOTHER]),
+        Communities::Hole => numbers(alloc, &[BLACKHOLE]),
+        Communities::Among => numbers(alloc, &[ANOTHER, BLACKHOLE, ANOTHER]),
+        Communities::Twice => numbers(alloc, &[BLACKHOLE, BLACKHOLE]),
+    }
+}
+
 fn attrs(alloc: Global, route: Route) -> Result<Attrs, Memory>
     ensures sound { IfOk result (λ attrs. AreSoundAttrs attrs) }
     ensures short { IfOk result (λ attrs. sum_by hops_of attrs.path < 2 ^ 32) }
@@ -105,7 +137,7 @@ fn attrs(alloc: Global, route: Route) -> Result<Attrs, Memory>
         med: route.med,
         atomic: false,
         aggregator: None,
-        communities: Items::new(alloc),
+        communities: communities_of(alloc, route.communities)?,
         communities_partial: false,
         unknown: Items::new(alloc),
     })

@@ -29,7 +29,7 @@ pub fn prefixes(alloc: Global, prefixes: &[Prefix]) -> Result<String, AllocError
     Ok(text)
 }
 
-/// A signature behind an earlier text, as `A by B of B2 C4; `.
+/// A signature behind an earlier text, as `A by B of B2; B by C of C4 hole; `.
 pub fn push_signature(alloc: Global, text: &mut String, sig: &Sig) -> Result<(), AllocError> {
     for part in sig.items() {
         text.push_str(letter(part.sender))?;
@@ -41,6 +41,9 @@ pub fn push_signature(alloc: Global, text: &mut String, sig: &Sig) -> Result<(),
             text.push_str(" ")?;
             text.push_str(letter(offer.exporter))?;
             text.push_str(format!(in alloc; "{port}")?.as_str())?;
+            if offer.hole {
+                text.push_str(" hole")?;
+            }
         }
         text.push_str("; ")?;
     }

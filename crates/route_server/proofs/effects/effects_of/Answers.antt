@@ -2,9 +2,10 @@ use Rattle.std.proofs.Common.{subst, sym, ap, ◌∙◌, arith, append-nil}
 use Rattle.std.specs.Prelude.{Some, None}
 use Rattle.std.proofs.lemmas.Option.{slice_get-get_or}
 use Rattle.net_types.proofs.FindLemmas.{slice_get-Member}
-use Rattle.route_server.specs.Rows.{ruled}
+use Rattle.route_server.specs.Rows.{settled, settled_by}
 use Rattle.route_server.specs.Effects.{IsEffectOf}
 use Rattle.route_server.proofs.RowLaws.{rising_short}
+use Rattle.route_server.proofs.ServedLaws.{settled_is}
 use Rattle.route_server.proofs.EffectLaws.{AreKnown, effect_more}
 use Rattle.route_server.proofs.effects.effects_of.Goals as goal
 use Rattle.route_server.proofs.effects.effects_of.Goals.{in-Some+in_ok-push-in-Some, in-None}
@@ -22,10 +23,11 @@ loop-at-preserved c = λ m declared rows.
     let i = c.loop-at.at in
     let ch = c.index-changes-at.result in
     let old = c.row-old.result.now in
-    let r = ruled names c.rules-rules.result.now in
-    let s = ruled names c.args.after.now in
-    let k : AreKnown names c.args.server.now c.rules-rules.result.now c.args.after.now m ch.prefix old ch.row = record {
-      rules_are = c.rules-rules.ensures;
+    let r = settled_by c.terms-before.result in
+    let s = settled_by (record { names = c.args.names; rules = c.args.after; named = c.terms-before.result.named }) in
+    let k : AreKnown names c.args.server.now c.args.after.now m r s ch.prefix old ch.row = record {
+      before_is = settled_is c.terms-before.result names c.args.server.now.rules c.args.server.now.named c.terms-before.ensures.names c.terms-before.ensures.rules c.terms-before.ensures.named;
+      after_is = ap (settled names c.args.after.now) c.terms-before.ensures.named;
       before = c.requires;
       now = declared;
       old_rises = c.row-old.ensures.rising;
@@ -34,10 +36,10 @@ loop-at-preserved c = λ m declared rows.
       new_is = rows.each ch (slice_get-Member cs i ch (slice_get-get_or cs i ch c.loop-at-test.true ∙ ap (λ d. Some d) (sym c.index-changes-at.is)));
     } in
     elim c.match-effect.branch [
-      | in-Some+in_ok-push-in-Some w ↦ effect_more names c.args.server.now c.rules-rules.result.now c.args.after.now m cs i ch old c.loop-at-test.true c.index-changes-at.is k
+      | in-Some+in_ok-push-in-Some w ↦ effect_more names c.args.server.now c.args.after.now m r s cs i ch old c.loop-at-test.true c.index-changes-at.is k
           c.loop-at.effects.items c.match-effect.effects.items (Some w.in-Some.own) (subst (IsEffectOf r s old ch i) w.in-Some.is c.in_ok-effect.ensures)
           (ap (λ v. v.items) w.effects-is ∙ w.in_ok-push-in-Some.ensures.items) (c.loop-at.invariant m declared rows)
-      | in-None w ↦ effect_more names c.args.server.now c.rules-rules.result.now c.args.after.now m cs i ch old c.loop-at-test.true c.index-changes-at.is k
+      | in-None w ↦ effect_more names c.args.server.now c.args.after.now m r s cs i ch old c.loop-at-test.true c.index-changes-at.is k
           c.loop-at.effects.items c.match-effect.effects.items None (subst (IsEffectOf r s old ch i) w.in-None.is c.in_ok-effect.ensures)
           (ap (λ v. v.items) w.effects-is ∙ sym (append-nil c.loop-at.effects.items)) (c.loop-at.invariant m declared rows)
     ]

@@ -9,5 +9,5 @@ returns-clause-proposal c =
     let m = updated c.args.from c.args.update.now c.args.server.now.routes in
     c.in_ok-proposal.ensures.effects m (updated_declared c.args.names.now c.args.from c.args.update.now c.args.server.now.routes c.requires.known c.requires.declared) c.in_ok-changes.ensures.rows c.in_ok-changes.ensures.rising
     (λ q away. updated_out c.args.from q c.args.update.now c.args.server.now.routes (λ k. away (c.in_ok-changes.ensures.all q.prefix k)))
-    (λ q away. same_routes c.args.names.now c.args.server.now (record { routes = m; rules = c.args.server.now.rules; room = 0 }) q refl
+    (λ q away. same_routes c.args.names.now c.args.server.now (record { routes = m; rules = c.args.server.now.rules; named = c.args.server.now.named; room = 0 }) q refl refl
     (λ f. updated_out c.args.from (record { from = f; prefix = q }) c.args.update.now c.args.server.now.routes (λ k. away (c.in_ok-changes.ensures.all q k))))

@@ -1,16 +1,16 @@
 use Rattle.std.proofs.Common.{sym, ap, subst, ◌∙◌, ◌<◌, length, ◌++◌, ◌-◌, ◌+◌}
-use Rattle.route_server.specs.Rows.{ruled}
+use Rattle.route_server.specs.Rows.{settled_by}
 use Rattle.route_server.proofs.Parts.{parts_from, part_more, part_none}
 use Rattle.route_server.proofs.signature.signature_in.Goals as goal
 use Rattle.route_server.proofs.signature.signature_in.Goals.{in-Some+in_ok-push-in-Some, in-None}
 
 pub loop-number-preserved : goal.loop-number-preserved
 loop-number-preserved c =
-    let r = ruled c.args.names.now c.args.rules.now in
+    let r = settled_by c.args.terms in
     let p = c.args.prefix in
     let row = c.args.row.now in
     let n = c.loop-number.number in
-    let count = length c.args.names.now.participants in
+    let count = length c.args.terms.names.now.participants in
     elim c.match-part.branch [
       | in-Some+in_ok-push-in-Some w ↦ ap (λ s. s ++ parts_from r p row (n + 1) (count - (n + 1))) (w.sig-is ∙ w.in_ok-push-in-Some.ensures.ok)
           ∙ part_more r p row n count c.loop-number.sig w.in-Some.own _ (subst (λ xs. n < length xs) c.participants.ensures.all c.loop-number-test.true) (sym w.in-Some.is ∙ c.in_ok-part.ensures) c.loop-number.invariant

@@ -14,7 +14,7 @@ returns-clause-proposal c =
     c.in_ok-proposal.ensures.effects after (without_declared c.args.from m c.args.names.now c.requires) (without_rows c.args.from m c.in_ok-changes.changes.items c.in_ok-changes.ensures.edits)
     (subst (IsRising is_before) (sym prefixes) c.in_ok-prefixes.ensures.rising)
     (λ q away. without_elsewhere c.args.from m c.in_ok-prefixes.prefixes.items c.in_ok-prefixes.ensures q (λ k. away (subst (Member q.prefix) (sym prefixes) k)))
-    (λ q away. same_routes c.args.names.now c.args.self.now (record { routes = after; rules = c.args.self.now.rules; room = 0 }) q refl
+    (λ q away. same_routes c.args.names.now c.args.self.now (record { routes = after; rules = c.args.self.now.rules; named = c.args.self.now.named; room = 0 }) q refl refl
     (λ f. without_elsewhere c.args.from m c.in_ok-prefixes.prefixes.items c.in_ok-prefixes.ensures (record { from = f; prefix = q }) (λ k. away (subst (Member q) (sym prefixes) k))))
 
 pub returns-in_err-prefixes-clause-declared : goal.returns-in_err-prefixes-clause-declared

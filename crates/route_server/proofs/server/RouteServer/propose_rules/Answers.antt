@@ -17,7 +17,7 @@ returns-clause-proposal c =
     let prefixes = c.in_ok-changes.ensures.prefixes ∙ c.as_slice.ensures.value in
     let is = c.in_ok-after.ensures ∙ ap (λ rs. set rs c.args.from.0 c.args.rules) c.rules-before.ensures in
     let now : (n : ℕ) → rules_at c.in_ok-after.after.items n ≡ cond (eqb c.args.from.0 n) c.args.rules (rules_at c.args.self.now.rules n) = λ n. ap (λ rs. rules_at rs n) is ∙ set_rules c.args.self.now.rules c.args.from.0 c.args.rules n c.requires.listed in
-    subst (λ rs. IsProposal (routing c.args.names.now c.args.self.now) (routing_after c.args.names.now rs m) c.in_ok-proposal.proposal) is
+    subst (λ rs. IsProposal (routing c.args.names.now c.args.self.now) (routing_after c.args.names.now rs c.args.self.now.named m) c.in_ok-proposal.proposal) is
     (c.in_ok-proposal.ensures.effects m c.requires.declared (kept_rows m c.in_ok-changes.changes.items c.in_ok-changes.ensures.rows) (subst (IsRising is_before) (sym prefixes) c.in_ok-prefixes.ensures.rising)
     (λ q away. refl)
     (λ q away. other_rules c.args.names.now c.args.self.now c.in_ok-after.after.items c.args.from c.args.rules now c.in_ok-prefixes.prefixes.items c.in_ok-prefixes.ensures q (λ k. away (subst (Member q) (sym prefixes) k))))

@@ -1,0 +1,11 @@
+//! Tests of policies: their texts, isolation, classifiers and the compiler.
+#![tactic(auto)]
+
+#[cfg(test)]
+mod classifiers;
+#[cfg(test)]
+mod compiled;
+#[cfg(test)]
+mod isolation;
+#[cfg(test)]
+mod texts;
