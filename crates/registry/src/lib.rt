@@ -11,4 +11,5 @@ mod registry;
 mod tests;
 
 pub use fault::RegFault;
+pub use net_types::{Participant, PortInfo};
 pub use registry::Registry;
