@@ -90,13 +90,15 @@ listed_rules xs from own within =
     ap (λ k. set (xs ++ nothings k) from.0 own) none ∙ ap (λ ys. set ys from.0 own) (append-nil xs)
 
 -- one list more
-pub pad_more : (count : ℕ) (xs all : List (List ExportRule)) → length xs < count → xs ++ nothings (count - length xs) ≡ all → (xs ++ [] ∷ []) ++ nothings (count - length (xs ++ [] ∷ [])) ≡ all
-pad_more count xs all low h =
-    let long = length-append xs ([] ∷ []) in
-    let one : count - length xs ≡ suc (count - length (xs ++ [] ∷ [])) = omega (arith, low, long) in
-    append_assoc xs ([] ∷ []) (nothings (count - length (xs ++ [] ∷ []))) ∙ ap (λ k. xs ++ nothings k) (sym one) ∙ h
+pub pad_more : (count place : ℕ) (xs all : List (List ExportRule)) → place < count → xs ++ nothings (count - place) ≡ all → (xs ++ [] ∷ []) ++ nothings (count - (place + 1)) ≡ all
+pad_more count place xs all low h =
+    let one : count - place ≡ suc (count - (place + 1)) = omega (arith, low) in
+    append_assoc xs ([] ∷ []) (nothings (count - (place + 1))) ∙ ap (λ k. xs ++ nothings k) (sym one) ∙ h
 
-pub pad_all : (count : ℕ) (xs all : List (List ExportRule)) → count ≤ length xs → xs ++ nothings (count - length xs) ≡ all → xs ≡ all
-pad_all count xs all enough h =
-    let none : count - length xs ≡ 0 = omega (arith, enough) in
+pub pad_all : (count place : ℕ) (xs all : List (List ExportRule)) → count ≤ place → xs ++ nothings (count - place) ≡ all → xs ≡ all
+pad_all count place xs all enough h =
+    let none : count - place ≡ 0 = omega (arith, enough) in
     sym (ap (λ k. xs ++ nothings k) none ∙ append-nil xs) ∙ h
+
+pub padded_long : (xs : List (List ExportRule)) (count : ℕ) → count ≤ length (padded xs count)
+padded_long xs count = let e = length-append xs (nothings (count - length xs)) in let f = length_nothings (count - length xs) in omega (arith, e, f)

@@ -31,18 +31,16 @@ fn copied(alloc: Global, rules: &[ExportRules]) -> Result<Vec<ExportRules>, Memo
     Ok(twins)
 }
 
-/// The rules of so many participants at least.
-fn padded(
-    alloc: Global,
-    rules: Vec<ExportRules>,
-    count: usize,
-) -> Result<Vec<ExportRules>, Memory>
-    ensures padded { IfOk result (λ after. after.items ≡ padded rules.items count) }
+/// A copy of all rules, with lists for so many participants at least.
+fn padded(alloc: Global, rules: &[ExportRules], count: usize) -> Result<Vec<ExportRules>, Memory>
+    ensures padded { IfOk result (λ after. after.items ≡ padded rules.now count) }
     ensures long { IfOk result (λ after. count ≤ length after.items) }
 {
-    let mut after = rules;
-    while after.len() < count {
+    let mut after = copied(alloc, rules)?;
+    let mut place = rules.len();
+    while place < count {
         after.push(Items::new(alloc))?;
+        place += 1;
     }
     Ok(after)
 }
@@ -57,8 +55,7 @@ fn with_rules(
     ensures { IfOk result (λ after. after.items ≡ rules_with rules.now from own) }
 {
     let place = from.0 as usize;
-    let earlier = copied(alloc, rules)?;
-    let mut after = padded(alloc, earlier, place + 1)?;
+    let mut after = padded(alloc, rules, place + 1)?;
     after[place] = own;
     Ok(after)
 }
