@@ -5,8 +5,8 @@ use Rattle.std.specs.FinMap.{FinMap, empty, get, keys, values, entries, entries_
 use Rattle.std.specs.FinMap.Entries.{is_sorted}
 use Rattle.std.specs.List.{list_any}
 use Rattle.std.specs.Ordering.{eq_by_cmp}
-use Rattle.net_types.proofs.OrderedLemmas.{any_member, member_any, ordered_is, ordered_rises, ordered_same}
-use Rattle.events.specs.Pending.{same_entry}
+use Rattle.net_types.proofs.OrderedLemmas.{any_member, member_any, ordered_is, ordered_rises, ordered_same, any_ordered}
+use Rattle.events.specs.Pending.{pending as pending_of, same_entry}
 use Rattle.events.specs.Fits.{advert, adverts as adverts_of}
 use Rattle.events.specs.State.{State, told_to, present as present_of}
 use Rattle.net_types.specs.declared.address.Pid.{Pid}
@@ -16,7 +16,6 @@ use Rattle.net_types.proofs.OrderLemmas.{prefix_tie, prefixes_total, tags_total}
 use Rattle.net_types.proofs.PassLemmas.{any_map}
 use Rattle.net_types.proofs.TieLemmas.{nat_ties, same_from_tie, tag_cmp-IsAntisymmetric}
 use Rattle.net_types.proofs.ValueLemmas.{no_entries}
-use Rattle.advert_queue.proofs.SortedLists.{any_ordered}
 use Rattle.net_types.proofs.PlaceLemmas.{entries_of_sorted}
 use Rattle.net_types.proofs.RisingLemmas.{before, filter-IsRising, filter-Member, Member-filter}
 use Rattle.net_types.proofs.SetLemmas.{Member-append_left, Member-append_right, Member-append_cases, map-map}
@@ -137,7 +136,10 @@ pub advert-state : (s : State) (p : Prefix) (o : Option Entry) → advert s p o 
 advert-state s p None = refl
 advert-state s p (Some entry) = refl
 
+-- the messages of a state to a participant say what is present for it
+pub messages-state : (s : State) (who : Pid) (ps : List Prefix) → adverts_of s who ps ≡ map (λ p. advert_with s.base p (get (present_of s who) p)) ps
+messages-state s who ps = ap (λ (f : Prefix → List ℕ). map f ps) (λ i p. advert-state s p (get (present_of s who) p) i)
+
 -- where a participant was told the one map and the other is present for it, the messages are those of the state
-pub adverts-state : (s : State) (who : Pid) → adverts_of s who ≡ adverts s.base (told_to s who) (present_of s who)
-adverts-state s who =
-    ap (λ (f : Prefix → List ℕ). map f (pending (told_to s who) (present_of s who))) (λ i p. advert-state s p (get (present_of s who) p) i)
+pub adverts-state : (s : State) (who : Pid) → adverts_of s who (pending_of s who) ≡ adverts s.base (told_to s who) (present_of s who)
+adverts-state s who = messages-state s who (pending_of s who)

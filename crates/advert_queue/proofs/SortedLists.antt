@@ -1,63 +1,26 @@
 -- A sorted list without repeats is the list in order, and what a search finds among tags in order.
-use Rattle.std.proofs.Common.{◌≡◌, ℕ, zero, suc, ◌+◌, ◌<◌, arith, length, Result, Ok, Err, Bool, true, false, ◌&&◌, List, [], ◌∷◌, eqb, IsPermutation, sym, ap, subst, ◌∙◌, refl, inl, inr}
-use Rattle.std.specs.Cmp.{IsTotalOrder, both_ways, unsigned_ties}
-use Rattle.std.specs.List.{AllByRecursion, dedup, list_any}
-use Rattle.std.specs.List.Sorted.{IsBinarySearchResult, IsSearchInRange, IsSorted, IsSortedBy, IsStrictlySortedBy}
+use Rattle.std.proofs.Common.{◌≡◌, ℕ, zero, suc, ◌+◌, ◌<◌, arith, length, Result, Ok, Err, true, false, ◌&&◌, List, [], ◌∷◌, eqb, IsPermutation, sym, ap, subst, ◌∙◌, refl, inl, inr}
+use Rattle.std.specs.Cmp.{IsTotalOrder, unsigned_ties}
+use Rattle.std.specs.List.{dedup, list_any}
+use Rattle.std.specs.List.Sorted.{IsBinarySearchResult, IsSearchInRange, IsSorted, IsSortedBy}
 use Rattle.std.specs.Prelude.{◌⊎◌, is_ok, slice_index_or}
 use Rattle.std.specs.Ordering.{eq_by_cmp, is_eq, is_lt, ordering_reverse}
 use Rattle.std.specs.declared.cmp.Ordering.{Ordering}
 use Rattle.std.specs.declared.cmp.Ordering.TheVariants.{Less, Equal, Greater}
 use Rattle.std.proofs.lemmas.Bool.Decides.{nat_tests}
-use Rattle.std.proofs.lemmas.Cmp.{eq_by_cmp_equiv, tied_itself}
+use Rattle.std.proofs.lemmas.Cmp.{tied_itself}
 use Rattle.std.proofs.lemmas.Bool.{cases_lt, false_from_ne_true, false≢true}
-use Rattle.std.proofs.lemmas.List.Kept.{Contains-dedup, Contains-from_dedup, IsStrictlySortedBy-dedup}
-use Rattle.std.proofs.lemmas.List.Sorted.{IsPermutation-sym, searchable_from_sorted}
-use Rattle.net_types.proofs.OrderedLemmas.{any_member, member_any, ordered_is, ordered_rises, ordered_same}
-use Rattle.net_types.proofs.MemberLemmas.{Contains-Member, Member-at, Member-permutation}
+use Rattle.std.proofs.lemmas.List.Sorted.{searchable_from_sorted}
+use Rattle.net_types.proofs.OrderedLemmas.{any_member, member_any, ordered_rises, deduped_is}
+use Rattle.net_types.proofs.MemberLemmas.{Contains-Member, Member-at}
 use Rattle.net_types.proofs.OrderLemmas.{prefix_tie, prefixes_total, tags_total}
 use Rattle.net_types.proofs.RisingLemmas.{before}
 use Rattle.net_types.proofs.TieLemmas.{same_from_tie, tag_cmp-IsAntisymmetric}
 use Rattle.net_types.specs.Keys.{prefix_cmp, tag_cmp}
 use Rattle.net_types.specs.Maps.{ordered}
-use Rattle.net_types.specs.Sets.{IsRising, Member}
+use Rattle.net_types.specs.Sets.{IsRising}
 use Rattle.net_types.specs.declared.address.Tag.{Tag}
 use Rattle.net_types.specs.declared.prefix.Prefix.{Prefix}
-
-each : {A : Type 0} (P : A → Type 0) (xs : List A) (x : A) → AllByRecursion P xs → Member x xs → P x
-each P [] x h m = elim m [ ]
-each P (y ∷ ys) x h (inl e) = subst P (sym e) h.0
-each P (y ∷ ys) x h (inr m) = each P ys x h.1 m
-
-rising : {K : Type 0} (R : K → K → Ordering) (xs : List K) → IsStrictlySortedBy R xs → IsRising (before R) xs
-unfolding IsStrictlySortedBy
-rising R [] h = tt
-rising R (x ∷ xs) h = (λ y m. ap is_lt (each (λ q. R x q ≡ Less) xs y h.0 m), rising R xs h.1)
-
-module _ {K : Type 0} (R : K → K → Ordering) (o : IsTotalOrder R) (tie : (x y : K) → eq_by_cmp R x y ≡ true → x ≡ y) where
-  -- a test for a tie passes in a list in order as in the list
-  pub any_ordered : (x : K) (xs : List K) → list_any (eq_by_cmp R x) (ordered R xs) ≡ list_any (eq_by_cmp R x) xs
-  any_ordered x xs =
-      both_ways _ _
-      (λ t. member_any R o tie x xs ((ordered_same R o tie xs).onto x (any_member R o tie x (ordered R xs) t)))
-      (λ t. member_any R o tie x (ordered R xs) ((ordered_same R o tie xs).back x (any_member R o tie x xs t)))
-
-  tied_is : (xs ys : List K) → IsPermutation xs ys → IsSorted R ys → dedup (eq_by_cmp R) ys ≡ ordered R xs
-  tied_is xs ys moved sorted =
-      let once = dedup (eq_by_cmp R) ys in
-      ordered_is R o tie once xs (rising R once (IsStrictlySortedBy-dedup o (λ x y. refl) ys sorted)) (record {
-        onto = λ x m.
-            let c = Contains-from_dedup (eq_by_cmp R) ys x (Contains-Member once x m) in
-            Member-permutation ys xs x (IsPermutation-sym xs ys moved) (Member-at ys c.0 x x c.1 c.2);
-        back = λ x m.
-            let c = Contains-dedup (eq_by_cmp_equiv o) tie ys x (Contains-Member ys x (Member-permutation xs ys x moved m)) in
-            Member-at once c.0 x x c.1 c.2;
-      })
-
-  -- the test of `dedup` says what ties
-  deduped_is : (test : K → K → Bool) → ((x y : K) → test x y ≡ eq_by_cmp R x y) → (xs ys : List K) → IsPermutation xs ys → IsSorted R ys → dedup test ys ≡ ordered R xs
-  deduped_is test ties xs ys moved sorted =
-      let same : test ≡ eq_by_cmp R = λ i x y. ties x y i in
-      ap (λ (f : K → K → Bool). dedup f ys) same ∙ tied_is xs ys moved sorted
 
 pub tags_in_order : (xs ys : List Tag) → IsPermutation xs ys → IsSorted tag_cmp ys → dedup (λ (x y : Tag). eqb x.0 y.0) ys ≡ ordered tag_cmp xs
 tags_in_order = deduped_is tag_cmp tags_total (same_from_tie tag_cmp tag_cmp-IsAntisymmetric) (λ x y. eqb x.0 y.0) (λ x y. unsigned_ties x.0 y.0)

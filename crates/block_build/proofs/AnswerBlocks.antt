@@ -1,10 +1,12 @@
 -- What the receivers' rules give leaves as a part's answer says.
-use Rattle.std.proofs.Common.{◌≡◌, Bool, true, false, cond, Option, Some, None, List, [], ◌∷◌, ◌++◌, map, refl, sym, ap, ◌∙◌, subst}
+use Rattle.std.proofs.Common.{◌≡◌, Bool, true, false, cond, Option, Some, None, unwrap_or, List, [], ◌∷◌, ◌++◌, map, refl, sym, ap, ◌∙◌, subst}
+use Rattle.std.proofs.lemmas.List.{append-nil, append_assoc}
 use Rattle.classifier.proofs.DecideLemmas.{same_add_all}
 use Rattle.classifier.specs.Items.{Item, add_all}
 use Rattle.classifier.specs.Meaning.{given, carried, meaning, ends_with_everything}
 use Rattle.classifier.specs.declared.line.Line.{Line}
 use Rattle.events.specs.Table.{done_by}
+use Rattle.net_types.proofs.CubeLemmas.{has-everything}
 use Rattle.net_types.proofs.SetLemmas
 use Rattle.net_types.specs.Answers.{Leaving, is_offered, leaves_by, offered_port, or_default, or_unchanged, sent_to}
 use Rattle.net_types.specs.Headers.{apply, arrived}
@@ -18,30 +20,22 @@ use Rattle.net_types.specs.declared.headers.Loc.{Loc}
 use Rattle.net_types.specs.declared.headers.Loc.TheVariants.{Stay, To, Out, Nowhere}
 use Rattle.net_types.specs.declared.route.Offer.{Offer}
 use Rattle.net_types.specs.declared.route.Part.{Part}
-use Rattle.block_build.proofs.ActionOrder.{ordered_actions}
+use Rattle.net_types.proofs.ActionOrder.{ordered_actions}
 use Rattle.block_build.proofs.DecideBlocks.{given-received, gathered_by}
-use Rattle.block_build.proofs.OfferLemmas.{stands-offered, port-stands, offered-from}
-use Rattle.block_build.proofs.SentLemmas.{sent_all, goes-sent, sent-goes, sent-offered}
+use Rattle.block_build.proofs.OfferLemmas.{stands-offered, port-stands, hole-stands, offered-from}
+use Rattle.block_build.proofs.SentLemmas.{answer-past, no_hole, received_past, sent_all, sent_plain, goes-sent, sent-goes, sent-offered}
 use Rattle.block_build.specs.Given.{gathered}
 use Rattle.block_build.specs.Offers.{each_once, goes_to, has_one_left}
-use Rattle.block_build.specs.Outcomes.{answer_from, received_from, sent_from}
-use Rattle.block_build.specs.Receivers.{exit_of, add_exit, add_exits, received_items, received_lines, receiver, receivers}
+use Rattle.block_build.specs.Outcomes.{answer_from, received_from}
+use Rattle.block_build.specs.Receivers.{discarding, exit_of, add_exit, add_exits, received_items, received_lines, receiver, receivers}
 use Rattle.block_build.specs.Rules.{action_at, actions_in, actions_of}
 use Rattle.block_build.specs.declared.receive.Receiver.{Receiver}
 
 -- ---- lists
 
-append-nil : {A : Type 0} (xs : List A) → xs ++ [] ≡ xs
-append-nil [] = refl
-append-nil (x ∷ xs) = ap (λ ws. x ∷ ws) (append-nil xs)
-
-append-assoc : {A : Type 0} (xs ys zs : List A) → (xs ++ ys) ++ zs ≡ xs ++ (ys ++ zs)
-append-assoc [] ys zs = refl
-append-assoc (x ∷ xs) ys zs = ap (λ ws. x ∷ ws) (append-assoc xs ys zs)
-
 union-append : {A B : Type 0} (f : A → List B) (xs ys : List A) → union_over f (xs ++ ys) ≡ union_over f xs ++ union_over f ys
 union-append f [] ys = refl
-union-append f (x ∷ xs) ys = ap (λ zs. f x ++ zs) (union-append f xs ys) ∙ sym (append-assoc (f x) (union_over f xs) (union_over f ys))
+union-append f (x ∷ xs) ys = ap (λ zs. f x ++ zs) (union-append f xs ys) ∙ sym (append_assoc (f x) (union_over f xs) (union_over f ys))
 
 -- ---- what leaves by the actions of some items
 
@@ -86,7 +80,7 @@ outs-exits hop h kept [] = SetLemmas.same_eq (sym (append-nil (outs h kept)))
 outs-exits hop h kept (i ∷ items) =
     SetLemmas.same_trans (outs-exits hop h (add_exit kept i.0 (exit_of hop i.1)) items)
     (SetLemmas.same_trans (SetLemmas.same_append (outs-exit h kept i.0 (exit_of hop i.1)) (SetLemmas.same_refl (exits_in hop h items)))
-    (SetLemmas.same_eq (append-assoc (outs h kept) (leaves (apply i.0 h) (exit_of hop i.1)) (exits_in hop h items))))
+    (SetLemmas.same_eq (append_assoc (outs h kept) (leaves (apply i.0 h) (exit_of hop i.1)) (exits_in hop h items))))
 
 arrived-Stay : (l : Loc) → arrived Stay l ≡ l
 arrived-Stay Stay = refl
@@ -115,7 +109,7 @@ module _ (left : Bool) (best : Pid) (items : List Item) (h : Headers) where
   outs-gathered kept (r ∷ rs) =
       SetLemmas.same_trans (outs-gathered (cond (goes_to left best items r.who) (add_all kept (given r.lines h)) kept) rs)
       (SetLemmas.same_trans (SetLemmas.same_append (of (goes_to left best items r.who)) (SetLemmas.same_refl (union_over by_receiver rs)))
-      (SetLemmas.same_eq (append-assoc (outs h kept) (by_receiver r) (union_over by_receiver rs))))
+      (SetLemmas.same_eq (append_assoc (outs h kept) (by_receiver r) (union_over by_receiver rs))))
     where
       of : (b : Bool) → SameMembers (outs h (cond b (add_all kept (given r.lines h)) kept)) (outs h kept ++ cond b (outs h (given r.lines h)) [])
       of true = outs-add_all h kept (given r.lines h)
@@ -132,45 +126,50 @@ module _ (inbound : Pid → List Line) (p : Part) (h : Headers) (total : (o : Of
 
   -- what becomes of a packet that was sent there
   abbrev received : Loc → List Leaving
-  received l = received_from makes (offered_port p.offers) h l
+  received l = received_past makes p h l
 
-  outs-offer : (o : Offer) → Member o p.offers → SameMembers (outs h (given (received_lines o.port (inbound o.exporter)) h)) (or_unchanged o.port h (makes o.exporter h))
-  outs-offer o stands =
-      SetLemmas.same_trans (SetLemmas.same_eq (ap (outs h) (given-received o.port (inbound o.exporter) h (total o stands)))) (outs-received o.port h (given (inbound o.exporter) h))
+  -- what leaves by the rules of an offer is what becomes of a packet that was sent to its participant
+  outs-offer : each_once p.offers ≡ true → (o : Offer) → Member o p.offers → SameMembers (outs h (given (receiver inbound o).lines h)) (received (To o.exporter))
+  outs-offer once o stands =
+      subst (λ b. SameMembers (outs h (given (receiver inbound o).lines h)) (received_from makes (offered_port p.offers) h (cond b Nowhere (To o.exporter)))) (sym (hole-stands p.offers o once stands)) (of o.hole)
+    where
+      of : (b : Bool) → SameMembers (outs h (given (cond b discarding (received_lines o.port (inbound o.exporter))) h)) (received_from makes (offered_port p.offers) h (cond b Nowhere (To o.exporter)))
+      of true = SetLemmas.same_eq (ap (λ b. outs h (unwrap_or (cond b (Some []) None) [])) (has-everything h))
+      of false =
+          subst (λ q. SameMembers (outs h (given (received_lines o.port (inbound o.exporter)) h)) (or_unchanged q h (makes o.exporter h))) (sym (port-stands p.offers o once stands))
+          (SetLemmas.same_trans (SetLemmas.same_eq (ap (outs h) (given-received o.port (inbound o.exporter) h (total o stands)))) (outs-received o.port h (given (inbound o.exporter) h)))
 
-  sent-carried : (items : List Item) → sent_from p (map (carried h Stay) items) ≡ sent_all p.best p.offers items
-  sent-carried items = ap (or_default p.best) (
-      SetLemmas.union-map (λ (packet : Packet). sent_to (is_offered p.offers) p.best packet.1) (carried h Stay) items
-      ∙ SetLemmas.union_ext (λ (i : Item). sent_to (is_offered p.offers) p.best (arrived Stay i.1)) (λ (i : Item). sent_to (is_offered p.offers) p.best i.1) items (λ (i : Item). ap (sent_to (is_offered p.offers) p.best) (arrived-Stay i.1)))
+  sent-carried : (items : List Item) → sent_plain p (map (carried h Stay) items) ≡ sent_all p.best p.offers items
+  sent-carried items = ap (or_default no_hole p.best) (
+      SetLemmas.union-map (λ (packet : Packet). sent_to (is_offered p.offers) no_hole p.best packet.1) (carried h Stay) items
+      ∙ SetLemmas.union_ext (λ (i : Item). sent_to (is_offered p.offers) no_hole p.best (arrived Stay i.1)) (λ (i : Item). sent_to (is_offered p.offers) no_hole p.best i.1) items (λ (i : Item). ap (sent_to (is_offered p.offers) no_hole p.best) (arrived-Stay i.1)))
 
   offers-onto : (items : List Item) → each_once p.offers ≡ true → (x : Leaving) → Member x (union_over (by_offer items) p.offers) → Member x (union_over received (sent_all p.best p.offers items))
   offers-onto items once x k =
       let s = SetLemmas.union-Member (by_offer items) p.offers x k in
       let o : Offer = s.of in
-      let parts = from (outs h (given (received_lines o.port (inbound o.exporter)) h)) (goes_to (has_one_left p.offers items) p.best items o.exporter) (goes_to (has_one_left p.offers items) p.best items o.exporter) refl s.gives in
+      let parts = from (outs h (given (receiver inbound o).lines h)) (goes_to (has_one_left p.offers items) p.best items o.exporter) (goes_to (has_one_left p.offers items) p.best items o.exporter) refl s.gives in
       SetLemmas.Member-union received (sent_all p.best p.offers items) (To o.exporter) x
       (goes-sent p.best o.exporter p.offers items (stands-offered p.offers o s.stands) parts.0)
-      (subst (λ q. Member x (or_unchanged q h (makes o.exporter h))) (sym (port-stands p.offers o once s.stands)) ((outs-offer o s.stands).onto x parts.1))
+      ((outs-offer once o s.stands).onto x parts.1)
     where
       from : (ys : List Leaving) (b g : Bool) → g ≡ b → Member x (cond b ys []) → (g ≡ true) × Member x ys
       from ys true g e m = (e, m)
       from ys false g e m = elim m [ ]
 
-  offers-back : (items : List Item) → is_offered p.offers p.best ≡ true → (x : Leaving) → Member x (union_over received (sent_all p.best p.offers items)) → Member x (union_over (by_offer items) p.offers)
-  offers-back items there x k =
+  offers-back : (items : List Item) → each_once p.offers ≡ true → is_offered p.offers p.best ≡ true → (x : Leaving) → Member x (union_over received (sent_all p.best p.offers items)) → Member x (union_over (by_offer items) p.offers)
+  offers-back items once there x k =
       let s = SetLemmas.union-Member received (sent_all p.best p.offers items) x k in
       at s.of s.stands s.gives
     where
-      by : (who : Pid) → Member (To who) (sent_all p.best p.offers items) → Member x (or_unchanged (offered_port p.offers who) h (makes who h)) → Member x (union_over (by_offer items) p.offers)
+      by : (who : Pid) → Member (To who) (sent_all p.best p.offers items) → Member x (received (To who)) → Member x (union_over (by_offer items) p.offers)
       by who stands m =
           let o = offered-from p.offers who (sent-offered p (map (carried h Stay) items) who there (subst (Member (To who)) (sym (sent-carried items)) stands)) in
           let goes : goes_to (has_one_left p.offers items) p.best items o.offer.exporter ≡ true =
           ap (goes_to (has_one_left p.offers items) p.best items) o.mine ∙ sent-goes p.best who p.offers items stands in
           SetLemmas.Member-union (by_offer items) p.offers o.offer x o.stands
-          (subst (λ b. Member x (cond b (outs h (given (received_lines o.offer.port (inbound o.offer.exporter)) h)) [])) (sym goes)
-          ((outs-offer o.offer o.stands).back x
-          (subst (λ w. Member x (or_unchanged o.offer.port h (makes w h))) (sym o.mine)
-          (subst (λ q. Member x (or_unchanged q h (makes who h))) (sym o.by) m))))
+          (subst (λ b. Member x (cond b (outs h (given (receiver inbound o.offer).lines h)) [])) (sym goes)
+          ((outs-offer once o.offer o.stands).back x (subst (λ w. Member x (received (To w))) (sym o.mine) m)))
 
       at : (l : Loc) → Member l (sent_all p.best p.offers items) → Member x (received l) → Member x (union_over (by_offer items) p.offers)
       at Stay stands m = elim m [ ]
@@ -184,5 +183,5 @@ module _ (inbound : Pid → List Line) (p : Part) (h : Headers) (total : (o : Of
   outs-answer outbound once there =
       SetLemmas.same_trans (outs-gathered (has_one_left p.offers (given outbound h)) p.best (given outbound h) h [] (receivers inbound p.offers))
       (SetLemmas.same_trans (SetLemmas.same_eq (SetLemmas.union-map (by_receiver (has_one_left p.offers (given outbound h)) p.best (given outbound h) h) (receiver inbound) p.offers))
-      (SetLemmas.same_trans (record { onto = offers-onto (given outbound h) once; back = offers-back (given outbound h) there })
-      (SetLemmas.same_eq (ap (union_over received) (sym (sent-carried (given outbound h)))))))
+      (SetLemmas.same_trans (record { onto = offers-onto (given outbound h) once; back = offers-back (given outbound h) once there })
+      (SetLemmas.same_eq (ap (union_over received) (sym (sent-carried (given outbound h))) ∙ sym (answer-past (λ g. meaning outbound g Stay) makes p h)))))

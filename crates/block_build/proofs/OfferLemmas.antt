@@ -3,10 +3,9 @@ use Rattle.std.proofs.Common.{◌≡◌, Bool, true, false, not, ◌||◌, cond,
 use Rattle.std.specs.Prelude.{Some, find, nat_eq}
 use Rattle.std.specs.Option.{option_map_or}
 use Rattle.std.proofs.lemmas.Bool.{cases_Bool, eqb-true, eq-eqb, and_parts, false≢true}
-use Rattle.net_types.specs.Answers.{is_offered, offered_port}
+use Rattle.net_types.specs.Answers.{is_offered, offered_hole, offered_port}
 use Rattle.net_types.specs.Sets.{Member}
 use Rattle.net_types.specs.declared.address.Pid.{Pid}
-use Rattle.net_types.specs.declared.address.PortNo.{PortNo}
 use Rattle.net_types.specs.declared.route.Offer.{Offer}
 use Rattle.block_build.specs.Offers.{each_once}
 
@@ -32,36 +31,46 @@ not_true : (b : Bool) → not b ≡ true → b ≡ false
 not_true true e = cc
 not_true false e = refl
 
-abbrev port_or : Bool → PortNo → PortNo → PortNo
-port_or true p q = p
-port_or false p q = q
+-- what is found of the first offer of a participant, and what else
+module _ {A : Type 0} (of : Offer → A) (default : A) where
+  abbrev found : List Offer → Pid → A
+  found offers who = option_map_or of (find (λ (o : Offer). nat_eq o.exporter.0 who.0) offers) default
 
-port-first : (x : Offer) (xs : List Offer) (who : Pid) (b : Bool) → nat_eq x.exporter.0 who.0 ≡ b → offered_port (x ∷ xs) who ≡ port_or b x.port (offered_port xs who)
-port-first x xs who true e = ap (λ b. option_map_or (λ (o : Offer). o.port) (cond b (Some x) (find (λ (o : Offer). nat_eq o.exporter.0 who.0) xs)) (record { 0 = 0 })) e
-port-first x xs who false e = ap (λ b. option_map_or (λ (o : Offer). o.port) (cond b (Some x) (find (λ (o : Offer). nat_eq o.exporter.0 who.0) xs)) (record { 0 = 0 })) e
+  abbrev either : Bool → A → A → A
+  either true a b = a
+  either false a b = b
 
--- where each participant stands once, its offer's port is the port that is found
+  found-first : (x : Offer) (xs : List Offer) (who : Pid) (b : Bool) → nat_eq x.exporter.0 who.0 ≡ b → found (x ∷ xs) who ≡ either b (of x) (found xs who)
+  found-first x xs who true e = ap (λ b. option_map_or of (cond b (Some x) (find (λ (o : Offer). nat_eq o.exporter.0 who.0) xs)) default) e
+  found-first x xs who false e = ap (λ b. option_map_or of (cond b (Some x) (find (λ (o : Offer). nat_eq o.exporter.0 who.0) xs)) default) e
+
+  -- where each participant stands once, what is found is its offer's
+  found-stands : (offers : List Offer) (o : Offer) → each_once offers ≡ true → Member o offers → found offers o.exporter ≡ of o
+  found-stands [] o once h = elim h [ ]
+  found-stands (x ∷ xs) o once (inl e) =
+      found-first x xs o.exporter true (ap (λ (z : Offer). nat_eq z.exporter.0 o.exporter.0) (sym e) ∙ pid_refl o.exporter) ∙ ap of (sym e)
+  found-stands (x ∷ xs) o once (inr h) =
+      let p = and_parts (not (is_offered xs x.exporter)) (each_once xs) once in
+      elim (cases_Bool (nat_eq x.exporter.0 o.exporter.0)) [
+        | inl mine ↦ absurd (false≢true (sym (not_true (is_offered xs x.exporter) p.0) ∙ ap (is_offered xs) (pid_exact x.exporter o.exporter mine) ∙ stands-offered xs o h))
+        | inr other ↦ found-first x xs o.exporter false other ∙ found-stands xs o p.1 h
+      ]
+
 pub port-stands : (offers : List Offer) (o : Offer) → each_once offers ≡ true → Member o offers → offered_port offers o.exporter ≡ o.port
-port-stands [] o once h = elim h [ ]
-port-stands (x ∷ xs) o once (inl e) =
-    port-first x xs o.exporter true (ap (λ (z : Offer). nat_eq z.exporter.0 o.exporter.0) (sym e) ∙ pid_refl o.exporter) ∙ ap (λ (z : Offer). z.port) (sym e)
-port-stands (x ∷ xs) o once (inr h) =
-    let p = and_parts (not (is_offered xs x.exporter)) (each_once xs) once in
-    elim (cases_Bool (nat_eq x.exporter.0 o.exporter.0)) [
-      | inl mine ↦ absurd (false≢true (sym (not_true (is_offered xs x.exporter) p.0) ∙ ap (is_offered xs) (pid_exact x.exporter o.exporter mine) ∙ stands-offered xs o h))
-      | inr other ↦ port-first x xs o.exporter false other ∙ port-stands xs o p.1 h
-    ]
+port-stands = found-stands (λ (o : Offer). o.port) (record { 0 = 0 })
 
--- an offer of a participant, with the port that is found
+pub hole-stands : (offers : List Offer) (o : Offer) → each_once offers ≡ true → Member o offers → offered_hole offers o.exporter ≡ o.hole
+hole-stands = found-stands (λ (o : Offer). o.hole) false
+
+-- an offer of a participant
 pub record Offered (offers : List Offer) (who : Pid) : Type 0 where
   pub offer : Offer
   pub stands : Member offer offers
   pub mine : offer.exporter ≡ who
-  pub by : offer.port ≡ offered_port offers who
 
 pub offered-from : (offers : List Offer) (who : Pid) → is_offered offers who ≡ true → Offered offers who
 offered-from [] who e = absurd (false≢true e)
 offered-from (x ∷ xs) who e = elim (cases_Bool (nat_eq x.exporter.0 who.0)) [
-  | inl mine ↦ record { offer = x; stands = inl refl; mine = pid_exact x.exporter who mine; by = sym (port-first x xs who true mine) }
-  | inr other ↦ let r = offered-from xs who (sym (ap (λ b. b || is_offered xs who) other) ∙ e) in record { offer = r.offer; stands = inr r.stands; mine = r.mine; by = r.by ∙ sym (port-first x xs who false other) }
+  | inl mine ↦ record { offer = x; stands = inl refl; mine = pid_exact x.exporter who mine }
+  | inr other ↦ let r = offered-from xs who (sym (ap (λ b. b || is_offered xs who) other) ∙ e) in record { offer = r.offer; stands = inr r.stands; mine = r.mine }
 ]

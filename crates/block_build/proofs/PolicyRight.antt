@@ -6,9 +6,9 @@ use Rattle.classifier.specs.Meaning as lines
 use Rattle.net_types.proofs.CubeLemmas.{has_option, has-meet, has-met, has-everything, option_ext, some_from_has, witness}
 use Rattle.net_types.proofs.MeetLemmas.{IsMeet-everything, IsMeet-meet, IsMeet-member, IsMeet-wider, IsMeet-append_left, IsMeet-append_right, meets-IsMeet}
 use Rattle.net_types.proofs.SetLemmas
-use Rattle.net_types.proofs.WidthLemmas.{no_longer, meets-Differ}
+use Rattle.net_types.proofs.WidthLemmas.{no_longer, meets-HasNoRepeats}
 use Rattle.net_types.proofs.MeetLemmas.{IsMeet-meets}
-use Rattle.net_types.specs.Answers.{Policies, is_offered, leaves_by, offered_port, or_unchanged, part_answer, policy_of, received_at, sent}
+use Rattle.net_types.specs.Answers.{Policies, is_offered, leaves_by, offered_hole, offered_port, or_unchanged, part_answer, policy_of, received_at, sent}
 use Rattle.net_types.specs.Cells.{cell_atoms, freed, freed_from}
 use Rattle.net_types.specs.Cubes.{has, everything, agrees, same_port, port_is}
 use Rattle.net_types.specs.Meets.{IsMeet, meets}
@@ -24,10 +24,10 @@ use Rattle.net_types.specs.declared.headers.Loc.TheVariants.{Stay, To, Out, Nowh
 use Rattle.net_types.specs.declared.route.Offer.{Offer}
 use Rattle.net_types.specs.declared.route.Part.{Part}
 use Rattle.block_build.proofs.OfferLemmas.{offered-from}
-use Rattle.block_build.proofs.SentLemmas.{sent-offered, same_sent}
-use Rattle.block_build.specs.Laws.{IsViewOf, RightForPolicies, NoMoreCells}
-use Rattle.block_build.specs.Outcomes.{Makes, answer_from, atoms_from, received_from, sent_from}
-use Rattle.block_build.specs.Right.{view_atoms}
+use Rattle.block_build.proofs.SentLemmas.{answer-past, received_past, sent_plain, sent-offered, same_sent}
+use Rattle.block_build.specs.Laws.{IsViewOf, RightForPolicies, RightForViews, NoMoreCells}
+use Rattle.block_build.specs.Outcomes.{Makes, answer_from, atoms_from, received_from}
+use Rattle.block_build.specs.Right.{view_answer, view_atoms}
 use Rattle.block_build.specs.Views.{Viewed, inbound_of}
 
 -- ---- the answer depends on sets alone
@@ -41,12 +41,17 @@ same_unchanged hop h (x ∷ xs) (y ∷ ys) s =
 
 module _ (p : Part) (h : Headers) (there : is_offered p.offers p.best ≡ true) where
   -- what becomes of a packet that was sent somewhere, where the participants in the offers make the same sets
-  same_received : (inbound others : Pid → Makes) → ((o : Offer) → Member o p.offers → SameMembers (inbound o.exporter h) (others o.exporter h)) → (packets : List Packet) (l : Loc) → Member l (sent_from p packets)
-      → SameMembers (received_from inbound (offered_port p.offers) h l) (received_from others (offered_port p.offers) h l)
+  same_received : (inbound others : Pid → Makes) → ((o : Offer) → Member o p.offers → SameMembers (inbound o.exporter h) (others o.exporter h)) → (packets : List Packet) (l : Loc) → Member l (sent_plain p packets)
+      → SameMembers (received_past inbound p h l) (received_past others p h l)
   same_received inbound others s packets Stay k = SetLemmas.same_refl []
   same_received inbound others s packets (To who) k =
       let o = offered-from p.offers who (sent-offered p packets who there k) in
-      same_unchanged (offered_port p.offers who) h (inbound who h) (others who h) (subst (λ w. SameMembers (inbound w h) (others w h)) o.mine (s o.offer o.stands))
+      of (offered_hole p.offers who) (same_unchanged (offered_port p.offers who) h (inbound who h) (others who h) (subst (λ w. SameMembers (inbound w h) (others w h)) o.mine (s o.offer o.stands)))
+    where
+      of : (b : Bool) → SameMembers (or_unchanged (offered_port p.offers who) h (inbound who h)) (or_unchanged (offered_port p.offers who) h (others who h))
+          → SameMembers (received_from inbound (offered_port p.offers) h (cond b Nowhere (To who))) (received_from others (offered_port p.offers) h (cond b Nowhere (To who)))
+      of true same = SetLemmas.same_refl []
+      of false same = same
   same_received inbound others s packets (Out n) k = SetLemmas.same_refl []
   same_received inbound others s packets Nowhere k = SetLemmas.same_refl []
 
@@ -54,22 +59,22 @@ module _ (p : Part) (h : Headers) (there : is_offered p.offers p.best ≡ true) 
       → SameMembers (answer_from outbound inbound p h) (answer_from outbound' others p h)
   same_answer outbound outbound' inbound others s t =
       let same = same_sent p (outbound h) (outbound' h) s in
-      record {
+      SetLemmas.same_trans (SetLemmas.same_eq (answer-past outbound inbound p h)) (SetLemmas.same_trans (record {
         onto = λ x k.
-            let i = SetLemmas.union-Member (received_from inbound (offered_port p.offers) h) (sent_from p (outbound h)) x k in
-            SetLemmas.Member-union (received_from others (offered_port p.offers) h) (sent_from p (outbound' h)) i.of x (same.onto i.of i.stands)
+            let i = SetLemmas.union-Member (received_past inbound p h) (sent_plain p (outbound h)) x k in
+            SetLemmas.Member-union (received_past others p h) (sent_plain p (outbound' h)) i.of x (same.onto i.of i.stands)
             ((same_received inbound others t (outbound h) i.of i.stands).onto x i.gives);
         back = λ x k.
-            let i = SetLemmas.union-Member (received_from others (offered_port p.offers) h) (sent_from p (outbound' h)) x k in
+            let i = SetLemmas.union-Member (received_past others p h) (sent_plain p (outbound' h)) x k in
             let stands = same.back i.of i.stands in
-            SetLemmas.Member-union (received_from inbound (offered_port p.offers) h) (sent_from p (outbound h)) i.of x stands
+            SetLemmas.Member-union (received_past inbound p h) (sent_plain p (outbound h)) i.of x stands
             ((same_received inbound others t (outbound h) i.of stands).back x i.gives);
-      }
+      }) (SetLemmas.same_eq (sym (answer-past outbound' others p h))))
 
 -- by policies it is the part's answer
 policy_answer : (ps : Policies) (p : Part) (h : Headers) → answer_from (λ g. den ps.named (policy_of ps.outbound p.sender) g Stay) (λ who g. den ps.named (policy_of ps.inbound who) g Stay) p h ≡ part_answer ps p h
 policy_answer ps p h =
-    SetLemmas.union_ext (received_from (λ who g. den ps.named (policy_of ps.inbound who) g Stay) (offered_port p.offers) h) (received_at ps (offered_port p.offers) h) (sent ps.named (policy_of ps.outbound p.sender) (is_offered p.offers) p.best h) each
+    SetLemmas.union_ext (received_from (λ who g. den ps.named (policy_of ps.inbound who) g Stay) (offered_port p.offers) h) (received_at ps (offered_port p.offers) h) (sent ps.named (policy_of ps.outbound p.sender) (is_offered p.offers) (offered_hole p.offers) p.best h) each
   where
     each : (l : Loc) → received_from (λ who g. den ps.named (policy_of ps.inbound who) g Stay) (offered_port p.offers) h l ≡ received_at ps (offered_port p.offers) h l
     each Stay = refl
@@ -185,23 +190,31 @@ view_wider ps part port v is =
 
 -- ---- the laws
 
+-- by a view and by the policies that its classifiers were made of the answers are the same
+same_answers : (ps : Policies) (part : Part) (v : Viewed) → is_offered part.offers part.best ≡ true → IsViewOf ps part v → (h : Headers) → SameMembers (view_answer v part h) (part_answer ps part h)
+same_answers ps part v there is h =
+    SetLemmas.same_trans
+    (same_answer part h there (λ x. lines.meaning v.outbound x Stay) (λ x. den ps.named (policy_of ps.outbound part.sender) x Stay) (λ who x. lines.meaning (inbound_of v who) x Stay) (λ who x. den ps.named (policy_of ps.inbound who) x Stay)
+    (is.sends h) (λ o k. is.receives o k h))
+    (SetLemmas.same_eq (policy_answer ps part h))
+
 pub right_for_policies : RightForPolicies
 right_for_policies ps part port v rules there is right = record {
-  gives = λ h valid e.
-      let g = right.gives h e in (
-        g.0,
-        g.1,
-        SetLemmas.same_trans g.2
-            (SetLemmas.same_trans
-            (same_answer part h there (λ x. lines.meaning v.outbound x Stay) (λ x. den ps.named (policy_of ps.outbound part.sender) x Stay) (λ who x. lines.meaning (inbound_of v who) x Stay) (λ who x. den ps.named (policy_of ps.inbound who) x Stay)
-            (is.sends h) (λ o k. is.receives o k h))
-            (SetLemmas.same_eq (policy_answer ps part h))),
-      );
+  gives = λ h valid e. let g = right.gives h valid e in (g.0, g.1, SetLemmas.same_trans g.2 (same_answers ps part v there is h));
   differ = right.differ;
   meets = λ c k. IsMeet-wider (view_atoms v port part) (cell_atoms ps port part) (view_wider ps part port v is) c (right.meets c k);
+  ordered = right.ordered;
+}
+
+pub right_for_views : RightForViews
+right_for_views ps part port v rules there is right = record {
+  gives = λ h valid e. let g = right.gives h valid e in (g.0, g.1, SetLemmas.same_trans g.2 (SetLemmas.same_sym (same_answers ps part v there is h)));
+  differ = right.differ;
+  meets = right.meets;
+  ordered = right.ordered;
 }
 
 pub no_more_cells : NoMoreCells
 no_more_cells ps part port v is =
-    no_longer (meets (view_atoms v port part)) (meets (cell_atoms ps port part)) (meets-Differ (view_atoms v port part))
+    no_longer (meets (view_atoms v port part)) (meets (cell_atoms ps port part)) (meets-HasNoRepeats (view_atoms v port part))
     (λ c k. IsMeet-meets (cell_atoms ps port part) c (IsMeet-wider (view_atoms v port part) (cell_atoms ps port part) (view_wider ps part port v is) c (meets-IsMeet (view_atoms v port part) c k)))

@@ -1,5 +1,5 @@
 -- The rules that are built are right, and right rules are no more than the cells.
-use Rattle.std.proofs.Common.{◌≡◌, ◌≤◌, true, cond, suc, length, List, [], ◌∷◌, map, refl, inl, inr, sym, ap, ◌∙◌, subst}
+use Rattle.std.proofs.Common.{◌≡◌, ◌≤◌, Bool, true, false, cond, suc, length, List, [], ◌∷◌, map, refl, inl, inr, sym, ap, ◌∙◌, subst}
 use Rattle.std.specs.Prelude.{Option, Some, None, is_some, nat_eq}
 use Rattle.std.specs.List.{list_all}
 use Rattle.std.specs.Option.{option_map, option_map_or}
@@ -10,17 +10,19 @@ use Rattle.classifier.specs.Lines.{add_lines}
 use Rattle.classifier.specs.Meaning as lines
 use Rattle.classifier.specs.Meaning.{decide, given, meaning, HasDistinctCubes, ends_with_everything}
 use Rattle.classifier.specs.declared.line.Line.{Line}
-use Rattle.events.specs.Sound.{HasNoRepeats, cubes_of}
+use Rattle.events.specs.Sound.{cubes_of}
 use Rattle.events.specs.Table.{done_by, first_rule}
+use Rattle.net_types.proofs.ActionOrder.{actions_rise}
+use Rattle.net_types.proofs.CubeLemmas.{within_refl}
 use Rattle.net_types.proofs.FindLemmas.{find-IsFound}
 use Rattle.net_types.proofs.MeetLemmas.{IsMeet-meets}
 use Rattle.net_types.proofs.SetLemmas
 use Rattle.net_types.proofs.WidthLemmas.{no_longer}
+use Rattle.net_types.specs.Actions.{AreInOrder}
 use Rattle.net_types.specs.Answers.{is_offered}
-use Rattle.net_types.specs.Cubes.{has}
+use Rattle.net_types.specs.Cubes.{everything, has}
 use Rattle.net_types.specs.Meets.{IsMeet, meets}
-use Rattle.net_types.specs.Sets.{IsRising, Member}
-use Rattle.net_types.specs.Widths.{Differ}
+use Rattle.net_types.specs.Sets.{Member, HasNoRepeats}
 use Rattle.net_types.specs.declared.address.Pid.{Pid}
 use Rattle.net_types.specs.declared.address.PortNo.{PortNo}
 use Rattle.net_types.specs.declared.cube.Cube.{Cube}
@@ -30,12 +32,11 @@ use Rattle.net_types.specs.declared.route.Part.{Part}
 use Rattle.net_types.specs.declared.rule.Rule.{Rule}
 use Rattle.block_build.proofs.AnswerBlocks.{left-outs, outs-answer}
 use Rattle.block_build.proofs.DecideBlocks.{AreTotal, decide-restricted, decide-blocks, ends-received, gathered_by}
-use Rattle.block_build.proofs.ActionOrder.{actions_rise}
 use Rattle.block_build.specs.Offers.{each_once}
-use Rattle.block_build.specs.Receivers.{receiver, receivers}
+use Rattle.block_build.specs.Receivers.{discarding, receiver, received_lines, receivers}
 use Rattle.block_build.specs.Bounds.{AreMeets}
-use Rattle.block_build.specs.Right.{ActionsRise, IsRightFor, view_atoms}
-use Rattle.block_build.specs.Rules.{actions_in, is_before, actions_of, rule_of, rules_of}
+use Rattle.block_build.specs.Right.{IsRightFor, view_atoms}
+use Rattle.block_build.specs.Rules.{actions_in, actions_of, rule_of, rules_of}
 use Rattle.block_build.specs.Spreads.{restricted, blocks, built}
 use Rattle.block_build.specs.Views.{Viewed, IsTotal, entry_of, rules_in, inbound_of, has_all}
 use Rattle.block_build.specs.declared.receive.Receiver.{Receiver}
@@ -93,7 +94,11 @@ offered-total v offers t all o k = found_total v.inbound o.exporter t.inbound (a
 receivers-total : (inbound : Pid → List Line) (offers : List Offer) → ((o : Offer) → Member o offers → ends_with_everything (inbound o.exporter) ≡ true) → AreTotal (receivers inbound offers)
 receivers-total inbound offers each r k =
     let i = SetLemmas.map-Member (receiver inbound) offers r k in
-    ap (λ (q : Receiver). ends_with_everything q.lines) i.is ∙ ends-received i.of.port (inbound i.of.exporter) ∙ each i.of i.stands
+    ap (λ (q : Receiver). ends_with_everything q.lines) i.is ∙ of i.of.hole i.of.port (inbound i.of.exporter) (each i.of i.stands)
+  where
+    of : (b : Bool) (port : PortNo) (ys : List Line) → ends_with_everything ys ≡ true → ends_with_everything (cond b discarding (received_lines port ys)) ≡ true
+    of true port ys t = within_refl everything
+    of false port ys t = ends-received port ys ∙ t
 
 -- ---- the rules that are built
 
@@ -109,7 +114,7 @@ module _ (v : Viewed) (port : PortNo) (p : Part) (t : IsTotal v) (there : is_off
 
   pub right-built : HasDistinctCubes (built v port p) → AreMeets (view_atoms v port p) (built v port p) → IsRightFor v port p (rules_of (built v port p))
   right-built differ meets = record {
-    gives = λ h e.
+    gives = λ h valid e.
         let m = match-rules (built v port p) h (gathered_by p.best p.offers (receivers (inbound_of v) p.offers) h (given v.outbound h)) (decided h e) in (
           m.rule,
           m.first,
@@ -120,16 +125,15 @@ module _ (v : Viewed) (port : PortNo) (p : Part) (t : IsTotal v) (there : is_off
     meets = λ c k.
         let i = SetLemmas.map-Member (λ (z : Line). z.cube) (built v port p) c (subst (Member c) (cubes-rules (built v port p)) k) in
         subst (IsMeet (view_atoms v port p)) (sym i.is) (meets i.of i.stands);
+    ordered = λ rule k.
+        let i = SetLemmas.map-Member rule_of (built v port p) rule k in
+        subst (λ (r : Rule). AreInOrder r.actions) (sym i.is) (actions_rise (actions_in i.of.results));
   }
 
 -- ---- right rules are no more than the cells
 
-differ-repeats : {A : Type 0} (xs : List A) → HasNoRepeats xs → Differ xs
-differ-repeats [] d = tt
-differ-repeats (x ∷ xs) d = (λ k. d.0 k, differ-repeats xs d.1)
-
 pub within_cells : (atoms cubes : List Cube) → HasNoRepeats cubes → ((c : Cube) → Member c cubes → IsMeet atoms c) → length cubes ≤ length (meets atoms)
-within_cells atoms cubes d each = no_longer cubes (meets atoms) (differ-repeats cubes d) (λ c k. IsMeet-meets atoms c (each c k))
+within_cells atoms cubes d each = no_longer cubes (meets atoms) d (λ c k. IsMeet-meets atoms c (each c k))
 
 length-cubes : (xs : List Line) → length (lines.cubes_of xs) ≡ length xs
 length-cubes [] = refl
@@ -140,10 +144,3 @@ pub lines_within : (atoms : List Cube) (xs : List Line) → HasDistinctCubes xs 
 lines_within atoms xs d each =
     subst (λ n. n ≤ length (meets atoms)) (length-cubes xs) (within_cells atoms (lines.cubes_of xs) (no_repeats xs d) (λ c k.
     let i = SetLemmas.map-Member (λ (z : Line). z.cube) xs c k in subst (IsMeet atoms) (sym i.is) (each i.of i.stands)))
-
--- ---- the actions of the rules rise
-
-pub rules_rise : (xs : List Line) → ActionsRise (rules_of xs)
-rules_rise xs rule k =
-    let i = SetLemmas.map-Member rule_of xs rule k in
-    subst (λ (r : Rule). IsRising is_before r.actions) (sym i.is) (actions_rise (actions_in i.of.results))

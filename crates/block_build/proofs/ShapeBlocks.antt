@@ -1,12 +1,12 @@
 -- The cubes of the rules that are built are meets of those that count.
-use Rattle.std.proofs.Common.{◌≡◌, Bool, true, false, cond, List, [], ◌∷◌, ◌++◌, map, refl, inl, inr, ap, ◌∙◌, subst}
+use Rattle.std.proofs.Common.{◌≡◌, Bool, true, false, cond, List, [], ◌∷◌, ◌++◌, map, refl, inl, inr, sym, ap, ◌∙◌, subst}
 use Rattle.classifier.proofs.LineLemmas.{EachLine, each-add_lines, each-product}
 use Rattle.classifier.specs.Items.{Item}
 use Rattle.classifier.specs.Lines.{line, add_lines, product}
 use Rattle.classifier.specs.Meaning.{cubes_of}
 use Rattle.classifier.specs.declared.join.Join.TheVariants.{Union}
 use Rattle.classifier.specs.declared.line.Line.{Line}
-use Rattle.net_types.proofs.MeetLemmas.{IsMeet-meet, IsMeet-member}
+use Rattle.net_types.proofs.MeetLemmas.{IsMeet-everything, IsMeet-meet, IsMeet-member}
 use Rattle.net_types.proofs.SetLemmas
 use Rattle.net_types.specs.Cells.{freed}
 use Rattle.net_types.specs.Meets.{IsMeet}
@@ -19,7 +19,7 @@ use Rattle.net_types.specs.declared.route.Part.{Part}
 use Rattle.block_build.specs.Bounds.{AreMeets, AreTheirMeets}
 use Rattle.block_build.specs.Offers.{goes_to}
 use Rattle.block_build.specs.Outcomes.{atoms_from}
-use Rattle.block_build.specs.Receivers.{received_lines, receiver, receivers}
+use Rattle.block_build.specs.Receivers.{discarding, received_lines, receiver, receivers}
 use Rattle.block_build.specs.Spreads.{restricted, beside, spread}
 use Rattle.block_build.specs.declared.receive.Receiver.{Receiver}
 
@@ -67,14 +67,25 @@ module _ (inbound : Pid → List Line) (p : Part) (port : PortNo) (outbound : Li
   abbrev atoms : List Cube
   atoms = atoms_from port (cubes_of outbound) (λ who. cubes_of (inbound who)) p
 
-  pub their-meets : AreTheirMeets atoms (receivers inbound p.offers)
-  their-meets r k z h =
-      let i = SetLemmas.map-Member (receiver inbound) p.offers r k in
+  received-meets : (o : Offer) → Member o p.offers → AreMeets atoms (received_lines o.port (inbound o.exporter))
+  received-meets o stands z h =
       IsMeet-member atoms z.cube
-      (SetLemmas.Member-append_right (union_over (freed port) (cubes_of outbound)) (union_over (λ (o : Offer). cubes_of (inbound o.exporter)) p.offers) z.cube
-      (SetLemmas.Member-union (λ (o : Offer). cubes_of (inbound o.exporter)) p.offers i.of z.cube i.stands
-      (subst (Member z.cube) (cubes-received i.of.port (inbound i.of.exporter))
-      (cube-stands (received_lines i.of.port (inbound i.of.exporter)) z (subst (λ (q : Receiver). Member z q.lines) i.is h)))))
+      (SetLemmas.Member-append_right (union_over (freed port) (cubes_of outbound)) (union_over (λ (x : Offer). cubes_of (inbound x.exporter)) p.offers) z.cube
+      (SetLemmas.Member-union (λ (x : Offer). cubes_of (inbound x.exporter)) p.offers o z.cube stands
+      (subst (Member z.cube) (cubes-received o.port (inbound o.exporter)) (cube-stands (received_lines o.port (inbound o.exporter)) z h))))
+
+  discarding-meets : AreMeets atoms discarding
+  discarding-meets z (inl e) = subst (IsMeet atoms) (ap (λ (x : Line). x.cube) (sym e)) (IsMeet-everything atoms)
+  discarding-meets z (inr k) = elim k [ ]
+
+  pub their-meets : AreTheirMeets atoms (receivers inbound p.offers)
+  their-meets r k =
+      let i = SetLemmas.map-Member (receiver inbound) p.offers r k in
+      subst (λ (q : Receiver). AreMeets atoms q.lines) (sym i.is) (of i.of.hole (received_lines i.of.port (inbound i.of.exporter)) (received-meets i.of i.stands))
+    where
+      of : (b : Bool) (ys : List Line) → AreMeets atoms ys → AreMeets atoms (cond b discarding ys)
+      of true ys f = discarding-meets
+      of false ys f = f
 
   restricted-meets : AreMeets atoms (restricted port outbound)
   restricted-meets z k =

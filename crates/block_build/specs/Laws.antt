@@ -1,7 +1,7 @@
--- What is right for a view is right for the policies that its classifiers were made of.
+-- What is right for a view is right for the policies that its classifiers were made of, and the other way round.
 use Rattle.std.specs.Prelude.{◌≡◌, ◌≤◌, true, List, length, None}
 use Rattle.classifier.specs.Meaning as lines
-use Rattle.events.specs.Sound.{IsRight, cubes_of}
+use Rattle.events.specs.Sound.{IsRight, IsRightBy, cubes_of}
 use Rattle.net_types.specs.Answers.{Policies, is_offered, policy_of}
 use Rattle.net_types.specs.Cells.{cell_atoms}
 use Rattle.net_types.specs.Meets.{IsMeet, meets}
@@ -14,7 +14,7 @@ use Rattle.net_types.specs.declared.headers.Loc.TheVariants.{Stay}
 use Rattle.net_types.specs.declared.route.Offer.{Offer}
 use Rattle.net_types.specs.declared.route.Part.{Part}
 use Rattle.net_types.specs.declared.rule.Rule.{Rule}
-use Rattle.block_build.specs.Right.{IsRightFor, view_cells}
+use Rattle.block_build.specs.Right.{IsRightFor, view_answer, view_cells}
 use Rattle.block_build.specs.Views.{Viewed, inbound_of}
 
 -- The rules of a view do what the policies of a part's sender and of the participants in its offers do, and their cubes
@@ -30,6 +30,13 @@ abbrev pub RightForPolicies : Type 0
 RightForPolicies =
     (ps : Policies) (part : Part) (port : PortNo) (v : Viewed) (rules : List Rule) → is_offered part.offers part.best ≡ true → IsViewOf ps part v
     → IsRightFor v port part rules → IsRight ps part port rules
+
+-- Rules that are right for the policies are right for a view but for their cubes, which stay meets of the policies' atoms: a
+-- view may have fewer cells.
+abbrev pub RightForViews : Type 0
+RightForViews =
+    (ps : Policies) (part : Part) (port : PortNo) (v : Viewed) (rules : List Rule) → is_offered part.offers part.best ≡ true → IsViewOf ps part v
+    → IsRight ps part port rules → IsRightBy port (view_answer v part) (cell_atoms ps port part) rules
 
 -- a view has no more cells than the policies
 abbrev pub NoMoreCells : Type 0

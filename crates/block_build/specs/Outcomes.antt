@@ -1,6 +1,6 @@
 -- How a packet leaves by what the sender and the receivers make of it, whatever makes it: policies, or classifiers.
 use Rattle.std.specs.Prelude.{List, [], ◌++◌}
-use Rattle.net_types.specs.Answers.{Leaving, is_offered, offered_port, or_default, or_unchanged, sent_to}
+use Rattle.net_types.specs.Answers.{Leaving, is_offered, offered_hole, offered_port, or_default, or_unchanged, sent_to}
 use Rattle.net_types.specs.Cells.{freed}
 use Rattle.net_types.specs.Policies.{Packet}
 use Rattle.net_types.specs.Sets.{union_over}
@@ -24,9 +24,10 @@ received_from inbound port h Stay = []
 received_from inbound port h Nowhere = []
 received_from inbound port h (Out n) = []
 
--- where the sender's results go, with default forwarding
+-- where the sender's results go, with default forwarding; what goes to a hole is discarded
 abbrev pub sent_from : Part → List Packet → List Loc
-sent_from p packets = or_default p.best (union_over (λ (packet : Packet). sent_to (is_offered p.offers) p.best packet.1) packets)
+sent_from p packets =
+    or_default (offered_hole p.offers) p.best (union_over (λ (packet : Packet). sent_to (is_offered p.offers) (offered_hole p.offers) p.best packet.1) packets)
 
 -- a part's answer by what the sender makes of a packet and what each receiver does
 abbrev pub answer_from : Makes → (Pid → Makes) → Part → Headers → List Leaving

@@ -1,8 +1,9 @@
 -- The rules of receivers, as ports to leave by.
-use Rattle.std.specs.Prelude.{Option, Some, None, List, [], ◌∷◌, map}
+use Rattle.std.specs.Prelude.{Option, Some, None, List, [], ◌∷◌, map, if◌then◌else◌}
 use Rattle.classifier.specs.Items.{Item, add}
 use Rattle.classifier.specs.Lines.{line}
 use Rattle.classifier.specs.declared.line.Line.{Line}
+use Rattle.net_types.specs.Cubes.{everything}
 use Rattle.net_types.specs.Headers.{no_change}
 use Rattle.net_types.specs.declared.address.Pid.{Pid}
 use Rattle.net_types.specs.declared.address.PortNo.{PortNo}
@@ -39,9 +40,13 @@ abbrev pub received_lines : PortNo → List Line → List Line
 received_lines hop [] = []
 received_lines hop (x ∷ xs) = line (received_items hop x.results) x.cube ∷ received_lines hop xs
 
--- a participant in the offers, with its rules as ports to leave by
+-- the rules of a hole: everything is discarded
+abbrev pub discarding : List Line
+discarding = line [] everything ∷ []
+
+-- a participant in the offers, with its rules as ports to leave by; by a hole nothing leaves, whatever the rules are
 abbrev pub receiver : (Pid → List Line) → Offer → Receiver
-receiver inbound o = record { who = o.exporter; lines = received_lines o.port (inbound o.exporter) }
+receiver inbound o = record { who = o.exporter; lines = if o.hole then discarding else received_lines o.port (inbound o.exporter) }
 
 -- the participants in the offers, each with its rules
 abbrev pub receivers : (Pid → List Line) → List Offer → List Receiver

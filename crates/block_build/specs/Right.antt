@@ -1,11 +1,9 @@
 -- When rules are right for a view, and when there may be none (this exchange's own rule).
-use Rattle.std.specs.Prelude.{◌≡◌, ℕ, ◌<◌, ◌≤◌, List, map, length, Some}
+use Rattle.std.specs.Prelude.{ℕ, ◌<◌, ◌≤◌, List, length}
 use Rattle.classifier.specs.Meaning as lines
-use Rattle.events.specs.Sound.{HasNoRepeats, cubes_of}
-use Rattle.events.specs.Table.{done_by, first_rule}
+use Rattle.events.specs.Sound.{IsRightBy}
 use Rattle.net_types.specs.Answers.{Leaving}
-use Rattle.net_types.specs.Meets.{IsMeet, meets}
-use Rattle.net_types.specs.Sets.{IsRising, Member, SameMembers}
+use Rattle.net_types.specs.Meets.{meets}
 use Rattle.net_types.specs.declared.address.PortNo.{PortNo}
 use Rattle.net_types.specs.declared.cube.Cube.{Cube}
 use Rattle.net_types.specs.declared.headers.Headers.{Headers}
@@ -13,17 +11,9 @@ use Rattle.net_types.specs.declared.headers.Loc.TheVariants.{Stay}
 use Rattle.net_types.specs.declared.route.Part.{Part}
 use Rattle.net_types.specs.declared.rule.Rule.{Rule}
 use Rattle.block_build.specs.Outcomes.{answer_from, atoms_from}
-use Rattle.block_build.specs.Rules.{is_before}
 use Rattle.block_build.specs.Views.{Viewed, inbound_of}
 use Rattle.block_build.specs.declared.block.BuildFault.{BuildFault}
 use Rattle.block_build.specs.declared.block.BuildFault.TheVariants.{Wide, Memory}
-
--- For all headers at the port some rule has them, and the first one that has them gives this answer. The cubes differ, and
--- each is a meet of the atoms.
-pub record IsRightBy (port : PortNo) (answer : Headers → List Leaving) (atoms : List Cube) (rules : List Rule) : Type 0 where
-  pub gives : (h : Headers) → h.inport ≡ port → (rule : Rule) × (first_rule rules h ≡ Some rule) × SameMembers (map (done_by h) rule.actions) (answer h)
-  pub differ : HasNoRepeats (cubes_of rules)
-  pub meets : (c : Cube) → Member c (cubes_of rules) → IsMeet atoms c
 
 -- a part's answer by the rules of a view
 abbrev pub view_answer : Viewed → Part → Headers → List Leaving
@@ -36,10 +26,6 @@ view_atoms v port part = atoms_from port (lines.cubes_of v.outbound) (λ who. li
 -- the rules are right for a view, a port and a part
 abbrev pub IsRightFor : Viewed → PortNo → Part → List Rule → Type 0
 IsRightFor v port part rules = IsRightBy port (view_answer v part) (view_atoms v port part) rules
-
--- the actions of each rule rise: by port, and then by what they set
-abbrev pub ActionsRise : List Rule → Type 0
-ActionsRise rules = (rule : Rule) → Member rule rules → IsRising is_before rule.actions
 
 -- how many different cubes right rules for a view can have
 abbrev pub view_cells : Viewed → PortNo → Part → ℕ

@@ -1,35 +1,15 @@
 -- Rules over ports to leave by, as rules of the table.
-use Rattle.std.specs.Prelude.{Bool, List, [], ◌∷◌, map}
-use Rattle.std.specs.Option.{option_cmp}
-use Rattle.std.specs.Ordering.{is_lt, nat_cmp, ordering_then}
-use Rattle.std.specs.declared.cmp.Ordering.{Ordering}
+use Rattle.std.specs.Prelude.{List, [], ◌∷◌, map}
 use Rattle.classifier.specs.Items.{Item}
 use Rattle.classifier.specs.declared.line.Line.{Line}
+use Rattle.net_types.specs.Actions.{action_cmp}
 use Rattle.net_types.specs.Maps.{ordered}
 use Rattle.net_types.specs.Sets.{union_over}
-use Rattle.net_types.specs.declared.address.Ip.{Ip}
 use Rattle.net_types.specs.declared.headers.Assign.{Assign}
 use Rattle.net_types.specs.declared.headers.Loc.{Loc}
 use Rattle.net_types.specs.declared.headers.Loc.TheVariants.{Stay, To, Out, Nowhere}
 use Rattle.net_types.specs.declared.actions.Action.{Action}
 use Rattle.net_types.specs.declared.rule.Rule.{Rule}
-
--- addresses by their numbers
-abbrev pub ip_cmp : Ip → Ip → Ordering
-ip_cmp a b = nat_cmp a.0 b.0
-
--- assignments by srcip, dstip, srcport and dstport, an absent field before a present one
-abbrev pub assign_cmp : Assign → Assign → Ordering
-assign_cmp a b =
-    ordering_then (option_cmp ip_cmp a.src b.src) (ordering_then (option_cmp ip_cmp a.dst b.dst) (ordering_then (option_cmp nat_cmp a.sport b.sport) (option_cmp nat_cmp a.dport b.dport)))
-
--- actions by port, and then by what they set
-abbrev pub action_cmp : Action → Action → Ordering
-action_cmp a b = ordering_then (nat_cmp a.port.0 b.port.0) (assign_cmp a.set b.set)
-
--- an action stands before another
-abbrev pub is_before : Action → Action → Bool
-is_before a b = is_lt (action_cmp a b)
 
 -- what leaves by a port, as an action
 abbrev pub action_at : Assign → Loc → List Action

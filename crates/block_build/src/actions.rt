@@ -1,39 +1,11 @@
 //! Rules over ports to leave by, as rules of the table.
 
 ghost use Rattle.std.specs.Prelude.{◌≡◌, ◌++◌, IfOk, OnOk};
-ghost use Rattle.net_types.specs.Maps.{ordered};
-ghost use Rattle.block_build.specs.Rules.{action_at, action_cmp, actions_in, actions_of, assign_cmp, rule_of, rules_of};
+ghost use Rattle.block_build.specs.Rules.{action_at, actions_in, actions_of, rule_of, rules_of};
 
 use classifier::Line;
-use net_types::{Action, Actions, Assign, Items, Loc, Memory, Rule};
+use net_types::{Action, Actions, Assign, Loc, Memory, Rule};
 use std::alloc::Global;
-use std::cmp::Ordering;
-
-/// By srcip, dstip, srcport and dstport, an absent field before a present one.
-fn order_sets(a: &Assign, b: &Assign) -> Ordering
-    ensures { result ≡ assign_cmp a.now b.now }
-{
-    let ports = a.sport.cmp(&b.sport).then(a.dport.cmp(&b.dport));
-    let targets = a.dst.cmp(&b.dst).then(ports);
-    a.src.cmp(&b.src).then(targets)
-}
-
-/// By port, and then by what they set.
-fn order(a: &Action, b: &Action) -> Ordering
-    ensures { result ≡ action_cmp a.now b.now }
-{
-    let sets = order_sets(&a.set, &b.set);
-    a.port.0.cmp(&b.port.0).then(sets)
-}
-
-/// The same actions in order, each once.
-fn ascending(mut actions: Vec<Action>) -> Vec<Action>
-    ensures { result.items ≡ ordered action_cmp actions.items }
-{
-    actions.sort_unstable_by(|a, b| order(a, b));
-    actions.dedup_by(|a, b| order(a, b).is_eq());
-    actions
-}
 
 /// Puts the action of what leaves by a port last.
 fn push_action(actions: &mut Vec<Action>, set: Assign, loc: Loc) -> Result<(), Memory>
@@ -61,7 +33,7 @@ fn actions_of(alloc: Global, items: &[(Assign, Loc)]) -> Result<Actions, Memory>
     ensures { IfOk result (λ a. a ≡ actions_of items.now) }
 {
     let actions = actions_in(alloc, items)?;
-    Ok(Items::from_vec(ascending(actions)))
+    Ok(Actions::from_vec(actions))
 }
 
 /// The rules of the table.

@@ -3,7 +3,7 @@
 ghost use Rattle.std.specs.Prelude.{◌≡◌, ◌+◌, ◌≤◌, IsTrue, IfOk, IfErr, length};
 ghost use Rattle.net_types.specs.Answers.{is_offered};
 ghost use Rattle.block_build.specs.Offers.{each_once};
-ghost use Rattle.block_build.specs.Right.{ActionsRise, IsRightFor, IsWide, view_cells};
+ghost use Rattle.block_build.specs.Right.{IsRightFor, IsWide, view_cells};
 ghost use Rattle.block_build.specs.Rules.{rules_of};
 ghost use Rattle.block_build.specs.Views.{has_all};
 
@@ -36,8 +36,7 @@ fn lines_for(
 }
 
 /// The rules for what comes in by a port and is sent by a part of a signature, by the classifiers of a view. It counts one
-/// step. The actions of each rule rise by port and then by what they set. Where it finds more rules than the room it stops,
-/// and answers how many it found.
+/// step. What goes to a hole is discarded. Where it finds more rules than the room it stops, and answers how many it found.
 pub fn build<L: Ledger>(
     alloc: Global,
     view: &View<'_>,
@@ -51,7 +50,6 @@ pub fn build<L: Ledger>(
     requires all { IsTrue (has_all view.now part.now.offers) }
     ensures step { steps.new ≡ steps.old + 1 }
     ensures right { IfOk result (λ block. IsRightFor view.now port part.now block) }
-    ensures actions { IfOk result (λ block. ActionsRise block) }
     ensures room { IfOk result (λ block. length block ≤ room) }
     ensures wide { IfErr result (λ fault. IsWide room (view_cells view.now port part.now) fault) }
 {

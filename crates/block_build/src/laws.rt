@@ -1,10 +1,15 @@
-//! What is right for a view is right for the policies. The functions have empty bodies, and their contracts are the laws.
+//! What is right for a view is right for the policies, and the other way round. The functions have empty bodies, and their contracts are the laws.
 
-ghost use Rattle.block_build.specs.Laws.{NoInports, NoMoreCells, RightForPolicies};
+ghost use Rattle.block_build.specs.Laws.{NoInports, NoMoreCells, RightForPolicies, RightForViews};
 
 /// Rules that are right for a view are right for the policies that its classifiers were made of.
 pub fn right_for_policies()
     ensures { RightForPolicies }
+{}
+
+/// Rules that are right for the policies give what a view gives, with cubes that differ and actions in order.
+pub fn right_for_views()
+    ensures { RightForViews }
 {}
 
 /// A view has no more cells than the policies that its classifiers were made of.

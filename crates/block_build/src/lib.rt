@@ -14,5 +14,5 @@ mod view;
 
 pub use block::{Block, BuildFault};
 pub use building::build;
-pub use laws::{no_inports, no_more_cells, right_for_policies};
+pub use laws::{no_inports, no_more_cells, right_for_policies, right_for_views};
 pub use view::View;

@@ -3,15 +3,15 @@
 ghost use Rattle.std.specs.Prelude.{◌≡◌, ◌∷◌, [], IfOk, OnOk};
 ghost use Rattle.net_types.specs.Headers.{no_change};
 ghost use Rattle.net_types.specs.declared.headers.Loc.TheVariants.{Out};
-ghost use Rattle.block_build.specs.Receivers.{add_exit, add_exits, exit_of, received_items, received_lines, receiver, receivers};
+ghost use Rattle.block_build.specs.Receivers.{add_exit, add_exits, discarding, exit_of, received_items, received_lines, receiver, receivers};
 ghost use Rattle.block_build.specs.Views.{inbound_of};
 
 use crate::view::View;
 use classifier::{Line, Lines, Results};
-use net_types::{Assign, Items, Loc, Memory, Offer, Pid, PortNo};
+use net_types::{Assign, Cube, Items, Loc, Memory, Offer, Pid, PortNo};
 use std::alloc::Global;
 
-/// A participant in the offers, with its rules as ports to leave by.
+/// A participant in the offers, with its rules as ports to leave by. By a hole nothing leaves.
 #[derive(Drop)]
 pub struct Receiver {
     pub who: Pid,
@@ -85,11 +85,27 @@ fn received_lines(alloc: Global, hop: PortNo, xs: &[Line]) -> Result<Vec<Line>, 
     Ok(lines)
 }
 
-/// The participant of an offer, with its rules.
+/// The rules of a hole: everything is discarded.
+fn discarding(alloc: Global) -> Result<Vec<Line>, Memory>
+    ensures { IfOk result (λ v. v.items ≡ discarding) }
+{
+    let mut lines = Vec::new(alloc);
+    lines.push(Line {
+        cube: Cube::everything(),
+        results: Results::new(alloc),
+    })?;
+    Ok(lines)
+}
+
+/// The participant of an offer, with its rules, or those of a hole.
 fn receiver_of(alloc: Global, view: &View<'_>, offer: &Offer) -> Result<Receiver, Memory>
     ensures { IfOk result (λ r. r ≡ receiver (inbound_of view.now) offer.now) }
 {
-    let lines = received_lines(alloc, offer.port, view.inbound(offer.exporter))?;
+    let lines = if offer.hole {
+        discarding(alloc)?
+    } else {
+        received_lines(alloc, offer.port, view.inbound(offer.exporter))?
+    };
     Ok(Receiver {
         who: offer.exporter,
         lines: Items::from_vec(lines),

@@ -80,23 +80,25 @@ fn compiled(alloc: Global, policy: Policy) -> Result<Classifier, Memory> {
     }
 }
 
-/// The offers of participant 1 by port 2, and of participant 2 by port 3.
-fn offers(alloc: Global) -> Result<Offers, Memory>
-    ensures { IfOk result (λ list. list ≡ record { exporter = record { 0 = 1 }; port = record { 0 = 2 } } ∷ record { exporter = record { 0 = 2 }; port = record { 0 = 3 } } ∷ []) }
+/// The offers of participant 1 by port 2, and of participant 2 by port 3, and which of them are holes.
+fn offers(alloc: Global, holes: (bool, bool)) -> Result<Offers, Memory>
+    ensures { IfOk result (λ list. list ≡ record { exporter = record { 0 = 1 }; port = record { 0 = 2 }; hole = holes.0 } ∷ record { exporter = record { 0 = 2 }; port = record { 0 = 3 }; hole = holes.1 } ∷ []) }
 {
     let mut list = Offers::new(alloc);
     list.push(Offer {
         exporter: Pid(1),
         port: PortNo(2),
+        hole: holes.0,
     })?;
     list.push(Offer {
         exporter: Pid(2),
         port: PortNo(3),
+        hole: holes.1,
     })?;
     Ok(list)
 }
 
-/// The policies of participants 0, 1 and 2, how many rules they make at port 1, where the best route is that of participant
+/// The policies of participants 0, 1 and 2, which of the two offers are holes, how many rules they make at port 1, where the best route is that of participant
 /// 1, and the actions for packets to ports 80 and 443:
 /// by which port each goes, and the destination port that it sets.
 #[derive(Clone, Copy)]
@@ -105,6 +107,7 @@ struct Row {
     outbound: Policy,
     first: Policy,
     second: Policy,
+    holes: (bool, bool),
     rules: usize,
     web: &'static [(u16, Option<u16>)],
     other: &'static [(u16, Option<u16>)],
@@ -115,6 +118,7 @@ const DROPS: Row = Row {
     outbound: Policy::Drops,
     first: Policy::Drops,
     second: Policy::Drops,
+    holes: (false, false),
     rules: 1,
     web: &[(2, None)],
     other: &[(2, None)],
@@ -198,6 +202,48 @@ const RECEIVED: [Row; 6] = [
     },
 ];
 
+const HOLES: [Row; 5] = [
+    Row {
+        name: "nothing leaves where the best offer is a hole",
+        holes: (true, false),
+        web: &[],
+        other: &[],
+        ..DROPS
+    },
+    Row {
+        name: "what is sent to a hole isn't sent to the best one in its place",
+        outbound: Policy::Web(SECOND),
+        holes: (false, true),
+        rules: 2,
+        web: &[],
+        ..DROPS
+    },
+    Row {
+        name: "the second is sent to where the best offer is a hole",
+        outbound: Policy::WebBeside(SECOND),
+        holes: (true, false),
+        rules: 2,
+        web: &[(3, None)],
+        other: &[],
+        ..DROPS
+    },
+    Row {
+        name: "the best one is sent to beside a hole",
+        outbound: Policy::WebBeside(SECOND),
+        holes: (false, true),
+        rules: 2,
+        ..DROPS
+    },
+    Row {
+        name: "what a receiver does doesn't matter where its offer is a hole",
+        first: Policy::Web(Loc::Out(PortNo(9))),
+        holes: (true, false),
+        web: &[],
+        other: &[],
+        ..DROPS
+    },
+];
+
 /// The actions of the first rule that has packets to a port.
 fn actions_on(rules: &[Rule], dport: u16) -> &[Action] {
     let h = Headers {
@@ -249,7 +295,7 @@ fn passes<L: Ledger>(rt: &HostRuntime, blank: Blank, row: Row, room: usize) -> R
     let part = Part {
         sender: Pid(0),
         best: Pid(1),
-        offers: offers(alloc)?,
+        offers: offers(alloc, row.holes)?,
     };
     match build(alloc, &view, PortNo(1), &part, room, &mut steps) {
         Ok(block) => {
@@ -277,6 +323,17 @@ fn results_go_to_whom_they_name(rt: HostRuntime) -> Result<(), Fail> {
 fn receivers_say_how_it_leaves(rt: HostRuntime) -> Result<(), Fail> {
     for row in &RECEIVED {
         for room in [100, row.rules.saturating_sub(1)] {
+            let passed = passes::<Brand>(&rt, Blank::new(1), *row, room)?;
+            assert!(rt; passed, "{}", row.name);
+        }
+    }
+    Ok(())
+}
+
+#[test]
+fn nothing_leaves_by_holes(rt: HostRuntime) -> Result<(), Fail> {
+    for row in &HOLES {
+        for room in [row.rules, row.rules.saturating_sub(1)] {
             let passed = passes::<Brand>(&rt, Blank::new(1), *row, room)?;
             assert!(rt; passed, "{}", row.name);
         }

@@ -3,21 +3,15 @@ use Rattle.std.proofs.Common.{◌≡◌, ℕ, true, List, length, get_or, set, I
 use Rattle.std.specs.Prelude.{Some, None}
 use Rattle.std.specs.List as List
 use Rattle.std.specs.List.Sorted.{IsSearchInRange, IsBinarySearchResult}
-use Rattle.std.specs.Cmp.{IsTotalOrder, nat_cmp_total}
-use Rattle.std.specs.FinMap.{FinMap, IsAntisymmetric, get, insert, from_sorted, nat_cmp-IsAntisymmetric}
+use Rattle.std.specs.FinMap.{FinMap, get, insert, from_sorted}
 use Rattle.std.specs.FinMap.Entries.{is_sorted, put}
-use Rattle.std.proofs.lemmas.Cmp.{on_total}
 use Rattle.net_types.proofs.PlaceLemmas.{IsFoundAt, IsMissedAt, comparisons_rise, found_at, missed_at, get_sorted, put_sorted, insert_sorted}
 use Rattle.net_types.specs.declared.address.Ip.{Ip}
 use Rattle.net_types.specs.declared.address.Mac.{Mac}
-use Rattle.border_router.specs.Known.{Stations, ip_cmp}
+use Rattle.net_types.proofs.OrderLemmas.{ips_total}
+use Rattle.net_types.specs.Keys.{ip_cmp}
+use Rattle.border_router.specs.Known.{Stations}
 use Rattle.border_router.specs.Places.{IsAt, IsGapFor}
-
-pub ips_total : IsTotalOrder ip_cmp
-ips_total = on_total (λ (ip : Ip). ip.0) nat_cmp_total
-
-pub ip_cmp-IsAntisymmetric : IsAntisymmetric ip_cmp
-ip_cmp-IsAntisymmetric a b e = λ i. record { 0 = nat_cmp-IsAntisymmetric a.0 b.0 e i }
 
 -- a binary search ends at the address, or at the gap for it
 pub searched : (es : List (Ip × Mac)) (ip : Ip) (r : Result ℕ ℕ) → is_sorted ip_cmp es ≡ true → IsSearchInRange r (length es) → IsBinarySearchResult (λ e. ip_cmp e.0 ip) es r → IfOk r (IsAt es ip) × IfErr r (IsGapFor es ip)

@@ -1,16 +1,10 @@
 -- What a router knows, and what it is seen as.
 use Rattle.std.specs.Prelude.{ℕ, Bool, List, filter, is_none}
 use Rattle.std.specs.FinMap.{FinMap, get, values}
-use Rattle.std.specs.Ordering.{nat_cmp}
-use Rattle.std.specs.declared.cmp.Ordering.{Ordering}
-use Rattle.net_types.specs.Keys.{prefix_cmp}
+use Rattle.net_types.specs.Keys.{prefix_cmp, ip_cmp}
 use Rattle.net_types.specs.Maps.{ordered}
 use Rattle.net_types.specs.declared.address.Ip.{Ip}
 use Rattle.net_types.specs.declared.address.Mac.{Mac}
-
--- by number
-abbrev pub ip_cmp : Ip → Ip → Ordering
-ip_cmp a b = nat_cmp a.0 b.0
 
 -- the MACs of addresses, and how many new addresses go in without memory
 pub record Stations : Type 0 where

@@ -4,7 +4,7 @@ use Rattle.std.specs.List.{AllWithin, HoldsAt}
 use Rattle.std.specs.declared.cmp.Ordering.TheVariants.{Less, Equal, Greater}
 use Rattle.net_types.specs.declared.address.Ip.{Ip}
 use Rattle.net_types.specs.declared.address.Mac.{Mac}
-use Rattle.border_router.specs.Known.{ip_cmp}
+use Rattle.net_types.specs.Keys.{ip_cmp}
 
 -- the entry at this place has the address
 pub record IsAt (es : List (Ip × Mac)) (ip : Ip) (at : ℕ) : Type 0 where

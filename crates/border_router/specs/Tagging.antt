@@ -1,18 +1,14 @@
 -- The frame that a router makes of a datagram.
-use Rattle.std.specs.Prelude.{◌≡◌, ℕ, List, ◌∷◌, ◌++◌, length, Option, Some, None, IsTrue}
+use Rattle.std.specs.Prelude.{◌≡◌, ℕ, List, length, Option, Some, None, IsTrue}
 use Rattle.std.specs.Option.{option_and_then}
 use Rattle.std.specs.FinMap.{get, keys}
-use Rattle.net_types.specs.Frames.{has_headers}
+use Rattle.net_types.specs.Frames.{has_headers, framed}
 use Rattle.net_types.specs.Octets.{address_at}
 use Rattle.net_types.specs.Routes.{longest_of}
 use Rattle.net_types.specs.declared.address.Ip.{Ip}
 use Rattle.net_types.specs.declared.address.Mac.{Mac}
 use Rattle.net_types.specs.declared.prefix.Prefix.{Prefix}
 use Rattle.border_router.specs.Known.{Known}
-
--- an Ethernet frame from one MAC to another, with an IPv4 datagram
-abbrev pub framed : Mac → Mac → List ℕ → List ℕ
-framed to from datagram = to.0 ++ from.0 ++ 8 ∷ 0 ∷ datagram
 
 -- the datagram has headers, whatever the MACs of its frame are
 pub record HasHeaders (datagram : List ℕ) : Type 0 where

@@ -2,8 +2,8 @@
 
 ghost use Rattle.std.specs.Prelude.{◌≡◌, ◌≤◌, ◌<◌, ◌+◌, IsTrue, OnOk, IsOk, IfOk, IfErr};
 ghost use Rattle.std.specs.FinMap as map;
-ghost use Rattle.border_router.specs.Known.{ip_cmp};
 ghost use Rattle.border_router.specs.Places.{IsAt, IsGapFor};
+ghost use Rattle.net_types.specs.Keys.{ip_cmp};
 
 use net_types::{Ip, Mac, Memory};
 use std::alloc::Global;
@@ -20,7 +20,7 @@ impl Model for Addresses {
     ghost use Rattle.std.specs.Vec.{vec_len, vec_capacity};
     ghost use Rattle.std.specs.Coded.{codes};
     ghost use Rattle.std.specs.FinMap as map;
-    ghost use Rattle.border_router.specs.Known.{Stations, ip_cmp};
+    ghost use Rattle.border_router.specs.Known.{Stations};
 
     ghost Value = { Stations };
 

@@ -4,10 +4,11 @@
 ghost use Rattle.std.specs.Prelude.{◌≡◌, ◌≤◌, ◌<◌, ◌+◌, [], length, Err, Some, None, IsOk, OnOk, IfOk, ◌↔◌};
 ghost use Rattle.std.specs.FinMap as map;
 ghost use Rattle.border_router.specs.Hearing.{Answer, IsReply, IsReplyOf, announced, withdrawn, with_answer, with_news};
-ghost use Rattle.border_router.specs.Known.{asked, ip_cmp};
+ghost use Rattle.border_router.specs.Known.{asked};
 ghost use Rattle.net_types.specs.Maps.{ordered};
 ghost use Rattle.border_router.specs.Tagging.{HasHeaders, IsTagged, IsUnresolved, destination, prefix_to};
 ghost use Rattle.net_types.specs.declared.address.Ip.{Ip as Address};
+ghost use Rattle.net_types.specs.Keys.{ip_cmp};
 
 use crate::addresses::Addresses;
 use crate::fault::TagFault;

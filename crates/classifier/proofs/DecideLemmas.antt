@@ -1,10 +1,11 @@
 -- What the lists of the operations decide for headers.
 use Rattle.std.proofs.Common.{◌≡◌, Bool, true, false, ◌&&◌, cond, Option, Some, None, unwrap_or, List, [], ◌∷◌, ◌++◌, map, refl, inl, inr, sym, ap, ◌∙◌, subst}
-use Rattle.std.specs.Option.{option_map}
+use Rattle.std.specs.Option.{option_map, option_or}
 use Rattle.std.proofs.lemmas.Bool.{cases_Bool, or_cases, and_parts, false≢true}
+use Rattle.std.proofs.lemmas.List.{append-nil}
 use Rattle.net_types.specs.declared.cube.Cube.{Cube}
 use Rattle.net_types.specs.declared.headers.Headers.{Headers}
-use Rattle.net_types.specs.Headers.{apply, option_or}
+use Rattle.net_types.specs.Headers.{apply}
 use Rattle.net_types.specs.Cubes.{has, everything, meet_cubes, pull_cube, lies_within_cube}
 use Rattle.net_types.specs.Sets.{Member, SameMembers, union_over}
 use Rattle.net_types.proofs.CubeLemmas.{has_option, has-meet, has-pull, has-within, has-everything}
@@ -171,10 +172,6 @@ same_add xs y = elim (cases_Bool (is_among xs y)) [
 append_assoc : {A : Type 0} (xs ys zs : List A) → (xs ++ ys) ++ zs ≡ xs ++ (ys ++ zs)
 append_assoc [] ys zs = refl
 append_assoc (x ∷ xs) ys zs = ap (λ ws. x ∷ ws) (append_assoc xs ys zs)
-
-append-nil : {A : Type 0} (xs : List A) → xs ++ [] ≡ xs
-append-nil [] = refl
-append-nil (x ∷ xs) = ap (λ ws. x ∷ ws) (append-nil xs)
 
 pub same_add_all : (xs ys : List Item) → SameMembers (add_all xs ys) (xs ++ ys)
 same_add_all xs [] = SetLemmas.same_eq (sym (append-nil xs))

@@ -1,13 +1,13 @@
 -- What the operations make of a packet, and which cubes and assignments stand in them.
 use Rattle.std.proofs.Common.{◌≡◌, ℕ, ◌⊎◌, cond, Option, Some, None, unwrap_or, List, [], ◌∷◌, ◌++◌, map, refl, inl, inr, sym, ap, ◌∙◌, subst}
-use Rattle.std.specs.Option.{option_map}
+use Rattle.std.specs.Option.{option_map, option_or}
 use Rattle.net_types.specs.declared.address.Ip.{Ip}
 use Rattle.net_types.specs.declared.cube.Cube.{Cube}
 use Rattle.net_types.specs.declared.headers.Headers.{Headers}
 use Rattle.net_types.specs.declared.headers.Loc.{Loc}
 use Rattle.net_types.specs.declared.headers.Loc.TheVariants.{Stay, To, Out, Nowhere}
 use Rattle.net_types.specs.declared.headers.Assign.{Assign}
-use Rattle.net_types.specs.Headers.{apply, followed_by, arrived, option_or, no_change}
+use Rattle.net_types.specs.Headers.{apply, followed_by, arrived, no_change}
 use Rattle.net_types.specs.Cubes.{has, everything}
 use Rattle.net_types.specs.Meets.{IsMeet, behind}
 use Rattle.net_types.specs.Sets.{Member, SameMembers, union_over}
@@ -18,10 +18,11 @@ use Rattle.classifier.specs.declared.join.Join.{Join}
 use Rattle.classifier.specs.declared.join.Join.TheVariants.{Union, Otherwise}
 use Rattle.classifier.specs.Items.{Item}
 use Rattle.classifier.specs.Lines.{tested, turned, negated, add_lines, joined, line, product, after, composed}
-use Rattle.classifier.specs.Meaning.{only_where_none, otherwise, Follows, Packet, given, carried, meaning, cubes_of, assigns_of, decide}
+use Rattle.classifier.specs.Meaning.{only_where_none, otherwise, Follows, given, carried, meaning, cubes_of, assigns_of, decide}
 use Rattle.classifier.proofs.DecideLemmas.{Given, given_is, decide-add_lines, decide-product, decide-composed, gathered, same_add_all, same_gathered}
 use Rattle.std.proofs.lemmas.Bool.{cases_Bool}
 use Rattle.net_types.proofs.CubeLemmas.{has-everything}
+use Rattle.net_types.specs.Policies.{Packet}
 use Rattle.classifier.proofs.TightLemmas.{decide-negated}
 use Rattle.classifier.proofs.LineLemmas.{EachLine, each-add_lines, each-product, each-composed}
 

@@ -4,6 +4,7 @@ use Rattle.net_types.specs.declared.cube.Cube.{Cube}
 use Rattle.net_types.specs.declared.headers.Headers.{Headers}
 use Rattle.net_types.specs.declared.headers.Loc.{Loc}
 use Rattle.net_types.specs.declared.headers.Assign.{Assign}
+use Rattle.net_types.specs.Policies.{Packet}
 use Rattle.classifier.specs.declared.line.Line.{Line}
 use Rattle.classifier.specs.declared.classifier.Classifier.{Classifier}
 use Rattle.classifier.specs.Meaning as lines
@@ -13,7 +14,7 @@ abbrev pub lines_of : Classifier → List Line
 lines_of c = c.lines
 
 -- the packets that a classifier makes of a packet
-abbrev pub meaning : Classifier → Headers → Loc → List lines.Packet
+abbrev pub meaning : Classifier → Headers → Loc → List Packet
 meaning c h l = lines.meaning (lines_of c) h l
 
 -- the cubes of a classifier in their order

@@ -2,6 +2,7 @@
 
 ghost use Rattle.std.specs.Prelude.{◌≡◌, ◌↔◌, IsTrue, IfOk, OnOk, OnErr, []};
 ghost use Rattle.classifier.specs.Items.{add, add_all, is_among, same_item};
+ghost use Rattle.net_types.specs.Sets.{HasNoRepeats};
 
 use net_types::{Assign, Loc, Memory, TryCopy};
 use std::alloc::Global;
@@ -17,7 +18,6 @@ impl Model for Results {
     ghost use Rattle.std.specs.Prelude.{List};
     ghost use Rattle.net_types.specs.declared.headers.Assign.{Assign};
     ghost use Rattle.net_types.specs.declared.headers.Loc.{Loc};
-    ghost use Rattle.classifier.specs.Items.{HasNoRepeats};
 
     ghost Value = { List (Assign × Loc) };
 
@@ -67,6 +67,11 @@ impl Results {
     {
         self.pairs.as_slice()
     }
+
+    /// No pair is there twice.
+    pub fn known(&self)
+        ensures { HasNoRepeats self.now }
+    {}
 
     /// Whether there are no results: the packet is dropped.
     pub fn is_empty(&self) -> bool

@@ -9,7 +9,7 @@ use Rattle.std.specs.Ordering.{eq_by_cmp}
 use Rattle.std.proofs.lemmas.Map.Views.{any-filter_same}
 use Rattle.events.proofs.Reached.{owner_declared, runs_declared, runs_sound}
 use Rattle.events.specs.Fits.{FitsBy, IsAccepted, IsSent, IsForwarded, IsTagged, ReachesExporters, bare, destination, tagged_frame}
-use Rattle.events.specs.Headline.{IsAnswered, LeavesFor, LeavesOrAsks, AnswersDrained, AnswersTold}
+use Rattle.events.specs.Headline.{LeavesByTag, LeavesFor, LeavesOrAsks, AnswersDrained, AnswersTold}
 use Rattle.events.specs.Legal.{state_after}
 use Rattle.events.specs.Resolving.{is_resolved, tag_address}
 use Rattle.events.specs.Sound.{IsSound}
@@ -130,7 +130,7 @@ leaves_or_asks true s q bytes r p e tagged has forwarded =
 leaves_or_asks false s q bytes r p e tagged has asks = asks
 
 leaves_by_entry : (s : State) (q : PortInfo) (bytes : List ℕ) (r : Reply) (p : Prefix) → IsDrained s q.owner → (o : Option Entry) → get (told_to s q.owner) p ≡ o
-    → MatchOption o ⊥ (λ e. IsTagged (is_resolved s q.number (tag_address s e.tag)) s q bytes p e r) → IsAnswered s q bytes r p
+    → MatchOption o ⊥ (λ e. IsTagged (is_resolved s q.number (tag_address s e.tag)) s q bytes p e r) → LeavesByTag s q bytes r p
 leaves_by_entry s q bytes r p drained None is none = absurd none
 leaves_by_entry s q bytes r p drained (Some e) is tagged =
     let there : Bool = list_any (eq_by_cmp prefix_cmp p) (announced s.routing) in
@@ -139,7 +139,7 @@ leaves_by_entry s q bytes r p drained (Some e) is tagged =
     let answered : Option Tag → Type 0 = λ o. MatchOption o ⊥ (λ t. LeavesOrAsks (is_resolved s q.number (tag_address s t)) s q bytes r p t) in
     subst answered (sym parts.0) (leaves_or_asks (is_resolved s q.number (tag_address s e.tag)) s q bytes r p e parts.0 parts.1 tagged)
 
-leaves_for : (s : State) (q : PortInfo) (bytes : List ℕ) (r : Reply) → IsDrained s q.owner → (o : Option Prefix) → IsSent s q bytes r o → MatchOption o (r ≡ bare Unrouted) (IsAnswered s q bytes r)
+leaves_for : (s : State) (q : PortInfo) (bytes : List ℕ) (r : Reply) → IsDrained s q.owner → (o : Option Prefix) → IsSent s q bytes r o → MatchOption o (r ≡ bare Unrouted) (LeavesByTag s q bytes r)
 leaves_for s q bytes r drained None sent = sent
 leaves_for s q bytes r drained (Some p) sent = leaves_by_entry s q bytes r p drained (get (told_to s q.owner) p) refl sent
 
@@ -156,7 +156,7 @@ answers_drained es rs legal port bytes r q none fits at drained =
 
 -- what was sent by the entry told for the longest prefix, whose tag is still the prefix's
 sent_by_entry : (s : State) (q : PortInfo) (bytes : List ℕ) (r : Reply) (p : Prefix) (e : Entry) → get s.tag p ≡ Some e.tag → is_some (best s.routing q.owner p) ≡ true
-    → IsTagged (is_resolved s q.number (tag_address s e.tag)) s q bytes p e r → IsAnswered s q bytes r p
+    → IsTagged (is_resolved s q.number (tag_address s e.tag)) s q bytes p e r → LeavesByTag s q bytes r p
 sent_by_entry s q bytes r p e tagged has sent =
     let answered : Option Tag → Type 0 = λ o. MatchOption o ⊥ (λ t. LeavesOrAsks (is_resolved s q.number (tag_address s t)) s q bytes r p t) in
     subst answered (sym tagged) (leaves_or_asks (is_resolved s q.number (tag_address s e.tag)) s q bytes r p e tagged has sent)

@@ -13,7 +13,7 @@ use Rattle.events.specs.Pending.{pending, with_all_news}
 use Rattle.events.specs.Refusals.{refusal}
 use Rattle.events.specs.Sound.{IsSound, rule_count}
 use Rattle.events.specs.State.{State, first, port_of, present, told_to}
-use Rattle.events.specs.Resolving.{port_place, resolved_at, unresolved, with_answer, with_resolved, is_answered}
+use Rattle.events.specs.Resolving.{port_place, resolved_at, unresolved, with_answer, with_resolved, is_pool_request}
 use Rattle.events.specs.Tags.{retagged}
 use Rattle.events.specs.declared.Event.{Event}
 use Rattle.events.specs.declared.Event.TheVariants.{Bad, Exchange, Participant as DeclaresParticipant, Port as DeclaresPort, Update, Down, Export, Outbound, Inbound, Take, Drain, Arp, Resolve, Packet, Frame, Recompile, Work, Table}
@@ -161,7 +161,7 @@ resolved_declared s n ips is = at (port_place s n)
     at (Some place) = record { owners = is.owners; told = is.told }
 
 answer_declared : (s : State) (q : PortInfo) (frame : List ℕ) → IsDeclared s → IsDeclared (with_answer s q frame)
-answer_declared s q frame is = by (is_answered s frame && same_octets (asker_mac frame).0 q.mac.0)
+answer_declared s q frame is = by (is_pool_request s frame && same_octets (asker_mac frame).0 q.mac.0)
   where
     by : (b : Bool) → IsDeclared (cond b (with_resolved s q.number (asked_ip frame ∷ [])) s)
     by true = resolved_declared s q.number (asked_ip frame ∷ []) is

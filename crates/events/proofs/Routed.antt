@@ -13,7 +13,7 @@ use Rattle.std.proofs.lemmas.Cmp.{on_total, then_total}
 use Rattle.std.proofs.lemmas.Option.{cond_some}
 use Rattle.grammar.specs.TextReading.{Fault as Misread}
 use Rattle.net_types.specs.Answers.{Policies, Leaving, answer, answer_for, answer_by, has_hole, is_offered, next_port, offered_hole, offered_port, part_answer, received, received_at, sent}
-use Rattle.net_types.specs.Exports.{Routing, exports, named_by, route}
+use Rattle.net_types.specs.Exports.{Routing, exports, named_by}
 use Rattle.net_types.specs.Frames.{has_headers, has_ports, headers_of, ip_end}
 use Rattle.net_types.specs.Octets.{word_at}
 use Rattle.net_types.specs.Headers.{IsValid}
@@ -41,7 +41,7 @@ use Rattle.net_types.proofs.PassLemmas.{some_there}
 use Rattle.net_types.proofs.TieLemmas.{then_ties, tie_Equal}
 use Rattle.net_types.proofs.ValueLemmas.{any_value}
 use Rattle.events.specs.Fits.{ReachesExporters}
-use Rattle.events.specs.Sound.{IsSound, part_of, owners_part}
+use Rattle.events.specs.Sound.{IsSound, part_of, owners_part, HopsAreOwn}
 use Rattle.events.specs.State.{State, Entry, AreRead, ArePolicies, told_to, present, port_of}
 use Rattle.events.specs.Table.{actions_on, done_by, first_match, frame_cmp, frame_of, out, tag_at}
 use Rattle.events.specs.Tags.{is_live_for, is_live_pair, same_tag, tells}
@@ -136,10 +136,6 @@ dropped_answer s ps drop are sender exporter hole chosen port h =
     by false = ap (λ (t : Policy). received ps.named t (port chosen) h ++ []) (all_drop s.inbound ps.inbound drop.inbound are.inbound chosen.0)
 
 -- ---- by the table and by the routes
-
--- each route's NEXT_HOP is at a port of its participant
-abbrev pub HopsAreOwn : State → Type 0
-HopsAreOwn s = (who : Pid) (p : Prefix) (attrs : Attrs) → route s.routing who p ≡ Some attrs → option_map (λ (x : PortInfo). x.owner) (port_of s (port_with s.routing.ports attrs.next_hop)) ≡ Some who
 
 owned : (o : Option PortInfo) (who : Pid) (test : Pid → Bool) → option_map (λ (x : PortInfo). x.owner) o ≡ Some who → test who ≡ true → MatchOption o ⊥ (λ x. test x.owner ≡ true)
 owned None who test e t = absurd (cc)

@@ -43,8 +43,8 @@ LeavesOrAsks true s q bytes r p tag = LeavesFor s q bytes r p tag
 LeavesOrAsks false s q bytes r p tag = r ≡ bare (Unresolved (tag_address s tag))
 
 -- the answer to a datagram for a prefix, by the prefix's tag
-abbrev pub IsAnswered : State → PortInfo → List ℕ → Reply → Prefix → Type 0
-IsAnswered s q bytes r p = MatchOption (get s.tag p) ⊥ (λ tag. LeavesOrAsks (is_resolved s q.number (tag_address s tag)) s q bytes r p tag)
+abbrev pub LeavesByTag : State → PortInfo → List ℕ → Reply → Prefix → Type 0
+LeavesByTag s q bytes r p = MatchOption (get s.tag p) ⊥ (λ tag. LeavesOrAsks (is_resolved s q.number (tag_address s tag)) s q bytes r p tag)
 
 -- After any legal run, the answer to a datagram of a drained sender is that of its longest exported prefix; where it has
 -- none, the datagram is unrouted.
@@ -53,7 +53,7 @@ AnswersDrained =
     (es : List Event) (rs : List Reply) → Legal es rs → (port : PortNo) (bytes : List ℕ) (r : Reply) (q : PortInfo)
     → refusal (state_after es rs) (Packet port bytes) ≡ None → Fits (state_after es rs) (Packet port bytes) r
     → port_of (state_after es rs) port ≡ Some q → IsDrained (state_after es rs) q.owner
-    → MatchOption (longest (state_after es rs).routing q.owner (destination bytes)) (r ≡ bare Unrouted) (IsAnswered (state_after es rs) q bytes r)
+    → MatchOption (longest (state_after es rs).routing q.owner (destination bytes)) (r ≡ bare Unrouted) (LeavesByTag (state_after es rs) q bytes r)
 
 -- After any legal run, drained or not: where the longest prefix that the sender was told still has the tag that was told,
 -- and the sender has a best route for it, the datagram is answered for that prefix.
@@ -63,7 +63,7 @@ AnswersTold =
     → refusal (state_after es rs) (Packet port bytes) ≡ None → Fits (state_after es rs) (Packet port bytes) r
     → port_of (state_after es rs) port ≡ Some q → longest_of (keys (told_to (state_after es rs) q.owner)) (destination bytes) ≡ Some p
     → get (told_to (state_after es rs) q.owner) p ≡ Some told → get (state_after es rs).tag p ≡ Some told.tag
-    → is_some (best (state_after es rs).routing q.owner p) ≡ true → IsAnswered (state_after es rs) q bytes r p
+    → is_some (best (state_after es rs).routing q.owner p) ≡ true → LeavesByTag (state_after es rs) q bytes r p
 
 -- the table has room for all that the live pairs after a line may want
 abbrev pub HasRoom : State → Event → Type 0

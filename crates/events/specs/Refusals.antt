@@ -7,7 +7,7 @@ use Rattle.net_types.specs.Attributes.{same_option}
 use Rattle.net_types.specs.ExportReading.{rules_of_text}
 use Rattle.net_types.specs.ExportTexts.{bound}
 use Rattle.net_types.specs.Exports.{Routing, asn_of, pid_of}
-use Rattle.net_types.specs.Frames.{has_headers}
+use Rattle.net_types.specs.Frames.{has_headers, framed}
 use Rattle.net_types.specs.Isolation.{in_faults, out_faults}
 use Rattle.net_types.specs.Naming.{named_in}
 use Rattle.net_types.specs.Octets.{same_octets}
@@ -34,7 +34,6 @@ use Rattle.events.specs.declared.Refusal.{Refusal}
 use Rattle.events.specs.declared.Refusal.TheVariants.{BadLine, Misplaced, Unknown, Clash, Full, BadUpdate, FirstAs, NextHop, TextLong, Syntax, TooDeep, Isolate, TooWide, NoNextHop, BadPacket}
 use Rattle.events.specs.After.{with_named, with_outbound, with_rules, with_update, without_from}
 use Rattle.events.specs.Resolving.{is_in_pool}
-use Rattle.events.specs.Table.{framed}
 use Rattle.events.specs.State.{State, owner_of, port_of}
 use Rattle.events.specs.Tags.{free_tags, groups}
 use Rattle.net_types.specs.Updates.{first_as}

@@ -49,9 +49,9 @@ abbrev pub unresolved : State → PortInfo → List Ip
 unresolved s q = filter (λ ip. not (is_resolved s q.number ip)) (ordered ip_cmp (map (λ (e : Entry). tag_address s e.tag) (values (told_to s q.owner))))
 
 -- the responder answers a frame: it asks for an address of the pool
-abbrev pub is_answered : State → List ℕ → Bool
-is_answered s frame = is_arp_request frame && is_in_pool s (asked_ip frame)
+abbrev pub is_pool_request : State → List ℕ → Bool
+is_pool_request s frame = is_arp_request frame && is_in_pool s (asked_ip frame)
 
 -- a router that asked with its own MAC has resolved the address that it asked for
 abbrev pub with_answer : State → PortInfo → List ℕ → State
-with_answer s q frame = if is_answered s frame && same_octets (asker_mac frame).0 q.mac.0 then with_resolved s q.number (asked_ip frame ∷ []) else s
+with_answer s q frame = if is_pool_request s frame && same_octets (asker_mac frame).0 q.mac.0 then with_resolved s q.number (asked_ip frame ∷ []) else s

@@ -2,7 +2,7 @@
 use Rattle.std.specs.Prelude.{◌≡◌, ℕ, ◌≤◌, Bool, false, ◌&&◌, nat_eq, List, [], ◌∷◌, length, map, find, Option, Some, is_some, sum_by}
 use Rattle.std.specs.Cmp.Lexicographic.{pointwise}
 use Rattle.std.specs.FinMap.{get, values}
-use Rattle.std.specs.Option.{option_and_then}
+use Rattle.std.specs.Option.{option_and_then, option_map}
 use Rattle.std.specs.Ordering.{eq_by_cmp}
 use Rattle.net_types.specs.Actions.{AreInOrder, action_cmp}
 use Rattle.net_types.specs.Answers.{Leaving, Policies, part_answer}
@@ -10,8 +10,8 @@ use Rattle.net_types.specs.Cells.{cell_atoms}
 use Rattle.net_types.specs.Cubes.{lies_within_cube}
 use Rattle.net_types.specs.Headers.{IsValid}
 use Rattle.net_types.specs.Meets.{IsMeet}
-use Rattle.net_types.specs.Sets.{Member, SameMembers}
-use Rattle.net_types.specs.Signatures.{signature}
+use Rattle.net_types.specs.Sets.{Member, SameMembers, HasNoRepeats}
+use Rattle.net_types.specs.Signatures.{signature, port_with}
 use Rattle.net_types.specs.declared.address.Pid.{Pid}
 use Rattle.net_types.specs.declared.address.PortNo.{PortNo}
 use Rattle.net_types.specs.declared.address.Tag.{Tag}
@@ -22,14 +22,11 @@ use Rattle.net_types.specs.declared.route.Part.{Part}
 use Rattle.net_types.specs.declared.route.PortInfo.{PortInfo}
 use Rattle.net_types.specs.declared.rule.Pair.{Pair}
 use Rattle.net_types.specs.declared.rule.Rule.{Rule}
+use Rattle.net_types.specs.Exports.{route}
+use Rattle.net_types.specs.declared.route.Attrs.{Attrs}
 use Rattle.events.specs.State.{State, ArePolicies, port_of}
 use Rattle.events.specs.Table.{first_rule, done_by}
 use Rattle.events.specs.Tags.{is_carried, is_live_pair}
-
--- no member comes twice
-abbrev pub HasNoRepeats : {X : Type 0} → List X → Type 0
-HasNoRepeats [] = Unit {0}
-HasNoRepeats {X} (x ∷ xs) = (Member x xs → ⊥) × HasNoRepeats xs
 
 -- the cubes of rules, in their order
 abbrev pub cubes_of : List Rule → List Cube
@@ -77,3 +74,9 @@ pub record IsSound (s : State) : Type 0 where
   pub few : rule_count s ≤ s.capacity
   pub tagged : (p : Prefix) → is_some (get s.tag p) ≡ is_carried s.routing p
   pub kept : (p : Prefix) (t : Tag) → get s.tag p ≡ Some t → get s.kept t ≡ Some (signature s.routing p)
+
+-- each route's NEXT_HOP is at a port of its participant
+abbrev pub HopsAreOwn : State → Type 0
+HopsAreOwn s =
+    (who : Pid) (p : Prefix) (attrs : Attrs) → route s.routing who p ≡ Some attrs
+    → option_map (λ (x : PortInfo). x.owner) (port_of s (port_with s.routing.ports attrs.next_hop)) ≡ Some who

@@ -1,5 +1,5 @@
 -- What the table does with a frame (this exchange's own rule).
-use Rattle.std.specs.Prelude.{ℕ, ◌+◌, ◌*◌, nat_eq, List, [], ◌∷◌, ◌++◌, map, take, replicate, slice_index, find, Option, Some, None, unwrap_or, if◌then◌else◌}
+use Rattle.std.specs.Prelude.{ℕ, ◌+◌, ◌*◌, nat_eq, List, [], ◌∷◌, map, take, replicate, slice_index, find, Option, Some, None, unwrap_or, if◌then◌else◌}
 use Rattle.std.specs.Cmp.Lexicographic.{slice_cmp}
 use Rattle.std.specs.FinMap.{FinMap, get}
 use Rattle.std.specs.Option.{option_map_or}
@@ -20,10 +20,6 @@ use Rattle.net_types.specs.declared.route.PortInfo.{PortInfo}
 use Rattle.net_types.specs.declared.actions.Action.{Action}
 use Rattle.net_types.specs.declared.rule.Rule.{Rule}
 use Rattle.events.specs.declared.Frame.{Frame}
-
--- a datagram as an IPv4 frame
-abbrev pub framed : Mac → Mac → List ℕ → List ℕ
-framed to from datagram = to.0 ++ from.0 ++ 8 ∷ 0 ∷ datagram
 
 -- the tag to whose MAC a frame goes
 abbrev pub tag_at : List ℕ → Option Tag

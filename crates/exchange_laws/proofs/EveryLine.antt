@@ -11,10 +11,9 @@ use Rattle.events.specs.Fits.{Fits, FitsBy, IsAnswer, IsSent, IsTagged, added, a
 use Rattle.events.specs.Legal.{LegalFrom}
 use Rattle.events.specs.Pending.{pending}
 use Rattle.events.specs.Refusals.{is_datagram, refusal, refused_if}
-use Rattle.events.specs.Resolving.{is_answered, is_resolved, port_place, resolved_at, tag_address, unresolved, with_answer, with_resolved}
+use Rattle.events.specs.Resolving.{is_pool_request, is_resolved, port_place, resolved_at, tag_address, unresolved, with_answer, with_resolved}
 use Rattle.events.specs.Sound.{rule_count}
 use Rattle.events.specs.State.{State, first, port_of, present, told_to}
-use Rattle.events.specs.Table.{framed}
 use Rattle.events.specs.Tags.{retagged}
 use Rattle.events.specs.declared.Entry.{Entry}
 use Rattle.events.specs.declared.Event.{Event}
@@ -40,7 +39,7 @@ use Rattle.exchange_laws.proofs.ToldAnew.{drains_are_accepted}
 use Rattle.exchange_laws.specs.Quiet.{is_quiet}
 use Rattle.exchange_laws.specs.Replying.{AreOctets, HasOctets, IsMac, LinesHaveReplies, PortsHaveMacs, RunsGoOn}
 use Rattle.exchange_laws.specs.Rerouting.{IsRerouting, is_rerouting}
-use Rattle.exchange_laws.specs.Rules.{IsChange, table_after, with_rules}
+use Rattle.exchange_laws.specs.Rules.{IsChange, table_after, with_default_rules}
 use Rattle.exchange_laws.specs.Steady.{IsSteady}
 use Rattle.exchange_laws.specs.Telling.{told_anew}
 use Rattle.net_types.proofs.FindLemmas.{find-IsFound}
@@ -59,6 +58,7 @@ use Rattle.net_types.specs.declared.address.Mac.{Mac}
 use Rattle.net_types.specs.declared.address.PortNo.{PortNo}
 use Rattle.net_types.specs.declared.prefix.Prefix.{Prefix}
 use Rattle.net_types.specs.declared.route.PortInfo.{PortInfo}
+use Rattle.net_types.specs.Frames.{framed}
 
 -- ---- octets
 
@@ -83,7 +83,7 @@ resolved_macs s n ips macs = at (port_place s n)
     at (Some place) = macs
 
 answered_macs : (s : State) (q : PortInfo) (frame : List ℕ) → PortsHaveMacs s → PortsHaveMacs (running (with_answer s q frame))
-answered_macs s q frame macs = by (is_answered s frame && same_octets (asker_mac frame).0 q.mac.0)
+answered_macs s q frame macs = by (is_pool_request s frame && same_octets (asker_mac frame).0 q.mac.0)
   where
     by : (b : Bool) → PortsHaveMacs (running (cond b (with_resolved s q.number (asked_ip frame ∷ [])) s))
     by true = resolved_macs s q.number (asked_ip frame ∷ []) macs
@@ -217,7 +217,7 @@ drain_reply s name steady none =
     (r, accepted_lines_fit s (Drain name) r none law.1)
 
 rerouting_reply : (s : State) (e : Event) → IsSteady s → is_rerouting e ≡ true → refusal s e ≡ None → (r : Reply) × Fits s e r
-rerouting_reply s e steady rerouting none = by (cases_lt s.capacity (rule_count (with_rules s (retagged s to.routing))))
+rerouting_reply s e steady rerouting none = by (cases_lt s.capacity (rule_count (with_default_rules s (retagged s to.routing))))
   where
     to : Rerouted s e
     to = rerouted s e rerouting none
@@ -229,7 +229,7 @@ rerouting_reply s e steady rerouting none = by (cases_lt s.capacity (rule_count 
     change = reroutings_are_changes s e to.routing steady.sound steady.pooled steady.owners is
 
     s1 : State
-    s1 = with_rules s (retagged s to.routing)
+    s1 = with_default_rules s (retagged s to.routing)
 
     built : Reply
     built = record (bare Fine) { tags = tag_changes s.tag s1.tag; drops = dropped s s1 none_rebuilt; adds = added s s1 none_rebuilt }

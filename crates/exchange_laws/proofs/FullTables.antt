@@ -18,7 +18,7 @@ use Rattle.exchange_laws.proofs.TagsAfter.{tags_stay_pooled}
 use Rattle.exchange_laws.specs.Counts.{ChangesAreCounted, HasOneRuleEach}
 use Rattle.exchange_laws.specs.Fitting.{AcceptedLinesFit, FullTablesAreRefused}
 use Rattle.exchange_laws.specs.Rerouting.{is_rerouting}
-use Rattle.exchange_laws.specs.Rules.{IsChange, with_rules}
+use Rattle.exchange_laws.specs.Rules.{IsChange, with_default_rules}
 use Rattle.net_types.proofs.MeetLemmas.{IsMeet-everything, IsMeet-meets}
 use Rattle.net_types.proofs.OrderLemmas.{pairs_total}
 use Rattle.net_types.proofs.PassLemmas.{some_there}
@@ -79,12 +79,12 @@ module _ (s : State) (r : Routing) (change : IsChange s r) where
       let part = some_there (owners_part s1 pair) (part_kept s r change pair live) in
       subst (λ n. 1 ≤ n) (sym (ap (λ o. option_map_or (λ (x : Part). length (meets (cell_atoms ps pair.port x))) o 0) part.1)) (some_meet (cell_atoms ps pair.port part.0))
 
-  pub rules_counted : HasOneRuleEach s → rule_count (with_rules s s1) ≡ length (live_pairs s1)
-  rules_counted one = counted_pairs (with_rules s s1) (pairs_live s r change) (tags_stay_pooled s r change.pooled) (changes_add_one_each s r change.pooled one)
+  pub rules_counted : HasOneRuleEach s → rule_count (with_default_rules s s1) ≡ length (live_pairs s1)
+  rules_counted one = counted_pairs (with_default_rules s s1) (pairs_live s r change) (tags_stay_pooled s r change.pooled) (changes_add_one_each s r change.pooled one)
 
-  pub few_rules : HasOneRuleEach s → (ps : Policies) → rule_count (with_rules s s1) ≤ sum_by (cells ps s1) (live_pairs s1)
+  pub few_rules : HasOneRuleEach s → (ps : Policies) → rule_count (with_default_rules s s1) ≤ sum_by (cells ps s1) (live_pairs s1)
   few_rules one ps =
-      let count : rule_count (with_rules s s1) ≡ length (live_pairs s1) = rules_counted one in
+      let count : rule_count (with_default_rules s s1) ≡ length (live_pairs s1) = rules_counted one in
       let each : length (live_pairs s1) ≤ sum_by (cells ps s1) (live_pairs s1) = counts_each (cells ps s1) (live_pairs s1) (λ pair m.
       some_cell ps pair (filter-Member (is_live_pair s1) (pairs s1) pair ((ordered_same pair_cmp pairs_total (same_from_tie pair_cmp pair_cmp-IsAntisymmetric) (filter (is_live_pair s1) (pairs s1))).onto pair m)).passes) in
       omega arith
@@ -94,7 +94,7 @@ changes_are_counted s r change one = rules_counted s r change one
 
 pub full_tables_are_refused : FullTablesAreRefused
 full_tables_are_refused s e r is change one over =
-    let count : ℕ = rule_count (with_rules s (retagged s r)) in
+    let count : ℕ = rule_count (with_default_rules s (retagged s r)) in
     let reply : Reply = bare (Refused (TableFull count s.capacity)) in
     let full : IsFull s e reply = record {
       rules = count;

@@ -3,16 +3,13 @@
 use Rattle.std.proofs.Common.{◌≡◌, ℕ, ◌≤◌, ◌<◌, Bool, true, false, cond, ◌&&◌, nat_le, List, [], ◌∷◌, ◌++◌, length, sym, ap, subst, ◌∙◌, refl, inl, inr}
 use Rattle.std.specs.Prelude.{Option, Some, None, Result, Ok, Err, slice_set}
 use Rattle.std.specs.Option.{option_map_or}
-use Rattle.std.specs.Cmp.{IsTotalOrder, nat_cmp_total}
-use Rattle.std.specs.FinMap.{IsAntisymmetric, nat_cmp-IsAntisymmetric}
 use Rattle.std.proofs.lemmas.Bool.{leb-false}
-use Rattle.std.proofs.lemmas.Cmp.{on_total}
 use Rattle.net_types.proofs.OrderedLemmas.{ordered_rises}
 use Rattle.events.proofs.Reached.{declared_pid}
 use Rattle.events.specs.After.{after, bound_read, ruled, running, settled, updated, with_known, with_participant, with_port, with_told, without_from}
 use Rattle.events.specs.Forms.{IsWellFormed}
 use Rattle.events.specs.Refusals.{is_name_taken, is_placed, is_port_taken, refusal, refused_if}
-use Rattle.events.specs.Resolving.{is_answered, port_place, resolved_at, unresolved, with_answer, with_resolved}
+use Rattle.events.specs.Resolving.{is_pool_request, port_place, resolved_at, unresolved, with_answer, with_resolved}
 use Rattle.events.specs.State.{State, port_of, present}
 use Rattle.events.specs.Tags.{retagged}
 use Rattle.events.specs.declared.Event.{Event}
@@ -24,12 +21,11 @@ use Rattle.exchange_laws.proofs.Lists.{clash}
 use Rattle.exchange_laws.proofs.OwnHops.{Member_set}
 use Rattle.exchange_laws.proofs.Rerouted.{Rerouted, known, neither, not_stopped, passes, rerouted, set_length}
 use Rattle.exchange_laws.specs.Rerouting.{is_rerouting}
-use Rattle.exchange_laws.specs.Steady.{is_ip_before}
-use Rattle.net_types.proofs.TieLemmas.{same_from_tie}
+use Rattle.net_types.proofs.TieLemmas.{same_from_tie, ip_cmp-IsAntisymmetric}
 use Rattle.net_types.specs.Arp.{asked_ip, asker_mac}
 use Rattle.net_types.specs.ExportReading.{rules_of_text}
 use Rattle.net_types.specs.Exports.{pid_of}
-use Rattle.net_types.specs.Keys.{ip_cmp}
+use Rattle.net_types.specs.Keys.{ip_cmp, is_ip_before}
 use Rattle.net_types.specs.Maps.{ordered}
 use Rattle.net_types.specs.Octets.{same_octets}
 use Rattle.net_types.specs.Sets.{IsRising, Member}
@@ -43,6 +39,7 @@ use Rattle.net_types.specs.declared.route.Participant.{Participant}
 use Rattle.net_types.specs.declared.route.PortInfo.{PortInfo}
 use Rattle.net_types.specs.declared.update.Fault.{Fault}
 use Rattle.net_types.specs.declared.update.Update.{Update as Message}
+use Rattle.net_types.proofs.OrderLemmas.{ips_total}
 
 -- each list of addresses ascends
 abbrev pub AllRise : List (List Ip) → Type 0
@@ -89,12 +86,6 @@ not_at_start s e out placed start = clash placed (ap (λ phase. is_placed phase 
 
 -- ---- resolved addresses
 
-ips_total : IsTotalOrder ip_cmp
-ips_total = on_total (λ (ip : Ip). ip.0) nat_cmp_total
-
-ip_cmp-IsAntisymmetric : IsAntisymmetric ip_cmp
-ip_cmp-IsAntisymmetric a b e = λ i. record { 0 = nat_cmp-IsAntisymmetric a.0 b.0 e i }
-
 set_rise : (lists : List (List Ip)) (k : ℕ) (ips : List Ip) → AllRise lists → AllRise (slice_set lists k (ordered ip_cmp ips))
 set_rise lists k ips rising list m = elim (Member_set lists k (ordered ip_cmp ips) list m) [
   | inl there ↦ rising list there
@@ -113,7 +104,7 @@ more_resolved s n ips later = at (port_place s n)
         resolved (slice_set s.resolved place (ordered ip_cmp (resolved_at s n ++ ips))) later (set_length s.resolved place (ordered ip_cmp (resolved_at s n ++ ips))) (set_rise s.resolved place (resolved_at s n ++ ips))
 
 answer_resolved : (s : State) (q : PortInfo) (frame : List ℕ) → (s.phase ≡ Start → ⊥) → QuietStep s (running (with_answer s q frame))
-answer_resolved s q frame later = by (is_answered s frame && same_octets (asker_mac frame).0 q.mac.0)
+answer_resolved s q frame later = by (is_pool_request s frame && same_octets (asker_mac frame).0 q.mac.0)
   where
     by : (b : Bool) → QuietStep s (running (cond b (with_resolved s q.number (asked_ip frame ∷ [])) s))
     by true = more_resolved s q.number (asked_ip frame ∷ []) later

@@ -6,7 +6,7 @@ use Rattle.events.specs.After.{after, next}
 use Rattle.events.specs.Forms.{IsWellFormed}
 use Rattle.events.specs.Fits.{FitsBy, IsAccepted, IsAnswer, IsSent, IsTagged, Passes, asks_for, bare, by_table, destination, is_building, responder_reply}
 use Rattle.events.specs.Refusals.{refusal}
-use Rattle.events.specs.Resolving.{is_answered, is_resolved, pool_mac, tag_address, unresolved}
+use Rattle.events.specs.Resolving.{is_pool_request, is_resolved, pool_mac, tag_address, unresolved}
 use Rattle.events.specs.Sound.{IsSound}
 use Rattle.events.specs.State.{State, port_of, told_to}
 use Rattle.events.specs.declared.Entry.{Entry}
@@ -84,7 +84,7 @@ abbrev stays : State → Event → State
 stays s e = record (after s e) { table = s.table }
 
 arp_next : (s : State) (n : PortNo) (bytes : List ℕ) (reply : Reply) → reply ≡ responder_reply s bytes → next s (Arp n bytes) reply ≡ stays s (Arp n bytes)
-arp_next s n bytes reply is = ap (next s (Arp n bytes)) is ∙ by (is_answered s bytes)
+arp_next s n bytes reply is = ap (next s (Arp n bytes)) is ∙ by (is_pool_request s bytes)
   where
     by : (b : Bool) → next s (Arp n bytes) (cond b (record (bare Fine) { asks = record { request = None; reply = arp_reply (asker_mac bytes) (asker_ip bytes) (asked_ip bytes) (pool_mac s (asked_ip bytes)) } ∷ [] }) (bare Silent)) ≡ stays s (Arp n bytes)
     by true = refl

@@ -11,7 +11,7 @@ use Rattle.events.specs.Forms.{IsWellFormed}
 use Rattle.events.specs.Fits.{FitsBy}
 use Rattle.events.specs.Legal.{LegalFrom, state_from}
 use Rattle.events.specs.Refusals.{refusal}
-use Rattle.events.specs.Sound.{IsSound}
+use Rattle.events.specs.Sound.{IsSound, HopsAreOwn}
 use Rattle.events.specs.State.{State, first, port_of, present}
 use Rattle.events.specs.Tags.{capped, is_live, more_units, retagged, same_tag, tells}
 use Rattle.events.specs.declared.Event.{Event}
@@ -29,11 +29,11 @@ use Rattle.exchange_laws.proofs.TagsAfter.{kept_stay_live, live_stay_kept, tags_
 use Rattle.exchange_laws.proofs.ToldAnew.{keeps_live, live_kept, present_are_known, tag_was_live}
 use Rattle.exchange_laws.specs.Retagging.{KeptAreLive, LiveAreKept, TagsArePooled}
 use Rattle.exchange_laws.specs.Rules.{AllDrop, OwnersAreDeclared}
-use Rattle.exchange_laws.specs.Steady.{HopsAreOwn, IsNew, IsSized, IsSteady, PortsAreNumbered, PortsDiffer, RoutesAreDeclared, RunsStaySteady, StartsSteady, StepsStaySteady, is_ip_before}
+use Rattle.exchange_laws.specs.Steady.{IsNew, IsSized, IsSteady, PortsAreNumbered, PortsDiffer, RoutesAreDeclared, RunsStaySteady, StartsSteady, StepsStaySteady}
 use Rattle.net_types.proofs.PassLemmas.{any_more}
 use Rattle.net_types.proofs.SetLemmas.{Member-append_cases, map-append}
 use Rattle.net_types.specs.Exports.{Routing}
-use Rattle.net_types.specs.Keys.{tag_cmp}
+use Rattle.net_types.specs.Keys.{tag_cmp, is_ip_before}
 use Rattle.net_types.specs.Sets.{IsRising, Member}
 use Rattle.net_types.specs.Signatures.{port_with}
 use Rattle.net_types.specs.declared.address.Pid.{Pid}

@@ -8,7 +8,7 @@ use Rattle.events.specs.declared.Entry.{Entry}
 use Rattle.events.specs.Tags.{free_tags, is_live, live_pairs, retagged, tags}
 use Rattle.exchange_laws.specs.Replies.{IsBuiltOn}
 use Rattle.exchange_laws.specs.Retagging.{TagsArePooled}
-use Rattle.exchange_laws.specs.Rules.{IsChange, with_rules}
+use Rattle.exchange_laws.specs.Rules.{IsChange, with_default_rules}
 use Rattle.exchange_laws.specs.Steady.{IsSteady}
 use Rattle.exchange_laws.specs.Telling.{told_anew}
 use Rattle.net_types.specs.Exports.{Routing}
@@ -53,11 +53,11 @@ LivePairsAreCounted = (s : State) → IsSound s → TagsArePooled s → HasOneRu
 
 -- after a change of routes each pair has still one rule
 abbrev pub ChangesAddOneEach : Type 0
-ChangesAddOneEach = (s : State) (r : Routing) → TagsArePooled s → HasOneRuleEach s → HasOneRuleEach (with_rules s (retagged s r))
+ChangesAddOneEach = (s : State) (r : Routing) → TagsArePooled s → HasOneRuleEach s → HasOneRuleEach (with_default_rules s (retagged s r))
 
 -- so there are as many rules after it as live pairs, whether or not they fit the table
 abbrev pub ChangesAreCounted : Type 0
-ChangesAreCounted = (s : State) (r : Routing) → IsChange s r → HasOneRuleEach s → rule_count (with_rules s (retagged s r)) ≡ length (live_pairs (retagged s r))
+ChangesAreCounted = (s : State) (r : Routing) → IsChange s r → HasOneRuleEach s → rule_count (with_default_rules s (retagged s r)) ≡ length (live_pairs (retagged s r))
 
 -- each pair has one rule, too, where a participant is told anew
 abbrev pub TellingLeavesOneEach : Type 0

@@ -11,7 +11,7 @@ use Rattle.events.specs.declared.Refusal.TheVariants.{TableFull}
 use Rattle.events.specs.declared.Reply.{Reply}
 use Rattle.exchange_laws.specs.Counts.{HasOneRuleEach}
 use Rattle.exchange_laws.specs.Rerouting.{IsRerouting}
-use Rattle.exchange_laws.specs.Rules.{IsChange, with_rules}
+use Rattle.exchange_laws.specs.Rules.{IsChange, with_default_rules}
 use Rattle.net_types.specs.Exports.{Routing}
 
 -- the reply by which such a line is accepted fits
@@ -22,4 +22,4 @@ AcceptedLinesFit = (s : State) (e : Event) (r : Reply) → refusal s e ≡ None 
 abbrev pub FullTablesAreRefused : Type 0
 FullTablesAreRefused =
     (s : State) (e : Event) (r : Routing) → IsRerouting s e r → IsChange s r → HasOneRuleEach s
-    → let count = rule_count (with_rules s (retagged s r)) in s.capacity < count → Fits s e (bare (Refused (TableFull count s.capacity)))
+    → let count = rule_count (with_default_rules s (retagged s r)) in s.capacity < count → Fits s e (bare (Refused (TableFull count s.capacity)))

@@ -51,8 +51,8 @@ abbrev pub table_after : State → State → FinMap pair_cmp (List Rule)
 table_after s s1 = tabulate pair_cmp (pairs s1) (λ pair. if is_live_pair s1 pair then rules_after s s1 pair else None)
 
 -- the state with that table
-abbrev pub with_rules : State → State → State
-with_rules s s1 = record s1 { table = table_after s s1 }
+abbrev pub with_default_rules : State → State → State
+with_default_rules s s1 = record s1 { table = table_after s s1 }
 
 -- each port is a declared participant's
 abbrev pub OwnersAreDeclared : Routing → Type 0
@@ -103,4 +103,4 @@ DefaultsAreTables = (s : State) (r : Routing) → IsChange s r → AllDrop s →
 
 -- and where the default rules fit the table, the state is sound
 abbrev pub ChangesStaySound : Type 0
-ChangesStaySound = (s : State) (r : Routing) → IsChange s r → AllDrop s → rule_count (with_rules s (retagged s r)) ≤ s.capacity → IsSound (with_rules s (retagged s r))
+ChangesStaySound = (s : State) (r : Routing) → IsChange s r → AllDrop s → rule_count (with_default_rules s (retagged s r)) ≤ s.capacity → IsSound (with_default_rules s (retagged s r))

@@ -1,14 +1,12 @@
 -- What holds of the state between any two lines (this exchange's own rule).
-use Rattle.std.specs.Prelude.{◌≡◌, ℕ, ◌+◌, ◌≤◌, ◌<◌, Bool, List, length, slice_get, Some, None}
+use Rattle.std.specs.Prelude.{◌≡◌, ℕ, ◌+◌, ◌≤◌, ◌<◌, List, length, slice_get, Some, None}
 use Rattle.std.specs.FinMap.{FinMap, empty}
-use Rattle.std.specs.Option.{option_map}
-use Rattle.std.specs.Ordering.{is_lt}
 use Rattle.events.specs.After.{next}
 use Rattle.events.specs.Forms.{IsWellFormed}
 use Rattle.events.specs.Fits.{Fits}
 use Rattle.events.specs.Legal.{Legal, state_after}
-use Rattle.events.specs.Sound.{IsSound}
-use Rattle.events.specs.State.{State, first, port_of}
+use Rattle.events.specs.Sound.{IsSound, HopsAreOwn}
+use Rattle.events.specs.State.{State, first}
 use Rattle.events.specs.declared.Entry.{Entry}
 use Rattle.events.specs.declared.Event.{Event}
 use Rattle.events.specs.declared.Phase.TheVariants.{Running, Start}
@@ -18,20 +16,13 @@ use Rattle.exchange_laws.specs.Retagging.{KeptAreLive, LiveAreKept, TagsArePoole
 pub use Rattle.exchange_laws.specs.Rules.{AllDrop}
 use Rattle.exchange_laws.specs.Rules.{OwnersAreDeclared}
 use Rattle.net_types.specs.Exports.{Routing, route}
-use Rattle.net_types.specs.Keys.{ip_cmp, prefix_cmp}
+use Rattle.net_types.specs.Keys.{prefix_cmp, is_ip_before}
 use Rattle.net_types.specs.Sets.{IsRising, Member}
-use Rattle.net_types.specs.Signatures.{port_with}
 use Rattle.net_types.specs.declared.address.Ip.{Ip}
 use Rattle.net_types.specs.declared.address.Pid.{Pid}
 use Rattle.net_types.specs.declared.prefix.Prefix.{Prefix}
 use Rattle.net_types.specs.declared.route.Attrs.{Attrs}
 use Rattle.net_types.specs.declared.route.PortInfo.{PortInfo}
-
--- each route's NEXT_HOP is at a port of its participant
-abbrev pub HopsAreOwn : State → Type 0
-HopsAreOwn s =
-    (who : Pid) (p : Prefix) (attrs : Attrs) → route s.routing who p ≡ Some attrs
-    → option_map (λ (x : PortInfo). x.owner) (port_of s (port_with s.routing.ports attrs.next_hop)) ≡ Some who
 
 -- each route is a declared participant's
 abbrev pub RoutesAreDeclared : Routing → Type 0
@@ -53,10 +44,6 @@ pub record IsSized (s : State) : Type 0 where
   pub low : (s.phase ≡ Start → ⊥) → 16777215 ≤ s.base.0
   pub high : s.base.0 + s.size ≤ 3758096383
   pub room : s.capacity ≤ 1000000
-
--- one address comes before another
-abbrev pub is_ip_before : Ip → Ip → Bool
-is_ip_before a b = is_lt (ip_cmp a b)
 
 -- there are no routes and no tags, and nobody was told anything
 pub record IsNew (s : State) : Type 0 where

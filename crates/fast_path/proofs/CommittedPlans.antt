@@ -15,7 +15,7 @@ use Rattle.events.specs.declared.Reply.{Reply}
 use Rattle.exchange_laws.proofs.Counted.{live_pairs_are_counted, pairs_are_live}
 use Rattle.exchange_laws.proofs.OneRuleEach.{steady_have_one_each}
 use Rattle.exchange_laws.specs.Rerouting.{IsRerouting}
-use Rattle.exchange_laws.specs.Rules.{IsChange, IsDeclaredAlike, with_rules}
+use Rattle.exchange_laws.specs.Rules.{IsChange, IsDeclaredAlike, with_default_rules}
 use Rattle.exchange_laws.specs.Steady.{IsSteady}
 use Rattle.net_types.specs.Exports.{Routing}
 use Rattle.fast_path.proofs.CommittedFresh.{tags_kept}
@@ -46,7 +46,7 @@ module _ (s : State) (r : Routing) (plan : Plan) (steady : IsSteady s) (alike : 
 
   -- the state afterwards
   abbrev s2 : State
-  s2 = with_rules s s1
+  s2 = with_default_rules s s1
 
   pub change : IsChange s r
   change = record { sound = steady.sound; pooled = steady.pooled; owners = steady.owners; alike = alike; enough = is.enough }
@@ -79,7 +79,7 @@ module _ (s : State) (r : Routing) (plan : Plan) (steady : IsSteady s) (alike : 
 
   -- the rules afterwards are those before, less those that are dropped, and those that are added
   pub rules_committed : rule_count s2 + length plan.drops ≡ rule_count s + length plan.adds
-  rules_committed = rules_then_counted s r change plan.drops plan.adds is.gone is.new (steady_have_one_each s steady)
+  rules_committed = rules_then_counted s r change steady.drop plan.drops plan.adds is.gone is.new (steady_have_one_each s steady)
 
   -- no more pairs go than the table has rules
   few_drops : length plan.drops ≤ rule_count s
@@ -128,4 +128,4 @@ module _ (s : State) (r : Routing) (plan : Plan) (steady : IsSteady s) (alike : 
   pub line_committed : (e : Event) → IsRerouting s e r → (next s e plan_reply ≡ s2) × Fits s e plan_reply
   line_committed e rerouting =
       subst (λ cs. (next s e (record (bare Fine) { tags = cs; drops = plan.drops; adds = plan.adds }) ≡ s2) × Fits s e (record (bare Fine) { tags = cs; drops = plan.drops; adds = plan.adds }))
-      (sym is.tags) (plan_accepted s r change plan.drops plan.adds is.gone is.new e rerouting is.fits)
+      (sym is.tags) (plan_accepted s r change steady.drop plan.drops plan.adds is.gone is.new e rerouting is.fits)

@@ -7,7 +7,7 @@ use Rattle.events.specs.Tags as events
 use Rattle.exchange_laws.proofs.Lists.{clash, not_true, numbers_range}
 use Rattle.exchange_laws.proofs.Sames.{tag_same}
 use Rattle.exchange_laws.specs.Retagging.{TagsArePooled}
-use Rattle.exchange_laws.specs.Rules.{with_rules}
+use Rattle.exchange_laws.specs.Rules.{with_default_rules}
 use Rattle.net_types.proofs.RisingLemmas.{Member-filter, filter-Member}
 use Rattle.net_types.specs.Exports.{Routing}
 use Rattle.net_types.specs.Routes.{numbers}
@@ -216,5 +216,5 @@ module _ (s : State) (r : Routing) (pooled : TagsArePooled s) (p : Tags) (pool :
     }
 
     -- whatever its table
-    pub pool_with_rules : IsPoolOf (with_rules s s1) settled
+    pub pool_with_rules : IsPoolOf (with_default_rules s s1) settled
     pool_with_rules = record { free = pool_then.free; size = pool_then.size; base = pool_then.base }

@@ -21,7 +21,7 @@ use Rattle.exchange_laws.proofs.RulesAfter.{defaults_are_tables, pairs_live, rul
 use Rattle.exchange_laws.specs.Counts.{HasOneRuleEach, rules_at}
 use Rattle.exchange_laws.specs.Listed.{AreLiveOnly, HasLivePairs}
 use Rattle.exchange_laws.specs.Rerouting.{IsRerouting}
-use Rattle.exchange_laws.specs.Rules.{IsChange, default_rules, table_after, with_rules}
+use Rattle.exchange_laws.specs.Rules.{AllDrop, IsChange, default_rules, table_after, with_default_rules}
 use Rattle.net_types.proofs.PassLemmas.{some_there}
 use Rattle.net_types.proofs.SetLemmas.{Member-map, map-Member, union-map}
 use Rattle.net_types.specs.Exports.{Routing}
@@ -35,7 +35,7 @@ module _ (s : State) (r : Routing) (change : IsChange s r) where
   s1 = retagged s r
 
   abbrev s2 : State
-  s2 = with_rules s s1
+  s2 = with_default_rules s s1
 
   live_pairs_then : HasLivePairs s2
   live_pairs_then = pairs_live s r change
@@ -93,11 +93,11 @@ module _ (s : State) (r : Routing) (change : IsChange s r) where
 
   -- ---- the line
 
-  module _ (drops : List Pair) (adds : List Flow) (gone : AreLiveOnly s s1 drops) (new : AreNewFlows s s1 adds) where
+  module _ (all : AllDrop s) (drops : List Pair) (adds : List Flow) (gone : AreLiveOnly s s1 drops) (new : AreNewFlows s s1 adds) where
     -- the rules afterwards are those before, less those that are dropped, and those that are added
     pub rules_then_counted : HasOneRuleEach s → rule_count s2 + length drops ≡ rule_count s + length adds
     rules_then_counted one =
-        let counted = rules_are_counted s s2 none_rebuilt (changes_are_built s r (table_after s s1) change.sound (defaults_are_tables s r change) (defaults_are_rules s r change.pooled)) in
+        let counted = rules_are_counted s s2 none_rebuilt (changes_are_built s r (table_after s s1) change.sound (defaults_are_tables s r change all) (defaults_are_rules s r change.pooled)) in
         let less : rules_at s (dropped s s2 none_rebuilt) ≡ length drops = ap (rules_at s) (drops_are drops gone) ∙ rules_one one drops (λ pair m. (gone.each pair m).0) in
         let more : length (added s s2 none_rebuilt) ≡ length adds = ap length (adds_are adds new) in
         omega (arith, counted, less, more)
@@ -109,7 +109,7 @@ module _ (s : State) (r : Routing) (change : IsChange s r) where
     -- it fits, and the state is the one afterwards
     pub plan_accepted : (e : Event) → IsRerouting s e r → rule_count s2 ≤ s.capacity → (next s e planned ≡ s2) × Fits s e planned
     plan_accepted e rerouting few =
-        reroutings_are_accepted s e r (table_after s s1) planned rerouting change (defaults_are_tables s r change) (defaults_are_rules s r change.pooled) few (record {
+        reroutings_are_accepted s e r (table_after s s1) planned rerouting change (defaults_are_tables s r change all) (defaults_are_rules s r change.pooled) few (record {
           head = refl;
           tags = refl;
           drops = sym (drops_are drops gone);

@@ -24,12 +24,12 @@ use Rattle.events.specs.declared.Flow.{Flow}
 use Rattle.events.specs.declared.TagChange.{TagChange}
 use Rattle.exchange_laws.specs.Fresh.{HasEnoughTags}
 use Rattle.exchange_laws.specs.Listed.{AreLiveOnly}
-use Rattle.exchange_laws.specs.Rules.{IsChange, default_rules, rule_to, with_rules}
+use Rattle.exchange_laws.specs.Rules.{IsChange, default_rules, with_default_rules}
 use Rattle.exchange_laws.specs.Touched.{IsTouching}
 use Rattle.exchange_laws.proofs.OneRuleEach.{steady_have_one_each}
 use Rattle.live_pairs.specs.Emptied.{emptied, is_left, old_tags}
 use Rattle.live_pairs.specs.LiveOnly.{AreDead, AreEmptied, group_signatures, group_tags, registered}
-use Rattle.live_pairs.specs.Pairs.{flow_of, gone_pairs, new_flows, untold}
+use Rattle.live_pairs.specs.Pairs.{flow_of, gone_pairs, new_flows, rule_by, untold}
 use Rattle.live_pairs.specs.declared.forward.Forward.{Forward}
 use Rattle.live_pairs.specs.declared.forward.Fresh.{Fresh}
 use Rattle.live_pairs.proofs.DeadTags.{untold_are_dead}
@@ -89,7 +89,7 @@ flows_pairs [] = refl
 flows_pairs (f ∷ fs) = ap (λ ps. f.pair ∷ ps) (flows_pairs fs)
 
 -- the flows of forwards that become live, with the rules of their owners' parts
-listed_are : {s s1 : State} (fs : List Forward) → ((f : Forward) → Member f fs → option_map default_rules (owners_part s1 f.pair) ≡ Some (rule_to f.to ∷ [])) → AreLiveOnly s1 s (map (λ (f : Forward). f.pair) fs) → AreNewFlows s s1 (map flow_of fs)
+listed_are : {s s1 : State} (fs : List Forward) → ((f : Forward) → Member f fs → option_map default_rules (owners_part s1 f.pair) ≡ Some (rule_by f.to ∷ [])) → AreLiveOnly s1 s (map (λ (f : Forward). f.pair) fs) → AreNewFlows s s1 (map flow_of fs)
 listed_are {s} {s1} fs rules live = record {
   live = subst (AreLiveOnly s1 s) (sym (flows_pairs fs)) live;
   rules = λ f m.
@@ -163,8 +163,8 @@ module _ (s : State) (r : Routing) (names : Registered) (classes : Classes) (poo
           new_are = subst (AreNewFlows s s1) (sym adds_from) (listed_are (listed s r change asked.steady.apart) (λ f m. new_flow_rules s r change asked.steady.apart f m) (new_live_only s r change asked.steady.apart))
 
           -- the rules of the table then
-          pub rules_are : rule_count (with_rules s s1) + length (gone_pairs names classes.kept was_told es) ≡ rule_count s + length (new_flows names (map (λ (f : Fresh). f.sig) fs) ts)
-          rules_are = rules_then_counted s r change (gone_pairs names classes.kept was_told es) (new_flows names (map (λ (f : Fresh). f.sig) fs) ts) gone_are new_are (steady_have_one_each s asked.steady)
+          pub rules_are : rule_count (with_default_rules s s1) + length (gone_pairs names classes.kept was_told es) ≡ rule_count s + length (new_flows names (map (λ (f : Fresh). f.sig) fs) ts)
+          rules_are = rules_then_counted s r change asked.steady.drop (gone_pairs names classes.kept was_told es) (new_flows names (map (λ (f : Fresh). f.sig) fs) ts) gone_are new_are (steady_have_one_each s asked.steady)
 
     -- a draft, where there are tags enough
     module _ (room : length fs ≤ length (free_tags pool)) (plan : Plan) (draft : IsDraft names classes pool was_told p fs plan) where
@@ -174,10 +174,10 @@ module _ (s : State) (r : Routing) (names : Registered) (classes : Classes) (poo
       es : List Tag
       es = emptied classes.tag plan.tags
 
-      counted : rule_count (with_rules s s1) + length plan.drops ≡ rule_count s + length plan.adds
+      counted : rule_count (with_default_rules s s1) + length plan.drops ≡ rule_count s + length plan.adds
       unfolding ts es
       counted =
-          ap (λ ds. rule_count (with_rules s s1) + length ds) draft.drops ∙ rules_are room ts refl plan.tags draft.tags es refl
+          ap (λ ds. rule_count (with_default_rules s s1) + length ds) draft.drops ∙ rules_are room ts refl plan.tags draft.tags es refl
           ∙ sym (ap (λ fs2. rule_count s + length fs2) draft.adds)
 
       table_count : rule_count s ≡ installed.rule_count switch.table

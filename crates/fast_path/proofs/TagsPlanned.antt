@@ -8,8 +8,8 @@ use Rattle.std.proofs.Math.Bool.{or-false}
 use Rattle.std.proofs.lemmas.List.{append_assoc, append-nil}
 use Rattle.net_types.specs.Attributes.{same_option}
 use Rattle.net_types.specs.Exports.{Routing}
-use Rattle.net_types.specs.Routes.{Candidate, best, candidates, pids}
-use Rattle.net_types.specs.Signatures.{offer, part, signature}
+use Rattle.net_types.specs.Routes.{Candidate, best, pids}
+use Rattle.net_types.specs.Signatures.{offers, part, signature}
 use Rattle.net_types.specs.declared.address.Pid.{Pid}
 use Rattle.net_types.specs.declared.address.Tag.{Tag}
 use Rattle.net_types.specs.declared.prefix.Prefix.{Prefix}
@@ -41,7 +41,7 @@ any_alike : (f g : Pid → Bool) → ((x : Pid) → f x ≡ g x) → (xs : List 
 any_alike f g same [] = refl
 any_alike f g same (x ∷ xs) = ap (λ b. b || list_any f xs) (same x) ∙ ap (λ b. g x || b) (any_alike f g same xs)
 
-part_some : (r : Routing) (p : Prefix) (to : Pid) (o : Option Candidate) → is_some (option_map (λ (c : Candidate). let x : Part = record { sender = to; best = c.from; offers = map (offer r) (candidates r to p) } in x) o) ≡ is_some o
+part_some : (r : Routing) (p : Prefix) (to : Pid) (o : Option Candidate) → is_some (option_map (λ (c : Candidate). let x : Part = record { sender = to; best = c.from; offers = offers r p to c.from } in x) o) ≡ is_some o
 part_some r p to None = refl
 part_some r p to (Some c) = refl
 

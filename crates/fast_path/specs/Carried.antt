@@ -8,7 +8,7 @@ use Rattle.events.specs.declared.Event.{Event}
 use Rattle.events.specs.declared.Head.TheVariants.{Fine}
 use Rattle.events.specs.declared.Reply.{Reply}
 use Rattle.exchange_laws.specs.Rerouting.{IsRerouting}
-use Rattle.exchange_laws.specs.Rules.{IsDeclaredAlike, with_rules}
+use Rattle.exchange_laws.specs.Rules.{IsDeclaredAlike, with_default_rules}
 use Rattle.exchange_laws.specs.Steady.{IsSteady}
 use Rattle.match_switch.specs.Installed.{Installed}
 use Rattle.net_types.specs.Exports.{Routing}
@@ -59,10 +59,10 @@ PlansCanBeCommitted =
 abbrev pub PlansLeadOn : Type 0
 PlansLeadOn =
     (s : State) (r : Routing) (plan : Plan) (classes : Classes) (pool : Tags) (switch : Installed)
-    → IsPlanned s r plan → ArePartsOf s classes pool switch → LeadsTo (with_rules s (retagged s r)) plan classes pool switch
+    → IsPlanned s r plan → ArePartsOf s classes pool switch → LeadsTo (with_default_rules s (retagged s r)) plan classes pool switch
 
 -- a line that changes the routes so leads to the same state, and the reply that says what the plan says fits it
 abbrev pub PlansFitLines : Type 0
 PlansFitLines =
     (s : State) (r : Routing) (plan : Plan) (e : Event)
-    → IsPlanned s r plan → IsRerouting s e r → (next s e (plan_reply plan) ≡ with_rules s (retagged s r)) × Fits s e (plan_reply plan)
+    → IsPlanned s r plan → IsRerouting s e r → (next s e (plan_reply plan) ≡ with_default_rules s (retagged s r)) × Fits s e (plan_reply plan)

@@ -11,7 +11,7 @@ use Rattle.events.specs.Tags as events
 use Rattle.events.specs.Tags.{groups, retagged}
 use Rattle.events.specs.declared.Entry.{Entry}
 use Rattle.exchange_laws.specs.Fresh.{HasEnoughTags}
-use Rattle.exchange_laws.specs.Rules.{IsDeclaredAlike, with_rules}
+use Rattle.exchange_laws.specs.Rules.{IsDeclaredAlike, with_default_rules}
 use Rattle.exchange_laws.specs.Steady.{IsSteady}
 use Rattle.match_switch.specs.Installed.{Installed}
 use Rattle.next_hop_pool.specs.Free.{Tags, free_tags}
@@ -63,10 +63,10 @@ pub record IsPlan (s : State) (r : Routing) (plan : Plan) : Type 0 where
   pub dead : AreDead s (retagged s r) plan.dead.items
   pub rising : IsRising is_tag_below plan.dead.items
   pub enough : HasEnoughTags s r
-  pub fits : rule_count (with_rules s (retagged s r)) ≤ s.capacity
+  pub fits : rule_count (with_default_rules s (retagged s r)) ≤ s.capacity
 
 -- More fresh tags are needed than are free; or there are enough, and the rules are more than the table has room for.
 abbrev pub IsFault : State → Routing → FastFault → Type 0
 IsFault s r (NoNextHop need free) = (need ≡ length (groups s r)) × (free ≡ length (events.free_tags s)) × (free < need)
-IsFault s r (TableFull rules capacity) = HasEnoughTags s r × (rules ≡ rule_count (with_rules s (retagged s r))) × (capacity ≡ s.capacity) × (capacity < rules)
+IsFault s r (TableFull rules capacity) = HasEnoughTags s r × (rules ≡ rule_count (with_default_rules s (retagged s r))) × (capacity ≡ s.capacity) × (capacity < rules)
 IsFault s r Memory = Unit {0}

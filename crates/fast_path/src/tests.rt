@@ -1,4 +1,4 @@
-//! A route that is new: its plan, the room that is made for it, and what is refused.
+//! A route that is new: its plan, the room that is made for it, what is refused, and what is discarded.
 
 mod exchange;
 
@@ -6,7 +6,7 @@ use crate::{FastFault, Plan, plan, reserve};
 use events::TagChange;
 use exchange::{proposal, ten, three, untold};
 use match_switch::Switch;
-use net_types::{Ip, Pair, PortNo, Tag};
+use net_types::{Action, Assign, Cube, Ip, Pair, PortNo, Tag};
 use next_hop_pool::Pool;
 use prefix_classes::ClassMap;
 use std::alloc::Global;
@@ -15,6 +15,9 @@ use std::test::Fail;
 /// The address before that of the tag 1.
 const BASE: Ip = Ip(0xAC110000);
 
+/// The community of a route whose traffic is to be discarded (RFC 7999).
+const BLACKHOLE: u32 = 0xFFFF_029A;
+
 fn pair(port: u16) -> Pair {
     Pair {
         port: PortNo(port),
@@ -22,16 +25,21 @@ fn pair(port: u16) -> Pair {
     }
 }
 
-/// The plan for the route of B, where no prefix has a tag.
-fn planned(alloc: Global, pool: &Pool, switch: &Switch) -> Result<Result<Plan, FastFault>, Fail> {
+/// The plan for the route of B with these communities, where no prefix has a tag.
+fn planned(
+    alloc: Global,
+    pool: &Pool,
+    switch: &Switch,
+    communities: &[u32],
+) -> Result<Result<Plan, FastFault>, Fail> {
     let names = three(alloc)?;
     let (classes, told) = (ClassMap::new(alloc), untold(alloc)?);
-    let proposal = proposal(alloc, &names)?;
+    let proposal = proposal(alloc, &names, communities)?;
     Ok(plan(alloc, &names, &classes, pool, &told, switch, &proposal))
 }
 
 fn fault(alloc: Global, pool: &Pool, capacity: u32) -> Result<Option<FastFault>, Fail> {
-    match planned(alloc, pool, &Switch::new(alloc, capacity))? {
+    match planned(alloc, pool, &Switch::new(alloc, capacity), &[])? {
         Ok(_) => Ok(None),
         Err(fault) => Ok(Some(fault)),
     }
@@ -57,12 +65,19 @@ fn rules_are_wanted_next(rt: HostRuntime) -> Result<(), Fail> {
     Ok(())
 }
 
+fn by_port_3() -> Action {
+    Action {
+        port: PortNo(3),
+        set: Assign::none(),
+    }
+}
+
 /// A and C send by B. Room is made, and nothing else is done.
 #[test]
 fn a_new_route_is_planned(rt: HostRuntime) -> Result<(), Fail> {
     let pool = Pool::new(rt.alloc(), BASE, 2)?;
     let mut switch = Switch::new(rt.alloc(), 2);
-    let Ok(plan) = planned(rt.alloc(), &pool, &switch)? else {
+    let Ok(plan) = planned(rt.alloc(), &pool, &switch, &[])? else {
         return Err(Fail::new("there is no plan"));
     };
     let given = TagChange {
@@ -74,9 +89,26 @@ fn a_new_route_is_planned(rt: HostRuntime) -> Result<(), Fail> {
     assert!(rt; plan.adds.len() == 2 && plan.fresh.len() == 1);
     for (flow, port) in plan.adds.items().iter().zip(&[1, 4]) {
         assert!(rt; flow.pair == pair(*port));
+        assert!(rt; flow.rule.actions.items() == [by_port_3()].as_slice());
     }
     let mut classes = ClassMap::new(rt.alloc());
     reserve(&plan, &mut classes, &mut switch)?;
     assert!(rt; classes.tagged() == 0 && switch.rules() == 0);
+    Ok(())
+}
+
+/// What A and C send to B is discarded.
+#[test]
+fn a_holed_route_is_planned(rt: HostRuntime) -> Result<(), Fail> {
+    let pool = Pool::new(rt.alloc(), BASE, 1)?;
+    let switch = Switch::new(rt.alloc(), 2);
+    let Ok(plan) = planned(rt.alloc(), &pool, &switch, &[BLACKHOLE])? else {
+        return Err(Fail::new("there is no plan"));
+    };
+    assert!(rt; plan.adds.len() == 2);
+    for (flow, port) in plan.adds.items().iter().zip(&[1, 4]) {
+        assert!(rt; flow.pair == pair(*port));
+        assert!(rt; flow.rule.cube == Cube::everything() && flow.rule.actions.items().is_empty());
+    }
     Ok(())
 }

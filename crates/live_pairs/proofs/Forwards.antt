@@ -1,17 +1,18 @@
 -- The forwards of signatures with their tags, place by place, and in order.
 use Rattle.std.proofs.Common.{◌≡◌, ℕ, zero, suc, ◌<◌, true, List, [], ◌∷◌, map, take, sym, ap, subst, ◌∙◌, refl, arith, inl, inr}
-use Rattle.std.specs.Prelude.{Some, slice_get}
+use Rattle.std.specs.Prelude.{Option, Some, None, slice_get}
 use Rattle.std.specs.Cmp.{IsTotalOrder, nat_cmp_total}
+use Rattle.std.specs.Cmp.Lexicographic.{options_total}
 use Rattle.std.specs.FinMap.{nat_cmp-IsAntisymmetric}
-use Rattle.std.specs.Ordering.{eq_by_cmp, is_eq, is_lt, nat_cmp, ordering_then}
+use Rattle.std.specs.Option.{option_cmp}
+use Rattle.std.specs.Ordering.{eq_by_cmp, is_eq, is_lt, ordering_then}
 use Rattle.std.specs.declared.cmp.Ordering.{Ordering}
 use Rattle.std.specs.declared.cmp.Ordering.TheVariants.{Less, Equal, Greater}
 use Rattle.std.proofs.lemmas.Bool.{and_parts, false≢true}
 use Rattle.std.proofs.lemmas.Cmp.{on_total, then_total, tied_itself}
 use Rattle.events.specs.Fits.{flows_of}
 use Rattle.exchange_laws.proofs.Lists.{some_of}
-use Rattle.exchange_laws.specs.Rules.{rule_to}
-use Rattle.live_pairs.specs.Pairs.{flow_of, forward_cmp, forwards, part_forwards}
+use Rattle.live_pairs.specs.Pairs.{flow_of, forward_cmp, forwards, part_forwards, port_cmp, rule_by}
 use Rattle.live_pairs.specs.declared.forward.Forward.{Forward}
 use Rattle.net_types.proofs.OrderLemmas.{pairs_total}
 use Rattle.net_types.proofs.RisingLemmas.{before}
@@ -86,31 +87,41 @@ forward_listed names sigs ts f from = at sigs ts from.place from.signed from.tag
 
 -- ---- the order
 
+ports_total : IsTotalOrder (option_cmp port_cmp)
+ports_total = options_total (on_total (λ (n : PortNo). n.0) nat_cmp_total)
+
 pub forwards_total : IsTotalOrder forward_cmp
-forwards_total = then_total (on_total (λ (f : Forward). f.pair) pairs_total) (on_total (λ f. f.to.0) nat_cmp_total)
+forwards_total = then_total (on_total (λ (f : Forward). f.pair) pairs_total) (on_total (λ (f : Forward). f.to) ports_total)
+
+port_tie : (x y : Option PortNo) → option_cmp port_cmp x y ≡ Equal → x ≡ y
+port_tie None None e = refl
+port_tie None (Some n) e = cc
+port_tie (Some m) None e = cc
+port_tie (Some m) (Some n) e = λ i. Some (record { 0 = nat_cmp-IsAntisymmetric m.0 n.0 e i })
 
 pub forwards_tie : (f g : Forward) → eq_by_cmp forward_cmp f g ≡ true → f ≡ g
 forwards_tie f g e =
-    let parts = and_parts (is_eq (pair_cmp f.pair g.pair)) (is_eq (nat_cmp f.to.0 g.to.0)) (sym (then_ties (pair_cmp f.pair g.pair) (nat_cmp f.to.0 g.to.0)) ∙ e) in
+    let ports = option_cmp port_cmp f.to g.to in
+    let parts = and_parts (is_eq (pair_cmp f.pair g.pair)) (is_eq ports) (sym (then_ties (pair_cmp f.pair g.pair) ports) ∙ e) in
     λ i. record {
       pair = pair_cmp-IsAntisymmetric f.pair g.pair (tie_Equal (pair_cmp f.pair g.pair) parts.0) i;
-      to = record { 0 = nat_cmp-IsAntisymmetric f.to.0 g.to.0 (tie_Equal (nat_cmp f.to.0 g.to.0) parts.1) i };
+      to = port_tie f.to g.to (tie_Equal ports parts.1) i;
     }
 
 -- ---- where the pair says by which port
 
-module _ (to_of : Pair → PortNo) where
+module _ (to_of : Pair → Option PortNo) where
   abbrev pub IsBy : List Forward → Type 0
   IsBy fs = (f : Forward) → Member f fs → f.to ≡ to_of f.pair
 
   pair_before : (f g : Forward) → f.to ≡ to_of f.pair → g.to ≡ to_of g.pair → before forward_cmp f g ≡ true → before pair_cmp f.pair g.pair ≡ true
   pair_before f g of_f of_g e = by (pair_cmp f.pair g.pair) refl e
     where
-      by : (o : Ordering) → pair_cmp f.pair g.pair ≡ o → is_lt (ordering_then o (nat_cmp f.to.0 g.to.0)) ≡ true → is_lt o ≡ true
+      by : (o : Ordering) → pair_cmp f.pair g.pair ≡ o → is_lt (ordering_then o (option_cmp port_cmp f.to g.to)) ≡ true → is_lt o ≡ true
       by Less is e = refl
       by Equal is e =
           let same : f.to ≡ g.to = of_f ∙ ap to_of (pair_cmp-IsAntisymmetric f.pair g.pair is) ∙ sym of_g in
-          absurd (false≢true (sym (ap is_lt (ap (λ (q : PortNo). nat_cmp q.0 g.to.0) same ∙ tied_itself nat_cmp_total g.to.0)) ∙ e))
+          absurd (false≢true (sym (ap is_lt (ap (λ q. option_cmp port_cmp q g.to) same ∙ tied_itself ports_total g.to)) ∙ e))
       by Greater is e = e
 
   -- the pairs rise
@@ -124,11 +135,11 @@ module _ (to_of : Pair → PortNo) where
   )
 
   abbrev pub rules_of : Pair → List Rule
-  rules_of pair = rule_to (to_of pair) ∷ []
+  rules_of pair = rule_by (to_of pair) ∷ []
 
   -- each pair has one rule
   pub one_each : (fs : List Forward) → IsBy fs → union_over (λ (f : Forward). flows_of (f.pair, rules_of f.pair)) fs ≡ map flow_of fs
   one_each [] is = refl
   one_each (f ∷ fs) is =
-      ap (λ q. record { pair = f.pair; rule = rule_to q } ∷ union_over (λ (g : Forward). flows_of (g.pair, rules_of g.pair)) fs) (sym (is f (inl refl)))
+      ap (λ q. record { pair = f.pair; rule = rule_by q } ∷ union_over (λ (g : Forward). flows_of (g.pair, rules_of g.pair)) fs) (sym (is f (inl refl)))
       ∙ ap (λ xs. flow_of f ∷ xs) (one_each fs (λ g m. is g (inr m)))

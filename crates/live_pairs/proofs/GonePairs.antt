@@ -10,11 +10,11 @@ use Rattle.exchange_laws.proofs.ListedPairs.{gone_are_dropped}
 use Rattle.exchange_laws.proofs.Lists.{clash, some_of}
 use Rattle.exchange_laws.proofs.LivePairs.{live_at, live_from, port_Member, present_tag}
 use Rattle.exchange_laws.proofs.OwnHops.{numbered_port}
-use Rattle.exchange_laws.proofs.RulesAfter.{default_table}
+use Rattle.exchange_laws.proofs.RulesAfter.{pairs_live}
 use Rattle.exchange_laws.proofs.TagsAfter.{live_of, live_tags_stay, signatures_are_kept}
 use Rattle.exchange_laws.specs.Steady.{PortsDiffer}
 use Rattle.exchange_laws.specs.Listed.{AreLiveOnly, HasLivePairs}
-use Rattle.exchange_laws.specs.Rules.{IsChange, with_rules}
+use Rattle.exchange_laws.specs.Rules.{IsChange, with_default_rules}
 use Rattle.live_pairs.proofs.PortsAndTags.{IsPortOf, found_number, has_prefix_of, number_listed, port_listed, prefix_with, present_from, tie}
 use Rattle.live_pairs.proofs.SignatureParts.{has_part, part_senders, same_senders}
 use Rattle.live_pairs.specs.LiveOnly.{AreEmptied, GonePairsAreDropped, GonePairsAreThose, has_prefix, registered}
@@ -141,13 +141,13 @@ module _ (s : State) (r : Routing) (change : IsChange s r) where
     }
 
 -- the table has the live pairs after the change
-pub has_live : (s : State) (r : Routing) → IsChange s r → HasLivePairs (with_rules s (retagged s r))
-has_live s r change = (default_table s r change).pairs
+pub has_live : (s : State) (r : Routing) → IsChange s r → HasLivePairs (with_default_rules s (retagged s r))
+has_live s r change = pairs_live s r change
 
 pub gone_pairs_are_those : GonePairsAreThose
 gone_pairs_are_those s r ts change own emptied = gone_live_only s r change ts own emptied
 
 pub gone_pairs_are_dropped : GonePairsAreDropped
 gone_pairs_are_dropped s r ts change own emptied =
-    gone_are_dropped s (with_rules s (retagged s r)) (gone_pairs (registered s) s.kept s.told ts) change.sound.pairs (has_live s r change)
+    gone_are_dropped s (with_default_rules s (retagged s r)) (gone_pairs (registered s) s.kept s.told ts) change.sound.pairs (has_live s r change)
     (let are = gone_live_only s r change ts own emptied in record { rising = are.rising; each = are.each; all = are.all })

@@ -10,3 +10,4 @@ pub mod Loops
 pub mod CountedTags
 pub mod EmptiedLoop
 pub mod PlannedChanges
+pub mod OneAction

@@ -1,6 +1,6 @@
 -- The pairs of the fresh tags are those that become live, and their rules are those of their owners' parts.
 use Rattle.std.proofs.Common.{◌≡◌, ℕ, ◌<◌, Bool, true, false, cond, not, List, [], ◌∷◌, length, filter, map, sym, ap, subst, ◌∙◌, refl, inl, inr}
-use Rattle.std.specs.Prelude.{Some, None, slice_get, is_some}
+use Rattle.std.specs.Prelude.{Option, Some, None, slice_get, is_some}
 use Rattle.std.specs.FinMap.{get}
 use Rattle.std.specs.Option.{option_and_then, option_map, option_map_or}
 use Rattle.std.proofs.lemmas.Bool.{false_from_ne_true, or_cases, or_left, or_right}
@@ -20,18 +20,18 @@ use Rattle.exchange_laws.proofs.Sames.{signatures_test}
 use Rattle.exchange_laws.proofs.TagsAfter.{signatures_are_kept, tags_are}
 use Rattle.exchange_laws.specs.Steady.{PortsDiffer}
 use Rattle.exchange_laws.specs.Listed.{AreLiveOnly}
-use Rattle.exchange_laws.specs.Rules.{IsChange, default_rules, rule_to, with_rules}
+use Rattle.exchange_laws.specs.Rules.{IsChange, default_rule, default_rules, discarding, rule_to, with_default_rules}
 use Rattle.live_pairs.proofs.Forwards.{IsBy, forward_listed, forward_of, forwards_tie, forwards_total, get_mapped, get_taken, mapped_at, one_each, pairs_rise, rules_of, taken_at}
 use Rattle.live_pairs.proofs.GonePairs.{has_live}
 use Rattle.live_pairs.proofs.PortsAndTags.{IsPortOf, found_number, number_listed, port_listed, present_from}
 use Rattle.live_pairs.proofs.SignatureParts.{IsSenders, has_part, part_senders, same_senders}
 use Rattle.live_pairs.specs.LiveOnly.{NewFlowsAreAdded, NewPairsAreThose, group_signatures, group_tags, registered}
-use Rattle.live_pairs.specs.Pairs.{forward, forward_cmp, forwards, pair_at}
+use Rattle.live_pairs.specs.Pairs.{default_port, forward, forward_cmp, forwards, pair_at, rule_by}
 use Rattle.live_pairs.specs.declared.forward.Forward.{Forward}
 use Rattle.net_types.proofs.FindLemmas.{slice_get-Member}
 use Rattle.net_types.proofs.RisingLemmas.{filter-Member}
 use Rattle.net_types.proofs.SetLemmas.{Member-map, map-Member, union-map}
-use Rattle.net_types.specs.Answers.{offered_port}
+use Rattle.net_types.specs.Answers.{offered_hole, offered_port}
 use Rattle.net_types.specs.Exports.{Routing}
 use Rattle.net_types.specs.Keys.{prefix_cmp}
 use Rattle.net_types.specs.Maps.{each_once, ordered}
@@ -56,9 +56,17 @@ turned : (b : Bool) → not b ≡ false → b ≡ true
 turned true e = refl
 turned false e = cc
 
--- the port of the best offer of a pair's owner
-abbrev pub owner_port : State → Pair → PortNo
-owner_port s pair = option_map_or (λ (part : Part). offered_port part.offers part.best) (owners_part s pair) (record { 0 = 0 })
+-- the port of the best offer of a pair's owner, and none where that is a hole
+abbrev pub owner_port : State → Pair → Option PortNo
+owner_port s pair = option_map_or (λ (part : Part). default_port part.offers part.best) (owners_part s pair) None
+
+-- the default rule is the one by that port
+rule_is : (part : Part) → default_rule part ≡ rule_by (default_port part.offers part.best)
+rule_is part = by (offered_hole part.offers part.best)
+  where
+    by : (b : Bool) → cond b discarding (rule_to (offered_port part.offers part.best)) ≡ rule_by (cond b None (Some (offered_port part.offers part.best)))
+    by true = refl
+    by false = refl
 
 module _ (s : State) (r : Routing) (change : IsChange s r) (own : PortsDiffer s.routing.ports) where
   abbrev s1 : State
@@ -103,13 +111,13 @@ module _ (s : State) (r : Routing) (change : IsChange s r) (own : PortsDiffer s.
 
   -- ---- each forward
 
-  -- its pair becomes live, and it leaves by the port of its owner's part
+  -- its pair becomes live, and it leaves as the default of its owner's part does
   record IsNew (f : Forward) : Type 0 where
     live : is_live_pair s1 f.pair ≡ true
     dead : is_live_pair s f.pair ≡ false
     part : Part
     owns : owners_part s1 f.pair ≡ Some part
-    to : f.to ≡ offered_port part.offers part.best
+    to : f.to ≡ default_port part.offers part.best
 
   one_new : (sig : List Part) (t : Tag) (x : Part) (n : PortNo) → HasFresh sig t → Member x sig → Member n (ports_of names x.sender) → IsNew (forward t x n)
   one_new sig t x n fresh stands at = record {
@@ -198,7 +206,7 @@ module _ (s : State) (r : Routing) (change : IsChange s r) (own : PortsDiffer s.
   new_of f m = each_new f ((ordered_same forward_cmp forwards_total forwards_tie (forwards names (group_signatures s r) (group_tags s r))).onto f m)
 
   by_owner : IsBy (owner_port s1) listed
-  by_owner f m = let is = new_of f m in is.to ∙ sym (ap (λ o. option_map_or (λ (part : Part). offered_port part.offers part.best) o (record { 0 = 0 })) is.owns)
+  by_owner f m = let is = new_of f m in is.to ∙ sym (ap (λ o. option_map_or (λ (part : Part). default_port part.offers part.best) o None) is.owns)
 
   pub new_live_only : AreLiveOnly s1 s (map (λ (f : Forward). f.pair) listed)
   new_live_only = record {
@@ -214,11 +222,11 @@ module _ (s : State) (r : Routing) (change : IsChange s r) (own : PortsDiffer s.
   }
 
   -- the rule of each is that of its owner's part
-  pub new_flow_rules : (f : Forward) → Member f listed → option_map default_rules (owners_part s1 f.pair) ≡ Some (rule_to f.to ∷ [])
-  new_flow_rules f m = let is = new_of f m in ap (option_map default_rules) is.owns ∙ ap (λ n. Some (rule_to n ∷ [])) (sym is.to)
+  pub new_flow_rules : (f : Forward) → Member f listed → option_map default_rules (owners_part s1 f.pair) ≡ Some (rule_by f.to ∷ [])
+  new_flow_rules f m = let is = new_of f m in ap (option_map default_rules) is.owns ∙ ap (λ rule. Some (rule ∷ [])) (rule_is is.part) ∙ ap (λ n. Some (rule_by n ∷ [])) (sym is.to)
 
   -- the rule of each
-  new_rules : (pair : Pair) → Member pair (map (λ (f : Forward). f.pair) listed) → get (with_rules s s1).table pair ≡ Some (rules_of (owner_port s1) pair)
+  new_rules : (pair : Pair) → Member pair (map (λ (f : Forward). f.pair) listed) → get (with_default_rules s s1).table pair ≡ Some (rules_of (owner_port s1) pair)
   new_rules pair m =
       let image = map-Member (λ (f : Forward). f.pair) listed pair m in
       let is = new_of image.of image.stands in
@@ -228,7 +236,8 @@ module _ (s : State) (r : Routing) (change : IsChange s r) (own : PortsDiffer s.
       ∙ ap (λ b. cond b (cond (is_live_pair s pair) (get s.table pair) (option_map default_rules (owners_part s1 pair))) None) at.0
       ∙ ap (λ b. cond b (get s.table pair) (option_map default_rules (owners_part s1 pair))) at.1
       ∙ ap (option_map default_rules) owns
-      ∙ sym (ap (λ o. Some (rules_of (λ x. option_map_or (λ (part : Part). offered_port part.offers part.best) o (record { 0 = 0 })) pair)) owns)
+      ∙ ap (λ rule. Some (rule ∷ [])) (rule_is is.part)
+      ∙ sym (ap (λ o. Some (rules_of (λ x. option_map_or (λ (part : Part). default_port part.offers part.best) o None) pair)) owns)
 
 pub new_pairs_are_those : NewPairsAreThose
 new_pairs_are_those s r change own = new_live_only s r change own
@@ -236,7 +245,7 @@ new_pairs_are_those s r change own = new_live_only s r change own
 pub new_flows_are_added : NewFlowsAreAdded
 new_flows_are_added s r change own =
     let fs : List Forward = listed s r change own in
-    new_are_added s (with_rules s (retagged s r)) (map (λ (f : Forward). f.pair) fs) (rules_of (owner_port (retagged s r))) change.sound.pairs (has_live s r change)
+    new_are_added s (with_default_rules s (retagged s r)) (map (λ (f : Forward). f.pair) fs) (rules_of (owner_port (retagged s r))) change.sound.pairs (has_live s r change)
     (let are = new_live_only s r change own in record { rising = are.rising; each = are.each; all = are.all })
     (new_rules s r change own)
     ∙ union-map (λ pair. flows_of (pair, rules_of (owner_port (retagged s r)) pair)) (λ (f : Forward). f.pair) fs

@@ -7,7 +7,7 @@ use Rattle.events.specs.Fits.{added, dropped, none_rebuilt}
 use Rattle.events.specs.State.{State}
 use Rattle.events.specs.Tags.{Group, free_tags, groups, is_live, retagged, same_tag}
 use Rattle.exchange_laws.specs.Listed.{AreLiveOnly}
-use Rattle.exchange_laws.specs.Rules.{IsChange, with_rules}
+use Rattle.exchange_laws.specs.Rules.{IsChange, with_default_rules}
 use Rattle.exchange_laws.specs.Steady.{PortsDiffer}
 use Rattle.live_pairs.specs.Pairs.{forward_cmp, forwards, gone_pairs, new_flows, untold}
 use Rattle.live_pairs.specs.declared.forward.Forward.{Forward}
@@ -46,7 +46,7 @@ GonePairsAreThose =
 abbrev pub GonePairsAreDropped : Type 0
 GonePairsAreDropped =
     (s : State) (r : Routing) (ts : List Tag) → IsChange s r → PortsDiffer s.routing.ports → AreEmptied s (retagged s r) ts
-    → dropped s (with_rules s (retagged s r)) none_rebuilt ≡ gone_pairs (registered s) s.kept s.told ts
+    → dropped s (with_default_rules s (retagged s r)) none_rebuilt ≡ gone_pairs (registered s) s.kept s.told ts
 
 -- the fresh tags, in the order of the groups
 abbrev pub group_tags : State → Routing → List Tag
@@ -66,7 +66,7 @@ NewPairsAreThose =
 abbrev pub NewFlowsAreAdded : Type 0
 NewFlowsAreAdded =
     (s : State) (r : Routing) → IsChange s r → PortsDiffer s.routing.ports
-    → added s (with_rules s (retagged s r)) none_rebuilt ≡ new_flows (registered s) (group_signatures s r) (group_tags s r)
+    → added s (with_default_rules s (retagged s r)) none_rebuilt ≡ new_flows (registered s) (group_signatures s r) (group_tags s r)
 
 -- those of the emptied tags that nobody was told are the tags that are live no more
 abbrev pub UntoldAreDead : Type 0

@@ -1,23 +1,26 @@
 -- The pairs that go with tags that no prefix has any more, and those that come with fresh tags (this exchange's own rule).
-use Rattle.std.specs.Prelude.{Bool, not, List, [], ◌∷◌, ◌++◌, map, filter, slice_get, unwrap_or, if◌then◌else◌}
+use Rattle.std.specs.Prelude.{Bool, not, List, [], ◌∷◌, ◌++◌, map, filter, slice_get, Option, Some, None, unwrap_or, if◌then◌else◌}
 use Rattle.std.specs.FinMap.{FinMap, empty, get}
 use Rattle.std.specs.List.{list_any}
+use Rattle.std.specs.Option.{option_cmp}
 use Rattle.std.specs.Ordering.{nat_cmp, ordering_then}
 use Rattle.std.specs.declared.cmp.Ordering.{Ordering}
 use Rattle.events.specs.declared.Entry.{Entry}
 use Rattle.events.specs.Tags.{tells}
 use Rattle.events.specs.declared.Flow.{Flow}
-use Rattle.exchange_laws.specs.Rules.{rule_to}
+use Rattle.exchange_laws.specs.Rules.{discarding, rule_to}
 use Rattle.live_pairs.specs.declared.forward.Forward.{Forward}
-use Rattle.net_types.specs.Answers.{offered_port}
+use Rattle.net_types.specs.Answers.{offered_hole, offered_port}
 use Rattle.net_types.specs.Keys.{pair_cmp, prefix_cmp, tag_cmp}
 use Rattle.net_types.specs.Maps.{ordered}
 use Rattle.net_types.specs.Sets.{union_over}
 use Rattle.net_types.specs.declared.address.Pid.{Pid}
 use Rattle.net_types.specs.declared.address.PortNo.{PortNo}
 use Rattle.net_types.specs.declared.address.Tag.{Tag}
+use Rattle.net_types.specs.declared.route.Offer.{Offer}
 use Rattle.net_types.specs.declared.route.Part.{Part}
 use Rattle.net_types.specs.declared.rule.Pair.{Pair}
+use Rattle.net_types.specs.declared.rule.Rule.{Rule}
 use Rattle.registry.specs.Registered.{Registered, ports_of}
 
 -- what each participant was told, in order of declaration
@@ -48,13 +51,25 @@ gone_pairs names kept told ts = ordered pair_cmp (union_over (tag_pairs names ke
 
 -- ---- the pairs that come
 
--- by pair, and then by port
-abbrev pub forward_cmp : Forward → Forward → Ordering
-forward_cmp a b = ordering_then (pair_cmp a.pair b.pair) (nat_cmp a.to.0 b.to.0)
+-- by number
+abbrev pub port_cmp : PortNo → PortNo → Ordering
+port_cmp a b = nat_cmp a.0 b.0
 
--- everything with the tag at a port leaves by the port of the part's best offer
+-- by pair, and then by port, where none comes before a port
+abbrev pub forward_cmp : Forward → Forward → Ordering
+forward_cmp a b = ordering_then (pair_cmp a.pair b.pair) (option_cmp port_cmp a.to b.to)
+
+-- the port of an offer, and none where it is a hole
+abbrev pub offer_port : Offer → Option PortNo
+offer_port o = if o.hole then None else Some o.port
+
+-- the port of a participant's offer, and none where that is a hole
+abbrev pub default_port : List Offer → Pid → Option PortNo
+default_port offers who = if offered_hole offers who then None else Some (offered_port offers who)
+
+-- everything with the tag at a port leaves by the port of the part's best offer, or is discarded where that is a hole
 abbrev pub forward : Tag → Part → PortNo → Forward
-forward t part port = record { pair = pair_at t port; to = offered_port part.offers part.best }
+forward t part port = record { pair = pair_at t port; to = default_port part.offers part.best }
 
 -- so it is at each port of the part's sender
 abbrev pub part_forwards : Registered → Tag → Part → List Forward
@@ -66,9 +81,14 @@ forwards names [] ts = []
 forwards names (sig ∷ sigs) [] = []
 forwards names (sig ∷ sigs) (t ∷ ts) = union_over (part_forwards names t) sig ++ forwards names sigs ts
 
+-- everything leaves by the port, or is discarded where there is none
+abbrev pub rule_by : Option PortNo → Rule
+rule_by None = discarding
+rule_by (Some port) = rule_to port
+
 -- the rule of a pair
 abbrev pub flow_of : Forward → Flow
-flow_of f = record { pair = f.pair; rule = rule_to f.to }
+flow_of f = record { pair = f.pair; rule = rule_by f.to }
 
 -- the pairs that come with these tags, with their rules, in order
 abbrev pub new_flows : Registered → List (List Part) → List Tag → List Flow

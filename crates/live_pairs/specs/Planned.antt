@@ -4,7 +4,7 @@ use Rattle.events.specs.Fits.{added, dropped, none_rebuilt, tag_changes}
 use Rattle.events.specs.State.{State}
 use Rattle.events.specs.Tags.{retagged}
 use Rattle.events.specs.declared.Flow.{Flow}
-use Rattle.exchange_laws.specs.Rules.{IsChange, with_rules}
+use Rattle.exchange_laws.specs.Rules.{IsChange, with_default_rules}
 use Rattle.exchange_laws.specs.Steady.{PortsDiffer}
 use Rattle.live_pairs.specs.Emptied.{emptied}
 use Rattle.live_pairs.specs.LiveOnly.{AreDead, group_signatures, group_tags, registered}
@@ -15,8 +15,8 @@ use Rattle.net_types.specs.declared.rule.Pair.{Pair}
 
 -- these are the pairs that the reply drops, the rules that it adds, and the tags that are live no more
 pub record IsPlanned (s s1 : State) (gone : List Pair) (flows : List Flow) (dead : List Tag) : Type 0 where
-  pub drops : dropped s (with_rules s s1) none_rebuilt ≡ gone
-  pub adds : added s (with_rules s s1) none_rebuilt ≡ flows
+  pub drops : dropped s (with_default_rules s s1) none_rebuilt ≡ gone
+  pub adds : added s (with_default_rules s s1) none_rebuilt ≡ flows
   pub deaths : AreDead s s1 dead
 
 -- the tags that no prefix has any more after a change of routes

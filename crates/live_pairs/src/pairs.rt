@@ -1,18 +1,16 @@
 //! The pairs that go with tags that no prefix has any more, and those that come with fresh tags.
 
-ghost use Rattle.std.specs.Prelude.{◌≡◌, ◌++◌, IfOk, OnOk, map};
-ghost use Rattle.exchange_laws.specs.Rules.{rule_to};
-ghost use Rattle.net_types.specs.Answers.{offered_port};
+ghost use Rattle.std.specs.Prelude.{◌≡◌, ◌∷◌, ◌++◌, [], IfOk, OnOk, map};
 ghost use Rattle.net_types.specs.Sets.{union_over};
 ghost use Rattle.registry.specs.Registered.{Registered};
-ghost use Rattle.live_pairs.specs.Pairs.{flow_of, forward, forwards, gone_pairs, is_told, new_flows, pair_at, part_forwards, part_pairs, untold, was_told};
+ghost use Rattle.live_pairs.specs.Pairs.{default_port, flow_of, forward, forwards, gone_pairs, is_told, new_flows, offer_port, pair_at, part_forwards, part_pairs, rule_by, untold, was_told};
 
 use crate::ascending::{ascending_forwards, ascending_pairs};
 use crate::forward::{Forward, Fresh};
 use advert_queue::Told;
 use events::{Flow, Flows};
 use net_types::{
-    Action, Actions, Assign, Cube, Items, Memory, Pair, Pairs, Part, Pid, PortNo, Rule, Tag,
+    Action, Actions, Assign, Cube, Items, Memory, Offer, Pair, Pairs, Part, Pid, PortNo, Rule, Tag,
 };
 use prefix_classes::ClassMap;
 use registry::Registry;
@@ -76,19 +74,26 @@ pub fn gone_pairs(
     Ok(Items::from_vec(ascending_pairs(pairs)))
 }
 
-/// The port of the part's best offer.
-fn best_port(part: &Part) -> PortNo
-    ensures { result ≡ offered_port part.now.offers part.now.best }
+/// The port of an offer, and none where it is a hole.
+fn port_of(offer: &Offer) -> Option<PortNo>
+    ensures { result ≡ offer_port offer.now }
+{
+    if offer.hole { None } else { Some(offer.port) }
+}
+
+/// The port of the part's best offer, and none where that is a hole.
+fn default_port(part: &Part) -> Option<PortNo>
+    ensures { result ≡ default_port part.now.offers part.now.best }
 {
     for offer in part.offers.items() {
         if offer.exporter.0 == part.best.0 {
-            return offer.port;
+            return port_of(offer);
         }
     }
-    PortNo(0)
+    Some(PortNo(0))
 }
 
-/// From each of the ports everything with the tag leaves by the other port.
+/// From each of the ports everything with the tag leaves by the port of the part's best offer, or is discarded.
 fn push_forwards(
     ports: &[PortNo],
     tag: Tag,
@@ -97,7 +102,7 @@ fn push_forwards(
 ) -> Result<(), Memory>
     ensures { OnOk result (forwards.new.items ≡ forwards.old.items ++ map (forward tag part.now) ports.now) }
 {
-    let to = best_port(part);
+    let to = default_port(part);
     for &port in ports {
         let pair = Pair { port, tag };
         forwards.push(Forward { pair, to })?;
@@ -141,13 +146,33 @@ fn forwards(
     Ok(all)
 }
 
-/// The rule by which everything leaves by the port.
-fn rule_to(alloc: Global, port: PortNo) -> Result<Rule, Memory>
-    ensures { IfOk result (λ rule. rule ≡ rule_to port) }
+/// An action alone.
+fn alone(alloc: Global, action: Action) -> Result<Actions, Memory>
+    ensures { IfOk result (λ actions. actions ≡ action ∷ []) }
 {
-    let mut actions: Actions = Items::new(alloc);
-    let set = Assign::none();
-    actions.push(Action { port, set })?;
+    let mut actions = Actions::new(alloc);
+    actions.push(action)?;
+    Ok(actions)
+}
+
+/// By the port, and nowhere where there is none.
+fn actions_by(alloc: Global, port: Option<PortNo>) -> Result<Actions, Memory>
+    ensures { IfOk result (λ actions. actions ≡ (rule_by port).actions) }
+{
+    match port {
+        Some(port) => {
+            let set = Assign::none();
+            alone(alloc, Action { port, set })
+        }
+        None => Ok(Actions::new(alloc)),
+    }
+}
+
+/// The rule by which everything leaves by the port, or is discarded where there is none.
+fn rule_by(alloc: Global, port: Option<PortNo>) -> Result<Rule, Memory>
+    ensures { IfOk result (λ rule. rule ≡ rule_by port) }
+{
+    let actions = actions_by(alloc, port)?;
     let cube = Cube::everything();
     Ok(Rule { cube, actions })
 }
@@ -158,7 +183,7 @@ fn flows_of(alloc: Global, forwards: &[Forward]) -> Result<Vec<Flow>, Memory>
 {
     let mut flows = Vec::new(alloc);
     for forward in forwards {
-        let rule = rule_to(alloc, forward.to)?;
+        let rule = rule_by(alloc, forward.to)?;
         let pair = forward.pair;
         flows.push(Flow { pair, rule })?;
     }
@@ -166,7 +191,8 @@ fn flows_of(alloc: Global, forwards: &[Forward]) -> Result<Vec<Flow>, Memory>
 }
 
 /// The rules of the pairs that come with fresh tags, ascending by port, and then by tag: each group has the tag at its
-/// place, and everything leaves by the port of the best offer. Memory is the only refusal.
+/// place, and everything leaves by the port of the best offer, or is discarded where that is a hole. Memory is the only
+/// refusal.
 pub fn new_flows(
     alloc: Global,
     names: &Registry,

@@ -1,7 +1,7 @@
 -- What a table is whose entries rise, and what an edit of the entries does to it.
-use Rattle.std.proofs.Common.{◌≡◌, ℕ, ◌+◌, ◌-◌, ◌≤◌, ◌<◌, Bool, true, false, cond, List, [], length, sum_by, sym, ap, ◌∙◌, refl, arith}
-use Rattle.std.specs.Prelude.{Option, None, unwrap_or}
-use Rattle.std.specs.FinMap.{FinMap, entries, get, insert, remove, from_sorted}
+use Rattle.std.proofs.Common.{◌≡◌, ℕ, ◌+◌, ◌-◌, ◌≤◌, Bool, true, false, cond, List, [], length, sym, ap, ◌∙◌, refl, arith}
+use Rattle.std.specs.Prelude.{Option, unwrap_or}
+use Rattle.std.specs.FinMap.{entries, get, insert, remove, from_sorted}
 use Rattle.std.specs.FinMap.Entries.{find, is_sorted, put}
 use Rattle.net_types.proofs.OrderLemmas.{pairs_total}
 use Rattle.net_types.proofs.PlaceLemmas.{without, entries_of_sorted, get_sorted, insert_sorted, put_sorted, remove_sorted, without_sorted}

@@ -4,7 +4,7 @@ mod forwarding;
 mod table;
 
 use crate::Switch;
-use net_types::{Action, Assign, Cube, Items, Memory, Pair, PortNo, Rule, Tag};
+use net_types::{Action, Actions, Assign, Cube, Items, Memory, Pair, PortNo, Rule, Tag};
 use std::alloc::Global;
 
 /// To a port, with the headers as they are.
@@ -17,7 +17,7 @@ fn to(port: u16) -> Action {
 
 /// These actions for all headers that lie in the cube.
 fn rule(alloc: Global, cube: Cube, actions: &[Action]) -> Result<Rule, Memory> {
-    let mut list = Items::new(alloc);
+    let mut list = Actions::new(alloc);
     for action in actions {
         list.push(*action)?;
     }

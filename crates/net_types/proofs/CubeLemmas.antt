@@ -1,6 +1,7 @@
 -- Laws of cubes: what they have, their meets, and that cubes with the same headers are equal.
 use Rattle.std.proofs.Common.{◌≡◌, ℕ, ◌<◌, ◌^◌, Bool, true, false, eqb, ◌&&◌, cond, unwrap_or, IfSome, zero, suc, Option, Some, None, refl, inl, inr, sym, ap, ◌∙◌, arith}
 use Rattle.std.proofs.lemmas.Bool.{eqb-true, eq-eqb, and_parts, and_from, cases_Bool, and_cases, false_from_ne_true, false≢true, ne_eqb}
+use Rattle.std.specs.Option.{option_or}
 use Rattle.net_types.specs.declared.address.Ip.{Ip}
 use Rattle.net_types.specs.declared.address.PortNo.{PortNo}
 use Rattle.net_types.specs.declared.prefix.Prefix.{Prefix}
@@ -9,7 +10,7 @@ use Rattle.net_types.specs.declared.headers.Assign.{Assign}
 use Rattle.net_types.specs.declared.cube.Cube.{Cube}
 use Rattle.net_types.specs.Bits.{same_bits}
 use Rattle.net_types.specs.Prefixes.{any_prefix, covers, lies_within, meet_prefixes}
-use Rattle.net_types.specs.Headers.{apply, option_or, IsValid}
+use Rattle.net_types.specs.Headers.{apply, IsValid}
 use Rattle.net_types.specs.Cubes.{IsInRange, agrees, port_is, same_port, has, everything, cube_of, meet_values, meet_cubes, pull_value, pull_prefix, pull_cube, within_values, lies_within_cube}
 use Rattle.net_types.proofs.PrefixLemmas.{covers_option, covers-meet, same_bits_refl, within-covers, prefix_apart, prefix_antisym}
 

@@ -7,10 +7,11 @@ use Rattle.std.specs.declared.cmp.Ordering.{Ordering}
 use Rattle.std.specs.declared.cmp.Ordering.TheVariants.{Less, Equal, Greater}
 use Rattle.net_types.proofs.PrefixLemmas.{prefix_ext}
 use Rattle.std.proofs.lemmas.Cmp.{on_total, then_total}
-use Rattle.net_types.specs.Keys.{prefix_cmp, tag_cmp, pair_cmp, RouteKey, route_cmp}
+use Rattle.net_types.specs.Keys.{prefix_cmp, tag_cmp, pair_cmp, RouteKey, route_cmp, ip_cmp}
 use Rattle.net_types.specs.declared.address.Tag.{Tag}
 use Rattle.net_types.specs.declared.prefix.Prefix.{Prefix}
 use Rattle.net_types.specs.declared.rule.Pair.{Pair}
+use Rattle.net_types.specs.declared.address.Ip.{Ip}
 
 pub prefixes_total : IsTotalOrder prefix_cmp
 prefixes_total = then_total (on_total (λ (p : Prefix). p.address.0) nat_cmp_total) (on_total (λ p. p.len) nat_cmp_total)
@@ -23,6 +24,9 @@ routes_total = then_total (on_total (λ (k : RouteKey). k.prefix) prefixes_total
 
 pub tags_total : IsTotalOrder tag_cmp
 tags_total = on_total (λ (t : Tag). t.0) nat_cmp_total
+
+pub ips_total : IsTotalOrder ip_cmp
+ips_total = on_total (λ (ip : Ip). ip.0) nat_cmp_total
 
 tie_parts : (a b : Ordering) → is_eq (ordering_then a b) ≡ true → (is_eq a ≡ true) × (is_eq b ≡ true)
 tie_parts Less b e = absurd (false≢true e)

@@ -1,12 +1,17 @@
 -- The different members of a list in an order: they rise, and depend on which members it has alone.
-use Rattle.std.proofs.Common.{◌≡◌, true, false, ◌||◌, List, [], ◌∷◌, sym, ap, ◌∙◌, refl, inl, inr}
+use Rattle.std.proofs.Common.{◌≡◌, true, false, ◌||◌, List, [], ◌∷◌, sym, ap, ◌∙◌, refl, inl, inr, Bool, IsPermutation, subst}
 use Rattle.std.specs.Prelude.{Some, is_some}
 use Rattle.std.specs.Cmp.{IsTotalOrder}
 use Rattle.std.specs.FinMap.{contains_key-keys}
-use Rattle.std.specs.List.{list_any}
-use Rattle.std.specs.Ordering.{eq_by_cmp}
+use Rattle.std.specs.List.{list_any, AllByRecursion, dedup}
+use Rattle.std.specs.Ordering.{eq_by_cmp, is_lt}
 use Rattle.std.specs.declared.cmp.Ordering.{Ordering}
 use Rattle.std.proofs.lemmas.Bool.{or_left, or_right}
+use Rattle.std.specs.List.Sorted.{IsSorted, IsStrictlySortedBy}
+use Rattle.std.specs.declared.cmp.Ordering.TheVariants.{Less}
+use Rattle.std.proofs.lemmas.Cmp.{eq_by_cmp_equiv}
+use Rattle.std.proofs.lemmas.List.Kept.{Contains-dedup, Contains-from_dedup, IsStrictlySortedBy-dedup}
+use Rattle.std.proofs.lemmas.List.Sorted.{IsPermutation-sym}
 use Rattle.net_types.proofs.FindLemmas.{is_some-cond}
 use Rattle.net_types.proofs.MapLemmas.{get-tabulate}
 use Rattle.net_types.proofs.RisingLemmas.{before, before_itself, before_trans, keys-IsRising}
@@ -14,6 +19,18 @@ use Rattle.net_types.proofs.SetLemmas.{rising_unique, same_trans, same_sym}
 use Rattle.net_types.proofs.TieLemmas.{ties_itself}
 use Rattle.net_types.specs.Maps.{ordered, tabulate}
 use Rattle.net_types.specs.Sets.{Member, SameMembers, IsRising}
+use Rattle.net_types.proofs.MemberLemmas.{Contains-Member, Member-at, Member-permutation}
+
+each : {A : Type 0} (P : A → Type 0) (xs : List A) (x : A) → AllByRecursion P xs → Member x xs → P x
+each P [] x h m = elim m [ ]
+each P (y ∷ ys) x h (inl e) = subst P (sym e) h.0
+each P (y ∷ ys) x h (inr m) = each P ys x h.1 m
+
+-- a list in which each is less than the next rises
+pub sorted_rises : {K : Type 0} (R : K → K → Ordering) (xs : List K) → IsStrictlySortedBy R xs → IsRising (before R) xs
+unfolding IsStrictlySortedBy
+sorted_rises R [] h = tt
+sorted_rises R (x ∷ xs) h = (λ y m. ap is_lt (each (λ q. R x q ≡ Less) xs y h.0 m), sorted_rises R xs h.1)
 
 module _ {K : Type 0} (R : K → K → Ordering) (o : IsTotalOrder R) (tie : (x y : K) → eq_by_cmp R x y ≡ true → x ≡ y) where
   pub member_any : (x : K) (ks : List K) → Member x ks → list_any (eq_by_cmp R x) ks ≡ true
@@ -29,7 +46,8 @@ module _ {K : Type 0} (R : K → K → Ordering) (o : IsTotalOrder R) (tie : (x 
         | false ↦ λ t is. inr (any_member x ks is)
       ] refl e
 
-  any_ordered : (x : K) (ks : List K) → list_any (eq_by_cmp R x) (ordered R ks) ≡ list_any (eq_by_cmp R x) ks
+  -- a test for a tie passes in a list in order as in the list
+  pub any_ordered : (x : K) (ks : List K) → list_any (eq_by_cmp R x) (ordered R ks) ≡ list_any (eq_by_cmp R x) ks
   any_ordered x ks =
       sym (contains_key-keys (tabulate R ks (λ k. Some k)) x)
       ∙ ap is_some (get-tabulate R o (λ k. Some k) (λ q k t. ap Some (sym (tie q k t))) ks x)
@@ -53,3 +71,21 @@ module _ {K : Type 0} (R : K → K → Ordering) (o : IsTotalOrder R) (tie : (x 
   -- lists of the same members are the same list in order
   pub ordered_alike : (xs ys : List K) → SameMembers xs ys → ordered R xs ≡ ordered R ys
   ordered_alike xs ys same = ordered_is (ordered R xs) ys (ordered_rises xs) (same_trans (ordered_same xs) same)
+
+  tied_is : (xs ys : List K) → IsPermutation xs ys → IsSorted R ys → dedup (eq_by_cmp R) ys ≡ ordered R xs
+  tied_is xs ys moved sorted =
+      let once = dedup (eq_by_cmp R) ys in
+      ordered_is once xs (sorted_rises R once (IsStrictlySortedBy-dedup o (λ x y. refl) ys sorted)) (record {
+        onto = λ x m.
+            let c = Contains-from_dedup (eq_by_cmp R) ys x (Contains-Member once x m) in
+            Member-permutation ys xs x (IsPermutation-sym xs ys moved) (Member-at ys c.0 x x c.1 c.2);
+        back = λ x m.
+            let c = Contains-dedup (eq_by_cmp_equiv o) tie ys x (Contains-Member ys x (Member-permutation xs ys x moved m)) in
+            Member-at once c.0 x x c.1 c.2;
+      })
+
+  -- a sorted list without repeats is the list in order: the test of `dedup` says what ties
+  pub deduped_is : (test : K → K → Bool) → ((x y : K) → test x y ≡ eq_by_cmp R x y) → (xs ys : List K) → IsPermutation xs ys → IsSorted R ys → dedup test ys ≡ ordered R xs
+  deduped_is test ties xs ys moved sorted =
+      let alike : test ≡ eq_by_cmp R = λ i x y. ties x y i in
+      ap (λ (f : K → K → Bool). dedup f ys) alike ∙ tied_is xs ys moved sorted

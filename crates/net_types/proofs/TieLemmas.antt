@@ -6,7 +6,7 @@ use Rattle.std.specs.Ordering.{nat_cmp, eq_by_cmp, is_eq, ordering_then}
 use Rattle.std.specs.declared.cmp.Ordering.{Ordering}
 use Rattle.std.specs.declared.cmp.Ordering.TheVariants.{Less, Equal, Greater}
 use Rattle.std.proofs.lemmas.Cmp.{tied_itself}
-use Rattle.net_types.specs.Keys.{prefix_cmp, tag_cmp, pair_cmp, route_cmp}
+use Rattle.net_types.specs.Keys.{prefix_cmp, tag_cmp, pair_cmp, route_cmp, ip_cmp}
 use Rattle.net_types.proofs.PrefixLemmas.{prefix_ext}
 
 pub tie_Equal : (r : Ordering) → is_eq r ≡ true → r ≡ Equal
@@ -14,12 +14,12 @@ tie_Equal Less e = cc
 tie_Equal Equal e = refl
 tie_Equal Greater e = cc
 
-first_tie : (o r : Ordering) → ordering_then o r ≡ Equal → o ≡ Equal
+pub first_tie : (o r : Ordering) → ordering_then o r ≡ Equal → o ≡ Equal
 first_tie Less r e = e
 first_tie Equal r e = refl
 first_tie Greater r e = e
 
-second_tie : (o r : Ordering) → ordering_then o r ≡ Equal → r ≡ Equal
+pub second_tie : (o r : Ordering) → ordering_then o r ≡ Equal → r ≡ Equal
 second_tie Less r e = cc
 second_tie Equal r e = e
 second_tie Greater r e = cc
@@ -36,6 +36,9 @@ prefix_cmp-IsAntisymmetric p q e =
 
 pub tag_cmp-IsAntisymmetric : IsAntisymmetric tag_cmp
 tag_cmp-IsAntisymmetric t u e = λ i. record { 0 = nat_cmp-IsAntisymmetric t.0 u.0 e i }
+
+pub ip_cmp-IsAntisymmetric : IsAntisymmetric ip_cmp
+ip_cmp-IsAntisymmetric a b e = λ i. record { 0 = nat_cmp-IsAntisymmetric a.0 b.0 e i }
 
 pub pair_cmp-IsAntisymmetric : IsAntisymmetric pair_cmp
 pair_cmp-IsAntisymmetric a b e = λ i. record {

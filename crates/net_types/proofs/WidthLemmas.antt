@@ -3,9 +3,9 @@ use Rattle.std.proofs.Common.{◌≡◌, ◌≤◌, ◌⊎◌, ℕ, suc, arith, 
 use Rattle.std.proofs.lemmas.Bool.{and_from, cases_Bool, false≢true}
 use Rattle.net_types.specs.declared.cube.Cube.{Cube}
 use Rattle.net_types.specs.Cubes.{meet_cubes, lies_within_cube}
-use Rattle.net_types.specs.Sets.{Member}
+use Rattle.net_types.specs.Sets.{Member, HasNoRepeats}
 use Rattle.net_types.specs.Meets.{has_cube, add_found, add_meets, meets}
-use Rattle.net_types.specs.Widths.{Differ, HasMoreThan}
+use Rattle.net_types.specs.Widths.{HasMoreThan}
 use Rattle.net_types.proofs.SetLemmas
 use Rattle.net_types.proofs.CubeLemmas.{within_refl}
 use Rattle.net_types.proofs.MeetLemmas.{meets-IsMeet, IsMeet-meets, IsMeet-meet, IsMeet-member, IsMeet-wider}
@@ -30,7 +30,7 @@ without x (y ∷ ys) (inr h) =
     }
 
 -- different members of a list are no more than its members
-pub no_longer : {A : Type 0} (xs ys : List A) → Differ xs → ((x : A) → Member x xs → Member x ys) → length xs ≤ length ys
+pub no_longer : {A : Type 0} (xs ys : List A) → HasNoRepeats xs → ((x : A) → Member x xs → Member x ys) → length xs ≤ length ys
 no_longer [] ys d stand = omega arith
 no_longer {A} (x ∷ xs) ys d stand =
     let w = without x ys (stand x (inl refl)) in
@@ -39,9 +39,9 @@ no_longer {A} (x ∷ xs) ys d stand =
     kept : (w : Without x ys) (z : A) → Member z xs → Member z w.rest
     kept w z k = elim (w.others z (stand z (inr k))) [ inl e ↦ absurd (d.0 (subst (λ v. Member v xs) e k)) | inr r ↦ r ]
 
-pub Differ-push : {A : Type 0} (xs : List A) (y : A) → Differ xs → (Member y xs → ⊥) → Differ (xs ++ y ∷ [])
-Differ-push [] y d fresh = (λ k. elim k [ ], tt)
-Differ-push (x ∷ xs) y d fresh = (λ k. elim (SetLemmas.Member-append_cases xs (y ∷ []) x k) [ inl old ↦ d.0 old | inr new ↦ elim new [ inl e ↦ fresh (inl (sym e)) | inr none ↦ elim none [ ] ] ], Differ-push xs y d.1 (λ k. fresh (inr k)))
+pub HasNoRepeats-push : {A : Type 0} (xs : List A) (y : A) → HasNoRepeats xs → (Member y xs → ⊥) → HasNoRepeats (xs ++ y ∷ [])
+HasNoRepeats-push [] y d fresh = (λ k. elim k [ ], tt)
+HasNoRepeats-push (x ∷ xs) y d fresh = (λ k. elim (SetLemmas.Member-append_cases xs (y ∷ []) x k) [ inl old ↦ d.0 old | inr new ↦ elim new [ inl e ↦ fresh (inl (sym e)) | inr none ↦ elim none [ ] ] ], HasNoRepeats-push xs y d.1 (λ k. fresh (inr k)))
 
 -- what has more than so many has them in each list that holds its members
 pub more_wider : {A : Type 0} (n : ℕ) (xs ys : List A) → ((x : A) → Member x xs → Member x ys) → HasMoreThan n xs → HasMoreThan n ys
@@ -62,26 +62,26 @@ Member-has_cube (x ∷ xs) c (inr h) = ap (λ b. (lies_within_cube x c && lies_w
     or_true true = refl
     or_true false = refl
 
-add_found-Differ : (kept : List Cube) (o : Option Cube) → Differ kept → Differ (add_found kept o)
-add_found-Differ kept None d = d
-add_found-Differ kept (Some c) d = elim (cases_Bool (has_cube kept c)) [
-  | inl there ↦ subst (λ b. Differ (cond b kept (kept ++ c ∷ []))) (sym there) d
-  | inr absent ↦ subst (λ b. Differ (cond b kept (kept ++ c ∷ []))) (sym absent) (Differ-push kept c d (λ k. false≢true (sym absent ∙ Member-has_cube kept c k)))
+add_found-HasNoRepeats : (kept : List Cube) (o : Option Cube) → HasNoRepeats kept → HasNoRepeats (add_found kept o)
+add_found-HasNoRepeats kept None d = d
+add_found-HasNoRepeats kept (Some c) d = elim (cases_Bool (has_cube kept c)) [
+  | inl there ↦ subst (λ b. HasNoRepeats (cond b kept (kept ++ c ∷ []))) (sym there) d
+  | inr absent ↦ subst (λ b. HasNoRepeats (cond b kept (kept ++ c ∷ []))) (sym absent) (HasNoRepeats-push kept c d (λ k. false≢true (sym absent ∙ Member-has_cube kept c k)))
 ]
 
-add_meets-Differ : (c : Cube) (kept ms : List Cube) → Differ kept → Differ (add_meets c kept ms)
-add_meets-Differ c kept [] d = d
-add_meets-Differ c kept (m ∷ ms) d = add_meets-Differ c (add_found kept (meet_cubes c m)) ms (add_found-Differ kept (meet_cubes c m) d)
+add_meets-HasNoRepeats : (c : Cube) (kept ms : List Cube) → HasNoRepeats kept → HasNoRepeats (add_meets c kept ms)
+add_meets-HasNoRepeats c kept [] d = d
+add_meets-HasNoRepeats c kept (m ∷ ms) d = add_meets-HasNoRepeats c (add_found kept (meet_cubes c m)) ms (add_found-HasNoRepeats kept (meet_cubes c m) d)
 
-pub meets-Differ : (cubes : List Cube) → Differ (meets cubes)
-meets-Differ [] = (λ k. elim k [ ], tt)
-meets-Differ (c ∷ cubes) = add_meets-Differ c (meets cubes) (meets cubes) (meets-Differ cubes)
+pub meets-HasNoRepeats : (cubes : List Cube) → HasNoRepeats (meets cubes)
+meets-HasNoRepeats [] = (λ k. elim k [ ], tt)
+meets-HasNoRepeats (c ∷ cubes) = add_meets-HasNoRepeats c (meets cubes) (meets cubes) (meets-HasNoRepeats cubes)
 
 -- ---- how many meets there are
 
 -- where the cubes of one list stand in another, it has no more meets
 pub meets-fewer : (xs ys : List Cube) → ((c : Cube) → Member c xs → Member c ys) → length (meets xs) ≤ length (meets ys)
-meets-fewer xs ys stand = no_longer (meets xs) (meets ys) (meets-Differ xs) (λ x k. IsMeet-meets ys x (IsMeet-wider xs ys (λ c m. IsMeet-member ys c (stand c m)) x (meets-IsMeet xs x k)))
+meets-fewer xs ys stand = no_longer (meets xs) (meets ys) (meets-HasNoRepeats xs) (λ x k. IsMeet-meets ys x (IsMeet-wider xs ys (λ c m. IsMeet-member ys c (stand c m)) x (meets-IsMeet xs x k)))
 
 -- a cube that is a meet already adds none
 all_there : (c : Cube) (kept ms : List Cube) → ((m x : Cube) → Member m ms → meet_cubes c m ≡ Some x → Member x kept) → add_meets c kept ms ≡ kept

@@ -6,10 +6,10 @@ use Rattle.net_types.specs.declared.address.Ip.{Ip}
 use Rattle.net_types.specs.declared.headers.Assign.{Assign}
 use Rattle.net_types.specs.Attributes.{same_ip, same_option}
 use Rattle.net_types.specs.Maps.{each_once}
-use Rattle.net_types.specs.Sets.{Member}
+use Rattle.net_types.specs.Sets.{Member, HasNoRepeats}
 use Rattle.net_types.specs.Policies.{Policy, atoms, mods}
 use Rattle.net_types.specs.Meets.{meets}
-use Rattle.net_types.specs.Widths.{Differ, HasMoreThan, parts, IsTooWide, WidthIsTested, same_assign, is_wide_part, is_too_wide}
+use Rattle.net_types.specs.Widths.{HasMoreThan, parts, IsTooWide, WidthIsTested, same_assign, is_wide_part, is_too_wide}
 use Rattle.net_types.proofs.EqualLemmas.{IsEqualityTest, from_itself, nat_test, option_test}
 use Rattle.net_types.proofs.FindLemmas.{IsFound, any_at}
 use Rattle.net_types.proofs.RisingLemmas.{filter-Member, Member-filter}
@@ -18,11 +18,11 @@ use Rattle.net_types.proofs.WidthLemmas.{no_longer}
 
 -- ---- the different ones of a list
 
-Differ-filter : {A : Type 0} (keep : A → Bool) (xs : List A) → Differ xs → Differ (filter keep xs)
-Differ-filter keep [] d = d
-Differ-filter keep (x ∷ xs) d = by (keep x) (Differ-filter keep xs d.1)
+HasNoRepeats-filter : {A : Type 0} (keep : A → Bool) (xs : List A) → HasNoRepeats xs → HasNoRepeats (filter keep xs)
+HasNoRepeats-filter keep [] d = d
+HasNoRepeats-filter keep (x ∷ xs) d = by (keep x) (HasNoRepeats-filter keep xs d.1)
   where
-    by : (b : Bool) → Differ (filter keep xs) → Differ (cond b (x ∷ filter keep xs) (filter keep xs))
+    by : (b : Bool) → HasNoRepeats (filter keep xs) → HasNoRepeats (cond b (x ∷ filter keep xs) (filter keep xs))
     by true rest = (λ m. d.0 (filter-Member keep xs x m).stands, rest)
     by false rest = rest
 
@@ -40,11 +40,11 @@ module _ {A : Type 0} (same : A → A → Bool) (test : IsEqualityTest same) whe
     | inr other ↦ inr (Member-filter (λ z. not (same x z)) (each_once same xs) y (Member-once xs y m) (ap not other))
   ]
 
-  once-Differ : (xs : List A) → Differ (each_once same xs)
-  once-Differ [] = tt
-  once-Differ (x ∷ xs) = (
+  once-HasNoRepeats : (xs : List A) → HasNoRepeats (each_once same xs)
+  once-HasNoRepeats [] = tt
+  once-HasNoRepeats (x ∷ xs) = (
     λ m. false≢true (sym (ap not ((test x x).1 refl)) ∙ (filter-Member (λ z. not (same x z)) (each_once same xs) x m).passes),
-    Differ-filter (λ z. not (same x z)) (each_once same xs) (once-Differ xs),
+    HasNoRepeats-filter (λ z. not (same x z)) (each_once same xs) (once-HasNoRepeats xs),
   )
 
   -- a list has more than so many different members exactly where the different ones are more
@@ -52,7 +52,7 @@ module _ {A : Type 0} (same : A → A → Bool) (test : IsEqualityTest same) whe
   more-once n xs m = omega (arith, m.more, no_longer m.some (each_once same xs) m.differ (λ x k. Member-once xs x (m.stand x k)))
 
   pub once-more : (n : ℕ) (xs : List A) → n < length (each_once same xs) → HasMoreThan n xs
-  once-more n xs more = record { some = each_once same xs; differ = once-Differ xs; stand = once-Member xs; more = more }
+  once-more n xs more = record { some = each_once same xs; differ = once-HasNoRepeats xs; stand = once-Member xs; more = more }
 
 -- ---- assignments
 

@@ -111,3 +111,7 @@ written_from (Some h) to frame = written_fields h to frame
 -- the frame with these headers written into it, to this MAC
 abbrev pub written : List ℕ → Headers → Mac → List ℕ
 written frame to mac = mac.0 ++ drop 6 (written_from (headers_of to.inport frame) to frame)
+
+-- a datagram as an IPv4 frame from one MAC to another
+abbrev pub framed : Mac → Mac → List ℕ → List ℕ
+framed to from datagram = to.0 ++ from.0 ++ 8 ∷ 0 ∷ datagram

@@ -25,3 +25,8 @@ otherwise (x ∷ xs) ys = x ∷ xs
 abbrev pub IsRising : {A : Type 0} → (A → A → Bool) → List A → Type 0
 IsRising below [] = Unit {0}
 IsRising {A} below (x ∷ xs) = ((y : A) → Member y xs → below x y ≡ true) × IsRising below xs
+
+-- no member comes twice
+abbrev pub HasNoRepeats : {A : Type 0} → List A → Type 0
+HasNoRepeats [] = Unit {0}
+HasNoRepeats (x ∷ xs) = ¬ Member x xs × HasNoRepeats xs

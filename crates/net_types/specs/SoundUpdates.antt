@@ -1,5 +1,5 @@
 -- Updates that have the form of what a message may say (this exchange's own rule).
-use Rattle.std.specs.Prelude.{◌≡◌, ℕ, ◌*◌, ◌<◌, ◌≤◌, ◌^◌, false, List, [], ◌∷◌, length, Option, Some, None}
+use Rattle.std.specs.Prelude.{◌≡◌, ◌*◌, ◌<◌, ◌≤◌, ◌^◌, false, List, [], ◌∷◌, length, Option, Some, None}
 use Rattle.std.specs.List.{All}
 use Rattle.net_types.specs.AttributeTypes.{type_of}
 use Rattle.net_types.specs.Sets.{IsRising, Member}
@@ -9,19 +9,14 @@ use Rattle.net_types.specs.declared.prefix.Prefix.{Prefix}
 use Rattle.net_types.specs.declared.route.Aggregator.{Aggregator}
 use Rattle.net_types.specs.declared.route.Attrs.{Attrs}
 use Rattle.net_types.specs.declared.route.Segment.{Segment}
-use Rattle.net_types.specs.declared.route.Segment.TheVariants.{Set, Sequence}
 use Rattle.net_types.specs.declared.route.Unknown.{Unknown}
 use Rattle.net_types.specs.declared.update.Update.{Update}
+use Rattle.net_types.specs.Exports.{asns as asns_of}
 
 -- each member of a list
 abbrev pub Each : {A : Type 0} → (A → Type 0) → List A → Type 0
 Each P [] = Unit {0}
 Each P (x ∷ xs) = P x × Each P xs
-
--- the AS numbers of a segment
-abbrev pub asns_of : Segment → List ℕ
-asns_of (Set ns) = ns
-asns_of (Sequence ns) = ns
 
 -- a segment has 1 to 255 AS numbers of two octets
 pub record IsSoundSegment (s : Segment) : Type 0 where

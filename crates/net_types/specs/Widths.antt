@@ -4,19 +4,14 @@ use Rattle.std.specs.List.{list_any}
 use Rattle.net_types.specs.Attributes.{same_option, same_ip}
 use Rattle.net_types.specs.declared.headers.Assign.{Assign}
 use Rattle.net_types.specs.Maps.{each_once}
-use Rattle.net_types.specs.Sets.{Member}
+use Rattle.net_types.specs.Sets.{Member, HasNoRepeats}
 use Rattle.net_types.specs.Meets.{meets}
 use Rattle.net_types.specs.Policies.{Policy, Drop, Pass, Block, Fwd, Match, Set, Both, Then, atoms, mods}
-
--- no member stands twice
-abbrev pub Differ : {A : Type 0} → List A → Type 0
-Differ [] = Unit {0}
-Differ (x ∷ xs) = ¬ Member x xs × Differ xs
 
 -- the list has more than n different members
 pub record HasMoreThan {A : Type 0} (n : ℕ) (xs : List A) : Type 0 where
   pub some : List A
-  pub differ : Differ some
+  pub differ : HasNoRepeats some
   pub stand : (x : A) → Member x some → Member x xs
   pub more : n < length some
 

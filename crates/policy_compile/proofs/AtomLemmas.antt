@@ -1,6 +1,7 @@
 -- The atoms of policies as sets, and cubes behind the paths of policies.
 use Rattle.std.proofs.Common.{◌≡◌, ◌≤◌, arith, length, Option, Some, None, List, [], ◌∷◌, ◌++◌, map, append_assoc, refl, inl, inr, sym, ap, ◌∙◌, subst}
 use Rattle.std.specs.Option.{option_to_list}
+use Rattle.std.proofs.lemmas.List.{append-nil}
 use Rattle.net_types.specs.declared.cube.Cube.{Cube}
 use Rattle.net_types.specs.declared.headers.Headers.{Headers}
 use Rattle.net_types.specs.declared.headers.Assign.{Assign}
@@ -19,7 +20,7 @@ use Rattle.classifier.specs.Seen.{cube_eq}
 use Rattle.classifier.proofs.ResultLemmas.{apply-followed_by}
 use Rattle.policy_compile.specs.Sets.{adds}
 use Rattle.policy_compile.specs.Narrow.{HasWideMeets}
-use Rattle.policy_compile.proofs.SetsLemmas.{append-nil, cubes-same}
+use Rattle.policy_compile.proofs.SetsLemmas.{cubes-same}
 
 -- ---- cubes behind the paths of a policy
 

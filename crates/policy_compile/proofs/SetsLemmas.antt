@@ -3,21 +3,21 @@ use Rattle.std.proofs.Common.{◌≡◌, ◌<◌, ℕ, length, cond, Bool, true,
 use Rattle.std.specs.Option.{option_eq}
 use Rattle.std.specs.List.{list_any, list_all, IsDistinct, AllByRecursion}
 use Rattle.std.specs.HashSet.{HashSet, contains}
-use Rattle.std.proofs.lemmas.List.{at_drop_more}
+use Rattle.std.proofs.lemmas.List.{at_drop_more, append-nil}
 use Rattle.std.proofs.lemmas.Bool.{eqb-true, eq-eqb, and_parts, and_from, or_cases, cases_Bool, false≢true}
 use Rattle.indexmap.specs.IndexSet.{insert_key}
 use Rattle.net_types.specs.declared.address.Ip.{Ip}
 use Rattle.net_types.specs.declared.cube.Cube.{Cube}
 use Rattle.net_types.specs.Cubes.{lies_within_cube}
-use Rattle.net_types.specs.Sets.{Member, SameMembers}
+use Rattle.net_types.specs.Sets.{Member, SameMembers, HasNoRepeats}
 use Rattle.net_types.specs.Meets.{has_cube, add_found}
-use Rattle.net_types.specs.Widths.{Differ}
+use Rattle.net_types.specs.Attributes.{same_ip}
 use Rattle.net_types.proofs.SetLemmas
 use Rattle.classifier.specs.Seen.{cube_eq}
 use Rattle.classifier.proofs.ItemLemmas.{option_eq_exact, option_eq_refl}
 use Rattle.classifier.proofs.SeenLemmas.{cube_eq_exact, cube_eq_refl, cube_eq_is}
 use Rattle.policy_compile.specs.declared.fields.Fields.{Fields}
-use Rattle.policy_compile.specs.Sets.{adds, same_ip, same_fields, assign_of, assigns_of, fields_of}
+use Rattle.policy_compile.specs.Sets.{adds, same_fields, assign_of, assigns_of, fields_of}
 
 or_true : (b : Bool) → (b || true) ≡ true
 or_true true = refl
@@ -54,22 +54,18 @@ module _ {A : Type 0} (eq : A → A → Bool) (exact : (x y : A) → eq x y ≡ 
       (SetLemmas.same_trans (SetLemmas.same_append (insert-same ks x) (SetLemmas.same_refl xs)) (SetLemmas.same_eq (append_assoc ks (x ∷ []) xs)))
 
   -- keys that no test finds equal differ
-  pub IsDistinct-Differ : (ks : List A) → IsDistinct eq ks → Differ ks
+  pub IsDistinct-HasNoRepeats : (ks : List A) → IsDistinct eq ks → HasNoRepeats ks
   unfolding IsDistinct
-  IsDistinct-Differ [] d = tt
-  IsDistinct-Differ (k ∷ ks) d = (λ h. apart ks h d.0, IsDistinct-Differ ks d.1)
+  IsDistinct-HasNoRepeats [] d = tt
+  IsDistinct-HasNoRepeats (k ∷ ks) d = (λ h. apart ks h d.0, IsDistinct-HasNoRepeats ks d.1)
     where
       apart : (xs : List A) → Member k xs → AllByRecursion (λ y. eq k y ≡ false) xs → ⊥
       apart [] h a = elim h [ ]
       apart (x ∷ xs) (inl e) a = false≢true (sym a.0 ∙ ap (eq k) (sym e) ∙ reflexive k)
       apart (x ∷ xs) (inr h) a = apart xs h a.1
 
-pub append-nil : {A : Type 0} (xs : List A) → xs ++ [] ≡ xs
-append-nil [] = refl
-append-nil (x ∷ xs) = ap (λ ws. x ∷ ws) (append-nil xs)
-
 -- what stands behind others that differ from it isn't among them
-differ-apart : {A : Type 0} (ks xs : List A) (x : A) → Differ (ks ++ x ∷ xs) → Member x ks → ⊥
+differ-apart : {A : Type 0} (ks xs : List A) (x : A) → HasNoRepeats (ks ++ x ∷ xs) → Member x ks → ⊥
 differ-apart [] xs x d h = elim h [ ]
 differ-apart (k ∷ ks) xs x d (inl e) = d.0 (subst (λ y. Member y (ks ++ x ∷ xs)) e (SetLemmas.Member-append_right ks (x ∷ xs) x (inl refl)))
 differ-apart (k ∷ ks) xs x d (inr h) = differ-apart ks xs x d.1 h
@@ -82,11 +78,11 @@ module _ {A : Type 0} (eq : A → A → Bool) (exact : (x y : A) → eq x y ≡ 
   ]
 
   -- values that differ are put last as they are
-  pub adds-Differ : (ks xs : List A) → Differ (ks ++ xs) → adds eq ks xs ≡ ks ++ xs
-  adds-Differ ks [] d = sym (append-nil ks)
-  adds-Differ ks (x ∷ xs) d =
+  pub adds-HasNoRepeats : (ks xs : List A) → HasNoRepeats (ks ++ xs) → adds eq ks xs ≡ ks ++ xs
+  adds-HasNoRepeats ks [] d = sym (append-nil ks)
+  adds-HasNoRepeats ks (x ∷ xs) d =
       ap (λ ws. adds eq ws xs) (insert-new ks x (differ-apart ks xs x d))
-      ∙ adds-Differ (ks ++ x ∷ []) xs (subst Differ (sym (append_assoc ks (x ∷ []) xs)) d)
+      ∙ adds-HasNoRepeats (ks ++ x ∷ []) xs (subst HasNoRepeats (sym (append_assoc ks (x ∷ []) xs)) d)
       ∙ append_assoc ks (x ∷ []) xs
 
 pub adds_append : {A : Type 0} (eq : A → A → Bool) (ks xs ys : List A) → adds eq ks (xs ++ ys) ≡ adds eq (adds eq ks xs) ys
@@ -112,7 +108,7 @@ any-has_cube (k ∷ ks) c =
 
 -- cubes that no test finds equal, put into an empty set
 pub cubes-copied : (ks : List Cube) → IsDistinct cube_eq ks → adds cube_eq [] ks ≡ ks
-cubes-copied ks d = adds-Differ cube_eq cube_eq_exact cube_eq_refl [] ks (IsDistinct-Differ cube_eq cube_eq_exact cube_eq_refl ks d)
+cubes-copied ks d = adds-HasNoRepeats cube_eq cube_eq_exact cube_eq_refl [] ks (IsDistinct-HasNoRepeats cube_eq cube_eq_exact cube_eq_refl ks d)
 
 -- a cube put last, unless it is there, as a meet that is found
 pub insert_found : (ks : List Cube) (c : Cube) → insert_key cube_eq ks c ≡ add_found ks (Some c)
@@ -158,17 +154,17 @@ pub fields-same : (ks xs : List Fields) → SameMembers (adds same_fields ks xs)
 fields-same = adds-same same_fields fields_exact fields_refl
 
 -- different fields are different assignments
-assigns-Differ : (fs : List Fields) → Differ fs → Differ (assigns_of fs)
-assigns-Differ [] d = tt
-assigns-Differ (f ∷ fs) d = (λ k. d.0 (own f fs k), assigns-Differ fs d.1)
+assigns-HasNoRepeats : (fs : List Fields) → HasNoRepeats fs → HasNoRepeats (assigns_of fs)
+assigns-HasNoRepeats [] d = tt
+assigns-HasNoRepeats (f ∷ fs) d = (λ k. d.0 (own f fs k), assigns-HasNoRepeats fs d.1)
   where
     own : (f : Fields) (gs : List Fields) → Member (assign_of f) (assigns_of gs) → Member f gs
     own f [] k = elim k [ ]
     own f (g ∷ gs) (inl e) = inl (ap fields_of e)
     own f (g ∷ gs) (inr k) = inr (own f gs k)
 
-pub distinct-assigns : (fs : List Fields) → IsDistinct same_fields fs → Differ (assigns_of fs)
-distinct-assigns fs d = assigns-Differ fs (IsDistinct-Differ same_fields fields_exact fields_refl fs d)
+pub distinct-assigns : (fs : List Fields) → IsDistinct same_fields fs → HasNoRepeats (assigns_of fs)
+distinct-assigns fs d = assigns-HasNoRepeats fs (IsDistinct-HasNoRepeats same_fields fields_exact fields_refl fs d)
 
 -- the step of a loop that puts what each item of a list gives
 module _ {A B : Type 0} (eq : A → A → Bool) (F : List B → List A) (f : B → List A) (head : (x : B) (xs : List B) → F (x ∷ xs) ≡ f x ++ F xs) where

@@ -11,8 +11,8 @@ use inputs::{
 };
 use net_types::{Items, Memory, Steps, Text, Words};
 use routes::{
-    EXPORT_RULES_INPUT, EXPORT_RULES_OUTPUT, SAME_AS_INPUT, SAME_AS_OUTPUT, SMALL_POOL_INPUT,
-    SMALL_POOL_OUTPUT, TAKEN_INPUT, TAKEN_OUTPUT,
+    DISCARDED_INPUT, DISCARDED_OUTPUT, EXPORT_RULES_INPUT, EXPORT_RULES_OUTPUT, SAME_AS_INPUT,
+    SAME_AS_OUTPUT, SMALL_POOL_INPUT, SMALL_POOL_OUTPUT, TAKEN_INPUT, TAKEN_OUTPUT,
 };
 use sdx_core::Sdx;
 use std::alloc::Global;
@@ -336,7 +336,7 @@ fn exchange_cases<'c>() -> [Case<'c>; 5] {
     ]
 }
 
-fn route_cases<'c>() -> [Case<'c>; 4] {
+fn route_cases<'c>() -> [Case<'c>; 5] {
     [
         replays(
             "MULTI_EXIT_DISC among routes of one AS",
@@ -361,6 +361,12 @@ fn route_cases<'c>() -> [Case<'c>; 4] {
             TAKEN_INPUT.as_bytes(),
             Status::Refused,
             TAKEN_OUTPUT,
+        ),
+        replays(
+            "routes whose traffic is discarded",
+            DISCARDED_INPUT.as_bytes(),
+            Status::Refused,
+            DISCARDED_OUTPUT,
         ),
     ]
 }

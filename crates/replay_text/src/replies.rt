@@ -1,12 +1,26 @@
 //! Writing a reply.
 ghost use Rattle.std.specs.Prelude.{◌≡◌, ◌++◌, ◌∷◌, ◌<◌, [], IfOk, OnOk, codes, string_bytes, flat_map};
-ghost use Rattle.events.specs.Text.{reply_text, head_text, refusal_text, tag_text, drop_text, end_line, flow_text, add_text, rule_line, hex_text, hex_text_digit, advert_text, ask_text, exchange_text, frame_text};
+ghost use Rattle.events.specs.Text.{reply_text, head_text, kind_word, refusal_text, tag_text, drop_text, end_line, flow_text, add_text, rule_line, hex_text, hex_text_digit, advert_text, ask_text, exchange_text, frame_text};
 ghost use Rattle.replay_text.specs.Fields.{pair_rule_text};
 
 use super::rules::{push_address, push_prefix, push_rule};
 use events::{Event, Exchange, Flow, Frame, Head, Refusal, Reply, TagChange};
-use net_types::{Bytes, Items, Memory, Pair};
+use net_types::{Bytes, Items, Kind, Memory, Pair};
 use std::alloc::Global;
+
+/// How a policy breaks isolation.
+fn kind_word(kind: Kind) -> &'static str
+    ensures { result.now ≡ kind_word kind }
+{
+    match kind {
+        Kind::UnknownName => "unknown-name",
+        Kind::OwnName => "own-name",
+        Kind::FwdKind => "fwd-kind",
+        Kind::ForeignPort => "foreign-port",
+        Kind::ModifyOutbound => "modify-outbound",
+        Kind::InportInbound => "inport-inbound",
+    }
+}
 
 fn push_refusal(text: &mut String, refusal: Refusal) -> Result<(), Memory>
     ensures { OnOk result (string_bytes text.new ≡ string_bytes text.old ++ refusal_text refusal) }
@@ -25,6 +39,13 @@ fn push_refusal(text: &mut String, refusal: Refusal) -> Result<(), Memory>
         Refusal::NextHop => text.push_str("next-hop")?,
         Refusal::TextLong => text.push_str("too-long")?,
         Refusal::Syntax { at } => write!(text, "syntax {at}")?,
+        Refusal::TooDeep { at } => write!(text, "too-deep {at}")?,
+        Refusal::Isolate { kind, start, end } => {
+            text.push_str("policy ")?;
+            text.push_str(kind_word(kind))?;
+            write!(text, " {start} {end}")?;
+        }
+        Refusal::TooWide => text.push_str("too-wide")?,
         Refusal::NoNextHop { need, free } => write!(text, "no-next-hop {need} {free}")?,
         Refusal::TableFull { rules, capacity } => write!(text, "table-full {rules} {capacity}")?,
         Refusal::BadPacket => text.push_str("packet")?,
@@ -37,6 +58,8 @@ fn push_head(text: &mut String, head: Head) -> Result<(), Memory>
 {
     match head {
         Head::Fine => text.push_str("ok")?,
+        Head::Working(units) => write!(text, "working {units}")?,
+        Head::Finished => text.push_str("done")?,
         Head::Unrouted => text.push_str("unrouted")?,
         Head::Unresolved(ip) => {
             text.push_str("unresolved ")?;

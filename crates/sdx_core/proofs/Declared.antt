@@ -1,5 +1,5 @@
 -- The lines that declare are steps.
-use Rattle.std.proofs.Common.{◌≡◌, ℕ, zero, suc, ◌+◌, ◌<◌, Bool, true, false, cond, not, nat_le, ◌||◌, List, [], ◌∷◌, ◌++◌, length, map, filter, replicate, ap, refl, subst, sym, ◌∙◌}
+use Rattle.std.proofs.Common.{◌≡◌, ℕ, zero, suc, ◌+◌, ◌<◌, Bool, true, false, cond, not, nat_le, ◌&&◌, ◌||◌, List, [], ◌∷◌, ◌++◌, length, map, filter, replicate, ap, refl, subst, sym, ◌∙◌}
 use Rattle.std.specs.Prelude.{Option, Some, None, codes}
 use Rattle.std.specs.FinMap.{FinMap, empty, values}
 use Rattle.std.specs.List.{list_any}
@@ -8,7 +8,7 @@ use Rattle.events.proofs.Reached.{declared_pid}
 use Rattle.events.specs.After.{with_known, with_participant, with_port}
 use Rattle.events.specs.Forms.{IsWellFormed}
 use Rattle.events.specs.Fits.{IsStep, bare}
-use Rattle.events.specs.Refusals.{if_known, is_name_taken, is_placed, is_port_taken, or_else, refusal, refusal_in_place, refused_if}
+use Rattle.events.specs.Refusals.{if_known, is_name_taken, is_placed, is_port_taken, or_else, refusal, refusal_in_place, refused_if, suits_job}
 use Rattle.events.specs.State.{State}
 use Rattle.events.specs.Tags as events
 use Rattle.events.specs.declared.Entry.{Entry}
@@ -47,9 +47,9 @@ use Rattle.sdx_core.proofs.Steps.{kept_after, quiet_step, refused_step, steady_a
 use Rattle.sdx_core.specs.View.{IsKept, state_of}
 
 -- the line is in place while participants and ports are declared
-pub declaring_at : (s : State) (e : Event) (o : Option Refusal) → s.phase ≡ Declaring → is_placed Declaring e ≡ true → refusal_in_place s e ≡ o → refusal s e ≡ o
+pub declaring_at : (s : State) (e : Event) (o : Option Refusal) → s.phase ≡ Declaring → (suits_job s.owed e && is_placed Declaring e) ≡ true → refusal_in_place s e ≡ o → refusal s e ≡ o
 declaring_at s e o declaring here is =
-    ap (λ p. cond (is_placed p e) (refusal_in_place s e) (Some Misplaced)) declaring ∙ ap (λ b. cond b (refusal_in_place s e) (Some Misplaced)) here ∙ is
+    ap (λ p. cond (suits_job s.owed e && is_placed p e) (refusal_in_place s e) (Some Misplaced)) declaring ∙ ap (λ b. cond b (refusal_in_place s e) (Some Misplaced)) here ∙ is
 
 -- ---- the pool and the table
 
@@ -180,13 +180,13 @@ module _ (phase : Phase) (base : Ip) (size : ℕ) (names names' : Registered) (s
   before = state_of phase base size names served resolved classes told installed
 
   -- the parts with a further participant are the state with one
-  pub joined_is : (m : Participant) → names' ≡ registered.with_participant names m → served'.rules ≡ served.rules ++ [] ∷ [] → served'.routes ≡ served.routes → told' ≡ told ++ empty ∷ []
+  pub joined_is : (m : Participant) → names' ≡ registered.with_participant names m → served'.rules ≡ served.rules ++ [] ∷ [] → served'.named ≡ served.named ++ [] ∷ [] → served'.routes ≡ served.routes → told' ≡ told ++ empty ∷ []
       → state_of phase base size names' served' resolved classes told' installed ≡ with_participant before m
-  joined_is m declared rules routes more =
+  joined_is m declared rules named routes more =
       let texts : map (λ k. codes "drop") names'.participants ≡ map (λ k. codes "drop") names.participants ++ codes "drop" ∷ [] =
       ap (λ (x : Registered). map (λ k. codes "drop") x.participants) declared ∙ map-append (λ k. codes "drop") names.participants (m ∷ []) in
       λ i. record before {
-        routing = record { participants = (declared i).participants; ports = (declared i).ports; rules = rules i; routes = routes i };
+        routing = record { participants = (declared i).participants; ports = (declared i).ports; rules = rules i; named = named i; routes = routes i };
         outbound = texts i;
         inbound = texts i;
         told = more i;

@@ -9,6 +9,7 @@ use Rattle.net_types.proofs.OrderedLemmas.{ordered_rises}
 use Rattle.events.proofs.Reached.{declared_pid}
 use Rattle.events.specs.After.{next, without_pairs}
 use Rattle.events.specs.Fits.{IsAccepted, IsStep, IsTaken, adverts, bare}
+use Rattle.events.specs.Pending.{pending}
 use Rattle.events.specs.Refusals.{if_known}
 use Rattle.events.specs.Sound.{IsSound}
 use Rattle.events.specs.State.{State, present, told_to}
@@ -142,12 +143,12 @@ module _ (s : State) (who : Pid) (pool : Tags) (kept : IsKept s pool) (taker : I
 
   -- what it is told, and the pairs that go
   abbrev pub drain_reply : Reply
-  drain_reply = record (bare Fine) { drops = drops; adverts = adverts s who }
+  drain_reply = record (bare Fine) { drops = drops; adverts = adverts s who (pending s who) }
 
   sound2 : IsSound s2
   sound2 = telling_stays_sound s who now kept.steady.sound (present_are_known s who)
 
-  taken : IsTaken s s2 who drain_reply
+  taken : IsTaken s s2 who (pending s who) drain_reply
   taken = record {
     head = refl;
     tags = refl;
@@ -217,7 +218,7 @@ told_then phase base size names served resolved classes heard installed who clas
   base = base;
   size = size;
   capacity = capacity i;
-  routing = record { participants = names.participants; ports = names.ports; rules = served.rules; routes = served.routes };
+  routing = record { participants = names.participants; ports = names.ports; rules = served.rules; named = served.named; routes = served.routes };
   outbound = map (λ m. codes "drop") names.participants;
   inbound = map (λ m. codes "drop") names.participants;
   tag = tag i;

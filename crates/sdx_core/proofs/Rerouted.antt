@@ -23,16 +23,16 @@ use Rattle.events.specs.declared.Refusal.TheVariants.{NoNextHop, TableFull}
 use Rattle.events.specs.declared.Reply.{Reply}
 use Rattle.exchange_laws.specs.Fresh.{HasEnoughTags}
 use Rattle.exchange_laws.specs.Rerouting.{IsRerouting}
-use Rattle.exchange_laws.specs.Rules.{IsChange, IsDeclaredAlike, with_rules}
+use Rattle.exchange_laws.specs.Rules.{IsChange, IsDeclaredAlike, with_default_rules}
 use Rattle.exchange_laws.specs.Steady.{IsSteady}
 use Rattle.exchange_laws.proofs.FullTables.{full_tables_are_refused}
 use Rattle.exchange_laws.proofs.OneRuleEach.{steady_have_one_each}
+use Rattle.fast_path.specs.Carried.{IsPlanned, LeadsTo, PlansFitLines, plan_reply}
 use Rattle.fast_path.specs.Committing.{marked_all, tags_of}
 use Rattle.fast_path.specs.Planned.{IsPoolOf}
 use Rattle.fast_path.specs.Plans.{IsAsked, IsPlan}
 use Rattle.fast_path.specs.declared.planned.Changes.{Changes}
 use Rattle.fast_path.specs.declared.planned.Plan.{Plan}
-use Rattle.fast_path.proofs.CommittedPlans.{line_committed, pool_committed}
 use Rattle.match_switch.specs.Installed.{Installed}
 use Rattle.next_hop_pool.specs.Free.{Tags}
 use Rattle.prefix_classes.specs.Classes.{Classes}
@@ -80,10 +80,10 @@ change_of : (s : State) (e : Event) (r : Routing) (p : Proposed) → IsSteady s 
 change_of s e r p steady leads enough = record { sound = steady.sound; pooled = steady.pooled; owners = steady.owners; alike = leads.alike; enough = enough }
 
 -- the rules would be more than there is room for
-pub full_step : (s : State) (e : Event) (r : Routing) (p : Proposed) (reply : Reply) (rules capacity : ℕ) → IsSteady s → Leads s e r p → HasEnoughTags s r → rules ≡ rule_count (with_rules s (retagged s r)) → capacity ≡ s.capacity → capacity < rules
+pub full_step : (s : State) (e : Event) (r : Routing) (p : Proposed) (reply : Reply) (rules capacity : ℕ) → IsSteady s → Leads s e r p → HasEnoughTags s r → rules ≡ rule_count (with_default_rules s (retagged s r)) → capacity ≡ s.capacity → capacity < rules
     → reply ≡ bare (Refused (TableFull rules capacity)) → IsStep s e reply s
 full_step s e r p reply rules capacity steady leads enough counted room over is =
-    let same : reply ≡ bare (Refused (TableFull (rule_count (with_rules s (retagged s r))) s.capacity)) = is ∙ ap (λ n. bare (Refused (TableFull n capacity))) counted ∙ ap (λ n. bare (Refused (TableFull (rule_count (with_rules s (retagged s r))) n))) room in record {
+    let same : reply ≡ bare (Refused (TableFull (rule_count (with_default_rules s (retagged s r))) s.capacity)) = is ∙ ap (λ n. bare (Refused (TableFull n capacity))) counted ∙ ap (λ n. bare (Refused (TableFull (rule_count (with_default_rules s (retagged s r))) n))) room in record {
       fits = subst (Fits s e) (sym same) (full_tables_are_refused s e r (rerouting_of s e r p leads enough) (change_of s e r p steady leads enough) (steady_have_one_each s steady) (omega (arith, counted, room, over)));
       next = sym (ap (next s e) is);
     }
@@ -92,15 +92,15 @@ full_step s e r p reply rules capacity steady leads enough counted room over is 
 
 pub state_then : (phase : Phase) (base : Ip) (size : ℕ) (names : Registered) (served : Served) (resolved : List (List Ip)) (classes : Classes) (told : List (FinMap prefix_cmp Entry)) (installed : Installed) (r : Routing) (served' : Served) (classes' : Classes) (installed' : Installed)
     → let s = state_of phase base size names served resolved classes told installed in
-    IsDeclaredAlike s.routing r → served'.routes ≡ r.routes → served'.rules ≡ r.rules → classes'.tag ≡ (with_rules s (retagged s r)).tag → classes'.kept ≡ (with_rules s (retagged s r)).kept
-    → installed'.table ≡ (with_rules s (retagged s r)).table → installed'.capacity ≡ installed.capacity
-    → state_of Running base size names served' resolved classes' told installed' ≡ with_rules s (retagged s r)
-state_then phase base size names served resolved classes told installed r served' classes' installed' alike routes rules tag kept table capacity = λ i. record {
+    IsDeclaredAlike s.routing r → served'.routes ≡ r.routes → served'.rules ≡ r.rules → served'.named ≡ r.named → classes'.tag ≡ (with_default_rules s (retagged s r)).tag → classes'.kept ≡ (with_default_rules s (retagged s r)).kept
+    → installed'.table ≡ (with_default_rules s (retagged s r)).table → installed'.capacity ≡ installed.capacity
+    → state_of Running base size names served' resolved classes' told installed' ≡ with_default_rules s (retagged s r)
+state_then phase base size names served resolved classes told installed r served' classes' installed' alike routes rules named tag kept table capacity = λ i. record {
   phase = Running;
   base = base;
   size = size;
   capacity = capacity i;
-  routing = record { participants = sym alike.participants i; ports = sym alike.ports i; rules = rules i; routes = routes i };
+  routing = record { participants = sym alike.participants i; ports = sym alike.ports i; rules = rules i; named = named i; routes = routes i };
   outbound = map (λ m. codes "drop") names.participants;
   inbound = map (λ m. codes "drop") names.participants;
   tag = tag i;
@@ -114,10 +114,14 @@ state_then phase base size names served resolved classes told installed r served
 pub pool_is : (s : State) (pool : Tags) → IsKept s pool → IsPoolOf s pool
 pool_is s pool is = record { free = sym is.free; size = is.size; base = is.base }
 
-module _ (s : State) (e : Event) (r : Routing) (p : Proposed) (plan : Plan) (reply : Reply) (s' : State) (pool : Tags) (is : IsKept s pool) (formed : IsWellFormed e) (leads : Leads s e r p) (plans : IsPlan s r plan)
-    (says : reply ≡ record (bare Fine) { tags = plan.tags; drops = plan.drops; adds = plan.adds }) (then : s' ≡ with_rules s (retagged s r)) where
-  committed_line : (next s e (record (bare Fine) { tags = plan.tags; drops = plan.drops; adds = plan.adds }) ≡ with_rules s (retagged s r)) × Fits s e (record (bare Fine) { tags = plan.tags; drops = plan.drops; adds = plan.adds })
-  committed_line = line_committed s r plan is.steady leads.alike plans e (rerouting_of s e r p leads plans.enough)
+-- the plan is one for the routes to which the line leads
+pub planned_of : (s : State) (e : Event) (r : Routing) (p : Proposed) (plan : Plan) → IsSteady s → Leads s e r p → IsPlan s r plan → IsPlanned s r plan
+planned_of s e r p plan steady leads plans = record { steady = steady; alike = leads.alike; planned = plans }
+
+module _ (law : PlansFitLines) (s : State) (e : Event) (r : Routing) (p : Proposed) (plan : Plan) (reply : Reply) (s' : State) (pool : Tags) (is : IsKept s pool) (formed : IsWellFormed e) (leads : Leads s e r p) (plans : IsPlan s r plan)
+    (says : reply ≡ plan_reply plan) (then : s' ≡ with_default_rules s (retagged s r)) where
+  committed_line : (next s e (plan_reply plan) ≡ with_default_rules s (retagged s r)) × Fits s e (plan_reply plan)
+  committed_line = law s r plan e (planned_of s e r p plan is.steady leads plans) (rerouting_of s e r p leads plans.enough)
 
   -- it is the step
   pub committed_step : IsStep s e reply s'
@@ -127,9 +131,10 @@ module _ (s : State) (e : Event) (r : Routing) (p : Proposed) (plan : Plan) (rep
   }
 
   -- after which the exchange is as it should be
-  pub committed_kept : (pool' : Tags) → pool' ≡ marked_all (marked_all pool (tags_of plan.fresh.items) true) plan.dead.items false → IsKept s' pool'
-  committed_kept pool' marked =
-      let of : IsPoolOf s' pool' = subst (λ x. IsPoolOf x pool') (sym then) (subst (IsPoolOf (with_rules s (retagged s r))) (sym marked) (pool_committed s r plan is.steady leads.alike plans pool (pool_is s pool is))) in record {
+  pub committed_kept : (classes : Classes) (switch : Installed) → LeadsTo (with_default_rules s (retagged s r)) plan classes pool switch
+      → (pool' : Tags) → pool' ≡ marked_all (marked_all pool (tags_of plan.fresh.items) true) plan.dead.items false → IsKept s' pool'
+  committed_kept classes switch to pool' marked =
+      let of : IsPoolOf s' pool' = subst (λ x. IsPoolOf x pool') (sym then) (subst (IsPoolOf (with_default_rules s (retagged s r))) (sym marked) to.pool) in record {
         steady = steady_after s e reply s' is.steady formed committed_step;
         free = sym of.free;
         base = of.base;
@@ -138,5 +143,5 @@ module _ (s : State) (e : Event) (r : Routing) (p : Proposed) (plan : Plan) (rep
 
 -- what the reply says
 pub says : (reply : Reply) (changes : Changes) (plan : Plan) → reply ≡ record (bare Fine) { tags = changes.tags; drops = changes.drops; adds = changes.adds } → changes ≡ record { tags = plan.tags; drops = plan.drops; adds = plan.adds }
-    → reply ≡ record (bare Fine) { tags = plan.tags; drops = plan.drops; adds = plan.adds }
+    → reply ≡ plan_reply plan
 says reply changes plan is same = is ∙ ap (λ (x : Changes). record (bare Fine) { tags = x.tags; drops = x.drops; adds = x.adds }) same

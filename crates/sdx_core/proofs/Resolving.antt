@@ -14,7 +14,7 @@ use Rattle.events.specs.After.{running, with_known}
 use Rattle.events.specs.Forms.{IsWellFormed}
 use Rattle.events.specs.Fits.{IsStep, asks_for, bare, responder_reply}
 use Rattle.events.specs.Refusals.{if_known}
-use Rattle.events.specs.Resolving.{is_answered, port_place, resolved_at, tag_address, unresolved, with_answer, with_resolved}
+use Rattle.events.specs.Resolving.{is_pool_request, port_place, resolved_at, tag_address, unresolved, with_answer, with_resolved}
 use Rattle.events.specs.State.{State, port_of, told_to}
 use Rattle.events.specs.Tags.{same_tag}
 use Rattle.events.specs.declared.Entry.{Entry}
@@ -26,7 +26,7 @@ use Rattle.events.specs.declared.Reply.{Reply}
 use Rattle.net_types.proofs.OrderedLemmas.{ordered_is, ordered_rises, ordered_same}
 use Rattle.net_types.specs.Arp.{asked_ip, asker_ip, asker_mac}
 use Rattle.net_types.specs.Attributes.{same_ip}
-use Rattle.net_types.specs.Keys.{ip_cmp, prefix_cmp, tag_cmp}
+use Rattle.net_types.specs.Keys.{ip_cmp, prefix_cmp, tag_cmp, is_ip_before}
 use Rattle.net_types.specs.Maps.{ordered}
 use Rattle.net_types.specs.Octets.{same_octets}
 use Rattle.net_types.specs.Sets.{IsRising, Member}
@@ -36,19 +36,20 @@ use Rattle.net_types.specs.declared.address.Tag.{Tag}
 use Rattle.net_types.specs.declared.route.PortInfo.{PortInfo}
 use Rattle.net_types.proofs.FindLemmas.{any_at}
 use Rattle.net_types.proofs.MemberLemmas.{Member-at}
-use Rattle.net_types.proofs.OrderLemmas.{tags_total}
+use Rattle.net_types.proofs.OrderLemmas.{tags_total, ips_total}
 use Rattle.net_types.proofs.RisingLemmas.{before, filter-Member}
 use Rattle.net_types.proofs.SetLemmas.{map-Member, map-map, same_map}
 use Rattle.next_hop_pool.specs.Free.{Tags}
 use Rattle.sdx_core.specs.Placed.{is_declared}
-use Rattle.sdx_core.specs.Resolved.{address_of, exchange_for, is_before, missing_hops, pool_request, reply_to}
+use Rattle.sdx_core.specs.Resolved.{exchange_for, missing_hops, pool_request, reply_to}
 use Rattle.sdx_core.specs.View.{IsKept}
-use Rattle.sdx_core.proofs.AddressSets.{ips_tie, ips_total}
+use Rattle.sdx_core.proofs.AddressSets.{ips_tie}
 use Rattle.fast_path.proofs.TagOrder.{less_from, tag_tie}
 use Rattle.exchange_laws.proofs.PoolTags.{live_small, told_live}
 use Rattle.exchange_laws.proofs.Forwarded.{numbered}
 use Rattle.sdx_core.proofs.Ports.{found_nowhere, own_place}
 use Rattle.sdx_core.proofs.Steps.{in_place, kept_after, placed, quiet_step, refused_at}
+use Rattle.advert_queue.specs.Telling.{address_of}
 
 -- ---- ports that aren't declared
 
@@ -122,8 +123,8 @@ module _ (s : State) (bytes : List ℕ) where
   abbrev state_by : PortInfo → Bool → State
   state_by q b = running (cond b (with_resolved s q.number (asked_ip bytes ∷ [])) s)
 
-  unasked : pool_request s.base s.size bytes ≡ None → is_answered s bytes ≡ false
-  unasked none = not_some (is_answered s bytes) whole none
+  unasked : pool_request s.base s.size bytes ≡ None → is_pool_request s bytes ≡ false
+  unasked none = not_some (is_pool_request s bytes) whole none
 
   -- the responder is silent
   pub silent_reply : pool_request s.base s.size bytes ≡ None → (r : Reply) → r ≡ bare Silent → r ≡ responder_reply s bytes
@@ -133,8 +134,8 @@ module _ (s : State) (bytes : List ℕ) where
   silent_state none q = ap (λ b. state_by q (b && same_octets (asker_mac bytes).0 q.mac.0)) (sym (unasked none))
 
   module _ (asked : ArpRequest) (is_asked : pool_request s.base s.size bytes ≡ Some asked) where
-    parts : (is_answered s bytes ≡ true) × (whole ≡ asked)
-    parts = cond_some (is_answered s bytes) whole asked is_asked
+    parts : (is_pool_request s bytes ≡ true) × (whole ≡ asked)
+    parts = cond_some (is_pool_request s bytes) whole asked is_asked
 
     -- it answers
     pub answer_reply : (r : Reply) → r ≡ answer asked → r ≡ responder_reply s bytes
@@ -156,16 +157,16 @@ module _ (s : State) (bytes : List ℕ) where
 
 -- ---- addresses of tags
 
-before_from : (x y : Ip) → x.0 < y.0 → is_before x y ≡ true
+before_from : (x y : Ip) → x.0 < y.0 → is_ip_before x y ≡ true
 before_from x y less = ap is_lt (sym (nat_cmp_is x.0 y.0 Less less))
 
-address_before : (base : Ip) (t u : Tag) → before tag_cmp t u ≡ true → is_before (address_of base t) (address_of base u) ≡ true
+address_before : (base : Ip) (t u : Tag) → before tag_cmp t u ≡ true → is_ip_before (address_of base t) (address_of base u) ≡ true
 address_before base t u e = let less : t.0 < u.0 = less_from t.0 u.0 e in before_from (address_of base t) (address_of base u) (omega arith)
 
-addresses_rise : (base : Ip) (ts : List Tag) → IsRising (before tag_cmp) ts → IsRising is_before (map (address_of base) ts)
+addresses_rise : (base : Ip) (ts : List Tag) → IsRising (before tag_cmp) ts → IsRising is_ip_before (map (address_of base) ts)
 addresses_rise base [] rises = tt
 addresses_rise base (t ∷ ts) rises = (
-  λ y m. let image = map-Member (address_of base) ts y m in subst (λ z. is_before (address_of base t) z ≡ true) (sym image.is) (address_before base t image.of (rises.0 image.of image.stands)),
+  λ y m. let image = map-Member (address_of base) ts y m in subst (λ z. is_ip_before (address_of base t) z ≡ true) (sym image.is) (address_before base t image.of (rises.0 image.of image.stands)),
   addresses_rise base ts rises.1,
 )
 

@@ -1,11 +1,11 @@
 -- When a reply and a state are a step, and what holds after it.
-use Rattle.std.proofs.Common.{◌≡◌, true, cond, List, [], ap, refl, subst, sym, ◌∙◌}
+use Rattle.std.proofs.Common.{◌≡◌, true, cond, ◌&&◌, List, [], ap, refl, subst, sym, ◌∙◌}
 use Rattle.std.specs.Prelude.{Some, None, codes, map}
 use Rattle.std.specs.FinMap.{FinMap, empty}
 use Rattle.events.specs.After.{after, next}
 use Rattle.events.specs.Forms.{IsWellFormed}
 use Rattle.events.specs.Fits.{FitsBy, IsAnswer, IsStep, bare}
-use Rattle.events.specs.Refusals.{is_placed, refusal, refusal_in_place}
+use Rattle.events.specs.Refusals.{is_placed, refusal, refusal_in_place, suits_job}
 use Rattle.events.specs.State.{State, first}
 use Rattle.events.specs.Tags as events
 use Rattle.events.specs.declared.Entry.{Entry}
@@ -47,11 +47,11 @@ placed e one two Start ready = absurd (cc)
 placed e one two Declaring ready = one
 placed e one two Running ready = two
 
-pub in_place : (s : State) (e : Event) → is_placed s.phase e ≡ true → refusal s e ≡ refusal_in_place s e
+pub in_place : (s : State) (e : Event) → (suits_job s.owed e && is_placed s.phase e) ≡ true → refusal s e ≡ refusal_in_place s e
 in_place s e here = ap (λ b. cond b (refusal_in_place s e) (Some Misplaced)) here
 
 -- a line in place is refused
-pub refused_at : (s st : State) (e : Event) (r : Reply) (why : Refusal) → s ≡ st → is_placed s.phase e ≡ true → refusal_in_place s e ≡ Some why → r ≡ bare (Refused why) → IsStep st e r st
+pub refused_at : (s st : State) (e : Event) (r : Reply) (why : Refusal) → s ≡ st → (suits_job s.owed e && is_placed s.phase e) ≡ true → refusal_in_place s e ≡ Some why → r ≡ bare (Refused why) → IsStep st e r st
 refused_at s st e r why is here refuses reply = subst (λ x. IsStep x e r x) is (refused_step s e r why (in_place s e here ∙ refuses) reply)
 
 -- a line that changes no routes and by which nobody takes anything is a step with its answer
@@ -74,17 +74,17 @@ kept_after s e r s' pool kept formed step free base size = record {
 
 -- an exchange without lines
 pub starts_kept : (names : Registered) (served : Served) (resolved : List (List Ip)) (classes : Classes) (told : List (FinMap prefix_cmp Entry)) (installed : Installed) (pool : Tags)
-    → names ≡ record { participants = []; ports = [] } → served.routes ≡ empty → served.rules ≡ [] → resolved ≡ [] → classes.tag ≡ empty → classes.kept ≡ empty → told ≡ []
+    → names ≡ record { participants = []; ports = [] } → served.routes ≡ empty → served.rules ≡ [] → served.named ≡ [] → resolved ≡ [] → classes.tag ≡ empty → classes.kept ≡ empty → told ≡ []
     → installed.table ≡ empty → installed.capacity ≡ 0 → pool ≡ record { base = record { 0 = 0 }; taken = [] }
     → IsKept (state_of Start (record { 0 = 0 }) 0 names served resolved classes told installed) pool
-starts_kept names served resolved classes told installed pool declared routes rules none tag kept nothing table capacity free =
+starts_kept names served resolved classes told installed pool declared routes rules named none tag kept nothing table capacity free =
     let none_free : Tags = record { base = record { 0 = 0 }; taken = [] } in
     let is : first ≡ state_of Start (record { 0 = 0 }) 0 names served resolved classes told installed = sym (λ i. record {
       phase = Start;
       base = record { 0 = 0 };
       size = 0;
       capacity = capacity i;
-      routing = record { participants = (declared i).participants; ports = (declared i).ports; rules = rules i; routes = routes i };
+      routing = record { participants = (declared i).participants; ports = (declared i).ports; rules = rules i; named = named i; routes = routes i };
       outbound = map (λ m. codes "drop") (declared i).participants;
       inbound = map (λ m. codes "drop") (declared i).participants;
       tag = tag i;

@@ -7,7 +7,7 @@ use Rattle.net_types.specs.declared.address.Pid.{Pid}
 use Rattle.net_types.specs.declared.export.ExportRule.{ExportRule}
 use Rattle.net_types.specs.declared.named_rule.NamedRule.{NamedRule}
 use Rattle.events.specs.After.{after}
-use Rattle.events.specs.Fits.{is_building}
+use Rattle.exchange_laws.specs.Rerouting.{is_rerouting}
 use Rattle.events.specs.Refusals.{refusal, tags_refusal}
 use Rattle.events.specs.State.{State}
 use Rattle.events.specs.Tags.{retagged}
@@ -34,7 +34,7 @@ pub record IsSender (s : State) (name : List ℕ) (who : Pid) : Type 0 where
 
 -- The line would leave this routing, refused at most for want of tags or rules, and the proposal is for it.
 pub record Leads (s : State) (e : Event) (r : Routing) (p : Proposed) : Type 0 where
-  pub building : is_building e ≡ true
+  pub building : is_rerouting e ≡ true
   pub refuses : refusal s e ≡ tags_refusal s r
   pub leaves : after s e ≡ retagged s r
   pub alike : IsDeclaredAlike s.routing r

@@ -1,22 +1,17 @@
 -- Which addresses a router has resolved, which it has still to resolve, and what the responder answers (RFC 826).
-use Rattle.std.specs.Prelude.{ℕ, ◌+◌, ◌-◌, Bool, ◌&&◌, not, List, map, filter, Option, Some, None, if◌then◌else◌}
+use Rattle.std.specs.Prelude.{ℕ, ◌-◌, ◌&&◌, not, List, map, filter, Option, Some, None, if◌then◌else◌}
 use Rattle.std.specs.List.{list_any}
-use Rattle.std.specs.Ordering.{is_lt}
 use Rattle.arp_frame.specs.declared.read.ArpRequest.{ArpRequest}
 use Rattle.events.specs.declared.Exchange.{Exchange}
 use Rattle.net_types.specs.Arp.{arp_reply, arp_request, asked_ip, asker_ip, asker_mac, is_arp_request}
 use Rattle.net_types.specs.Attributes.{same_ip}
 use Rattle.net_types.specs.Frames.{tag_mac}
-use Rattle.net_types.specs.Keys.{ip_cmp}
 use Rattle.net_types.specs.declared.address.Ip.{Ip}
 use Rattle.net_types.specs.declared.address.Mac.{Mac}
 use Rattle.net_types.specs.declared.address.Tag.{Tag}
 use Rattle.net_types.specs.declared.route.PortInfo.{PortInfo}
 use Rattle.sdx_core.specs.Placed.{lies_in}
-
--- by number
-abbrev pub is_before : Ip → Ip → Bool
-is_before a b = is_lt (ip_cmp a b)
+use Rattle.advert_queue.specs.Telling.{address_of}
 
 -- the MAC of the tag that an address of the pool stands for
 abbrev pub mac_at : Ip → Ip → Mac
@@ -36,10 +31,6 @@ reply_to base r = arp_reply r.mac r.ip r.target (mac_at base r.target)
 -- the router at a port asks for an address of the pool, and the responder replies
 abbrev pub exchange_for : Ip → PortInfo → Ip → Exchange
 exchange_for base q ip = record { request = Some (arp_request q.mac q.ip ip); reply = arp_reply q.mac q.ip ip (mac_at base ip) }
-
--- the address of a tag
-abbrev pub address_of : Ip → Tag → Ip
-address_of base t = record { 0 = base.0 + t.0 }
 
 -- the addresses of tags that aren't among those known
 abbrev pub missing_hops : Ip → List Ip → List Tag → List Ip

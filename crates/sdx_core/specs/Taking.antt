@@ -6,6 +6,7 @@ use Rattle.std.specs.Option.{option_map}
 use Rattle.advert_queue.specs.Telling.{tags_of}
 use Rattle.events.specs.Forms.{IsWellFormed}
 use Rattle.events.specs.Fits.{adverts}
+use Rattle.events.specs.Pending.{pending}
 use Rattle.events.specs.State.{State, present, told_to}
 use Rattle.events.specs.declared.Entry.{Entry}
 use Rattle.events.specs.declared.Event.TheVariants.{Drain}
@@ -60,7 +61,7 @@ gone_for s who = gone_tags (told_to s who) (present s who)
 -- What a participant that takes all is told, the messages by which it is, and the pairs and tags that go.
 pub record IsTaking (s : State) (who : Pid) (taking : Taking) : Type 0 where
   pub present : taking.present ≡ present s who
-  pub adverts : taking.adverts ≡ adverts s who
+  pub adverts : taking.adverts ≡ adverts s who (pending s who)
   pub drops : taking.drops ≡ all_pairs (ports_of (registered s) who) (gone_for s who)
   pub dead : taking.dead ≡ dead_tags s.tag s.told who.0 (gone_for s who)
 

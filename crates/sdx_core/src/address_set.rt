@@ -20,13 +20,13 @@ impl Model for AddressSet {
     ghost use Rattle.std.specs.Prelude.{List};
     ghost use Rattle.net_types.specs.Sets.{IsRising};
     ghost use Rattle.net_types.specs.declared.address.Ip.{Ip};
-    ghost use Rattle.sdx_core.specs.Resolved.{is_before};
+    ghost use Rattle.net_types.specs.Keys.{is_ip_before};
 
     ghost Value = { List Ip };
 
     ghost view = { λ a. a.addresses.items };
 
-    ghost invariant = { λ a. IsRising is_before a.addresses.items };
+    ghost invariant = { λ a. IsRising is_ip_before a.addresses.items };
 }
 
 impl AddressSet {

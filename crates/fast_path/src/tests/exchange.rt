@@ -7,7 +7,8 @@ ghost use Rattle.route_server.specs.Served.{AreDeclared};
 
 use advert_queue::Told;
 use net_types::{
-    Asns, Attrs, Ip, Items, Mac, Memory, Pid, PortNo, Prefix, Prefixes, Segment, Segments, Update,
+    Asns, Attrs, Ip, Items, Mac, Memory, Numbers, Pid, PortNo, Prefix, Prefixes, Segment, Segments,
+    Update,
 };
 use registry::{RegFault, Registry};
 use route_server::{Proposal, RouteServer};
@@ -79,8 +80,12 @@ fn path(alloc: Global) -> Result<Segments, Memory>
     Ok(path)
 }
 
+fn numbers(alloc: Global, given: &[u32]) -> Result<Numbers, Memory> {
+    Ok(Items::from_vec(Vec::from_slice(alloc, given)?))
+}
+
 /// The next hop is the address of port 3.
-fn attrs(alloc: Global) -> Result<Attrs, Memory>
+fn attrs(alloc: Global, communities: &[u32]) -> Result<Attrs, Memory>
     ensures sound { IfOk result (λ attrs. AreSoundAttrs attrs) }
     ensures short { IfOk result (λ attrs. sum_by hops_of attrs.path < 2 ^ 32) }
 {
@@ -91,7 +96,7 @@ fn attrs(alloc: Global) -> Result<Attrs, Memory>
         med: None,
         atomic: false,
         aggregator: None,
-        communities: Items::new(alloc),
+        communities: numbers(alloc, communities)?,
         communities_partial: false,
         unknown: Items::new(alloc),
     })
@@ -105,23 +110,23 @@ fn alone(alloc: Global, prefix: Prefix) -> Result<Prefixes, Memory>
     Ok(prefixes)
 }
 
-fn update(alloc: Global) -> Result<Update, Memory>
+fn update(alloc: Global, communities: &[u32]) -> Result<Update, Memory>
     ensures sound { IfOk result (λ update. IsSoundUpdate update) }
     ensures short { IfOk result (λ update. IfSome update.attrs (λ a. sum_by hops_of a.path < 2 ^ 32)) }
 {
     Ok(Update {
         withdrawn: Items::new(alloc),
-        attrs: Some(attrs(alloc)?),
+        attrs: Some(attrs(alloc, communities)?),
         announced: alone(alloc, ten()?)?,
     })
 }
 
-/// What the route of B does.
-pub fn proposal(alloc: Global, names: &Registry) -> Result<Proposal, Fail>
+/// What the route of B with these communities does.
+pub fn proposal(alloc: Global, names: &Registry, communities: &[u32]) -> Result<Proposal, Fail>
     requires { length names.now.participants ≡ 3 }
 {
     let server = server_of_three(alloc, names)?;
-    let update = update(alloc)?;
+    let update = update(alloc, communities)?;
     match server.propose_update(names, Pid(1), &update) {
         Ok(proposal) => Ok(proposal),
         Err(_) => Err(Fail::new("the route is refused")),

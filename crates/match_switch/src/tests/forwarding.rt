@@ -108,7 +108,7 @@ const FORWARDED: [Row; 4] = [
         port: 1,
         to: MANY,
         datagram: &WEB,
-        actions: &[3, 2, 5, 2],
+        actions: &[2, 3, 5],
         frames: &[(2, SECOND, &WEB), (3, THIRD, &NAMES), (5, NOBODY, &WEB)],
     },
     Row {
@@ -164,8 +164,9 @@ fn set(port: u16, set: Assign) -> Action {
     }
 }
 
-/// Port 1: everything to port 2 for tag 1; for tag 258 port 443 to port 9, and else port 53 of port 3, and to 2, 5 and 2.
-/// Port 2: three datagrams to port 3 for tag 1. Port 4: another port alone for tag 1.
+/// Port 1: everything to port 2 for tag 1; for tag 258 port 443 to port 9, and else port 53 of port 3, and to 2, 5 and 2,
+/// in order and each once. Port 2: three datagrams to port 3 for tag 1. Port 4: another port
+/// alone for tag 1.
 fn filled(alloc: Global) -> Result<Option<Switch>, Memory> {
     let all = Cube::everything();
     let secure = Cube {

@@ -180,3 +180,121 @@ pub const TAKEN_OUTPUT: &str = "\
 16 ok
 17 refused misplaced
 ";
+
+/// B asks for its traffic to be discarded, by the community 65535:666 alone, with a longer path than C's, twice and among
+/// others, and then no more; A's router goes by what it was told.
+pub const DISCARDED_INPUT: &str = "\
+exchange 172.16.0.0 8 64
+participant A 65001 1.0.0.1
+participant B 65002 1.0.0.2
+participant C 65003 1.0.0.3
+port A 1 172.16.1.1 02:00:00:00:00:01
+port B 2 172.16.1.2 02:00:00:00:00:02
+port B 3 172.16.1.3 02:00:00:00:00:03
+port C 4 172.16.1.4 02:00:00:00:00:04
+update B ffffffffffffffffffffffffffffffff002b0200000012400101004002040201fdea400304ac100102080a
+drain A
+resolve 1
+update B ffffffffffffffffffffffffffffffff00320200000019400101004002040201fdea400304ac100102c00804ffff029a080a
+packet 1 4500001c000000004011acccc00002010a01020303e8005000080000
+drain A
+resolve 1
+packet 1 4500001c000000004011acccc00002010a01020303e8005000080000
+update C ffffffffffffffffffffffffffffffff002b0200000012400101004002040201fdeb400304ac100104080a
+update B ffffffffffffffffffffffffffffffff0034020000001b400101004002060202fdeafdea400304ac100102c00804ffff029a080a
+update B ffffffffffffffffffffffffffffffff003e0200000025400101004002040201fdea400304ac100102c00810fde80001ffff029afdea0002ffff029a080a
+table
+update B ffffffffffffffffffffffffffffffff002b0200000012400101004002040201fdeb400304ac100102080a
+packet 1 4500001c000000004011acccc00002010a01020303e8005000080000
+update B ffffffffffffffffffffffffffffffff002b0200000012400101004002040201fdea400304ac100102080a
+drain A
+resolve 1
+packet 1 4500001c000000004011acccc00002010a01020303e8005000080000
+";
+
+pub const DISCARDED_OUTPUT: &str = "\
+1 ok
+2 ok
+3 ok
+4 ok
+5 ok
+6 ok
+7 ok
+8 ok
+9 ok
+  tag 10.0.0.0/8 1
+  add 1 1 * -> 2
+  add 4 1 * -> 2
+10 ok
+  advert ffffffffffffffffffffffffffffffff002b0200000012400101004002040201fdea400304ac100001080a
+11 ok
+  ask ffffffffffff02000000000108060001080006040001020000000001ac100101000000000000ac100001
+  reply 02000000000102534400000108060001080006040002025344000001ac100001020000000001ac100101
+12 ok
+  tag 10.0.0.0/8 2
+  drop 4 1
+  add 1 2 * -> none
+  add 4 2 * -> none
+13 ok
+  out 2 02000000000202000000000108004500001c000000004011acccc00002010a01020303e8005000080000
+14 ok
+  drop 1 1
+  advert ffffffffffffffffffffffffffffffff00320200000019400101004002040201fdea400304ac100002c00804ffff029a080a
+15 ok
+  ask ffffffffffff02000000000108060001080006040001020000000001ac100101000000000000ac100002
+  reply 02000000000102534400000208060001080006040002025344000002ac100002020000000001ac100101
+16 ok
+17 ok
+  tag 10.0.0.0/8 1
+  drop 4 2
+  add 1 1 * -> none
+  add 2 1 * -> 4
+  add 3 1 * -> 4
+  add 4 1 * -> none
+18 ok
+  tag 10.0.0.0/8 3
+  drop 1 1
+  drop 2 1
+  drop 3 1
+  drop 4 1
+  add 1 3 * -> 4
+  add 2 3 * -> 4
+  add 3 3 * -> 4
+  add 4 3 * -> none
+19 ok
+  tag 10.0.0.0/8 1
+  drop 1 3
+  drop 2 3
+  drop 3 3
+  drop 4 3
+  add 1 1 * -> none
+  add 2 1 * -> 4
+  add 3 1 * -> 4
+  add 4 1 * -> none
+20 ok
+  flow 1 1 * -> none
+  flow 1 2 * -> none
+  flow 2 1 * -> 4
+  flow 3 1 * -> 4
+  flow 4 1 * -> none
+21 refused first-as
+22 ok
+23 ok
+  tag 10.0.0.0/8 3
+  drop 1 1
+  drop 2 1
+  drop 3 1
+  drop 4 1
+  add 1 3 * -> 2
+  add 2 3 * -> 4
+  add 3 3 * -> 4
+  add 4 3 * -> 2
+24 ok
+  drop 1 2
+  advert ffffffffffffffffffffffffffffffff002b0200000012400101004002040201fdea400304ac100003080a
+25 ok
+  ask ffffffffffff02000000000108060001080006040001020000000001ac100101000000000000ac100003
+  reply 02000000000102534400000308060001080006040002025344000003ac100003020000000001ac100101
+26 ok
+  out 2 02000000000202000000000108004500001c000000004011acccc00002010a01020303e8005000080000
+";

@@ -6,7 +6,8 @@ use events::{
     TagChange, TagChanges,
 };
 use net_types::{
-    Action, Actions, Assign, Bytes, Cube, Fault, Ip, Memory, Pair, Pairs, PortNo, Prefix, Rule, Tag,
+    Action, Actions, Assign, Bytes, Cube, Fault, Ip, Kind, Memory, Pair, Pairs, PortNo, Prefix,
+    Rule, Tag,
 };
 use std::alloc::Global;
 use std::test::Fail;
@@ -209,8 +210,14 @@ fn a_reply_has_its_details_in_order(rt: HostRuntime) -> Result<(), Fail> {
 }
 
 /// What stands behind the number of a line.
-const HEADS: [(Head, &str); 29] = [
+const HEADS: [(Head, &str); 41] = [
     (Head::Fine, "ok"),
+    (Head::Working(9), "working 9"),
+    (
+        Head::Working(18446744073709551615),
+        "working 18446744073709551615",
+    ),
+    (Head::Finished, "done"),
     (Head::Unrouted, "unrouted"),
     (Head::Unresolved(Ip(2886729730)), "unresolved 172.16.0.2"),
     (Head::Silent, "silent"),
@@ -225,6 +232,63 @@ const HEADS: [(Head, &str); 29] = [
         Head::Refused(Refusal::Syntax { at: 4294967295 }),
         "refused syntax 4294967295",
     ),
+    (
+        Head::Refused(Refusal::TooDeep { at: 64 }),
+        "refused too-deep 64",
+    ),
+    (
+        Head::Refused(Refusal::TooDeep { at: 4294967295 }),
+        "refused too-deep 4294967295",
+    ),
+    (
+        Head::Refused(Refusal::Isolate {
+            kind: Kind::UnknownName,
+            start: 0,
+            end: 6,
+        }),
+        "refused policy unknown-name 0 6",
+    ),
+    (
+        Head::Refused(Refusal::Isolate {
+            kind: Kind::OwnName,
+            start: 0,
+            end: 6,
+        }),
+        "refused policy own-name 0 6",
+    ),
+    (
+        Head::Refused(Refusal::Isolate {
+            kind: Kind::FwdKind,
+            start: 7,
+            end: 8191,
+        }),
+        "refused policy fwd-kind 7 8191",
+    ),
+    (
+        Head::Refused(Refusal::Isolate {
+            kind: Kind::ForeignPort,
+            start: 4294967294,
+            end: 4294967295,
+        }),
+        "refused policy foreign-port 4294967294 4294967295",
+    ),
+    (
+        Head::Refused(Refusal::Isolate {
+            kind: Kind::ModifyOutbound,
+            start: 10,
+            end: 29,
+        }),
+        "refused policy modify-outbound 10 29",
+    ),
+    (
+        Head::Refused(Refusal::Isolate {
+            kind: Kind::InportInbound,
+            start: 6,
+            end: 14,
+        }),
+        "refused policy inport-inbound 6 14",
+    ),
+    (Head::Refused(Refusal::TooWide), "refused too-wide"),
     (
         Head::Refused(Refusal::NoNextHop { need: 1, free: 0 }),
         "refused no-next-hop 1 0",

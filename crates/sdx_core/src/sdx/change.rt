@@ -15,7 +15,7 @@ use crate::replies::{changes_reply, refused};
 use bgp_update::{UpdateFault, decode};
 use events::{Phase, Refusal, Reply};
 use export_rules::{BindFault, RulesFault, parse_rules};
-use fast_path::{FastFault, commit, plan, reserve};
+use fast_path::{FastFault, commit, plan, plans_are_committed, reserve};
 use net_types::{Bytes, ExportRules, Memory, Name, Pid, Text};
 use route_server::{Proposal, RouteFault};
 
@@ -168,6 +168,7 @@ impl Sdx {
         };
         self.server.reserve(&proposal)?;
         reserve(&plan, &mut self.classes, &mut self.switch)?;
+        plans_are_committed();
         self.server.commit(proposal);
         let changes = commit(plan, &mut self.classes, &mut self.pool, &mut self.switch);
         self.phase = Phase::Running;

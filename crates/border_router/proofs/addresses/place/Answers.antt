@@ -1,8 +1,8 @@
 -- The search goes by the addresses.
 use Rattle.std.proofs.Common.{rules}
 use Rattle.std.proofs.lemmas.Fn.{always_returns_same}
-use Rattle.border_router.specs.Known.{ip_cmp}
 use Rattle.border_router.proofs.AddressLemmas.{searched}
+use Rattle.net_types.specs.Keys.{ip_cmp}
 use Rattle.border_router.proofs.addresses.place.Goals as goal
 
 pub returns-clause-found : goal.returns-clause-found

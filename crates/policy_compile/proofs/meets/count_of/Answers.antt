@@ -1,7 +1,7 @@
 use Rattle.std.proofs.Common.{[], length, sym, subst}
+use Rattle.std.proofs.lemmas.List.{append-nil}
 use Rattle.net_types.specs.Meets.{meets}
 use Rattle.policy_compile.specs.Sets.{IsUpTo, IsCount}
-use Rattle.policy_compile.proofs.SetsLemmas.{append-nil}
 use Rattle.policy_compile.proofs.CountLemmas.{counted_all}
 use Rattle.policy_compile.proofs.meets.count_of.Goals as goal
 

@@ -11,11 +11,11 @@ by_mods : (p : Policy) → HasWideMods p → true ≡ true ↔ IsTooWide p
 by_mods p m = (λ _. record { part = m.part; stands = m.stands; wide = inr m.many }, λ _. refl)
 
 by_meets : (p : Policy) (mods meets : Bool) → mods ≡ false → (mods ≡ true ↔ HasWideMods p) → (meets ≡ true ↔ HasWideMeets p) → meets ≡ true ↔ IsTooWide p
-by_meets p mods meets few by_mods by_meets = (
-  λ t. let m = by_meets.0 t in record { part = m.part; stands = m.stands; wide = inl m.many },
+by_meets p mods meets few on_mods on_meets = (
+  λ t. let m = on_meets.0 t in record { part = m.part; stands = m.stands; wide = inl m.many },
   λ w. elim w.wide [
-    | inl many ↦ by_meets.1 (record { part = w.part; stands = w.stands; many = many })
-    | inr many ↦ absurd (false≢true (sym few ∙ by_mods.1 (record { part = w.part; stands = w.stands; many = many })))
+    | inl many ↦ on_meets.1 (record { part = w.part; stands = w.stands; many = many })
+    | inr many ↦ absurd (false≢true (sym few ∙ on_mods.1 (record { part = w.part; stands = w.stands; many = many })))
   ],
 )
 

@@ -1,5 +1,5 @@
 -- The pair's entry is taken out.
-use Rattle.std.proofs.Common.{ap, arith, sym, ◌∙◌}
+use Rattle.std.proofs.Common.{ap, sym, ◌∙◌}
 use Rattle.std.specs.Prelude.{is_some}
 use Rattle.match_switch.proofs.TableLemmas.{get_is, table_without, few_before, kept_without, count_without, room_without}
 use Rattle.match_switch.proofs.switch.Switch.remove.Goals as goal

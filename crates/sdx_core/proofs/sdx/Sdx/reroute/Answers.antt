@@ -1,14 +1,11 @@
-use Rattle.std.proofs.Common.{sym, ap, subst, ◌∙◌, refl}
-use Rattle.events.specs.After.{without_pairs}
+use Rattle.std.proofs.Common.{sym, subst, ◌∙◌, refl}
 use Rattle.events.specs.Fits.{IsStep}
 use Rattle.events.specs.State.{State}
 use Rattle.events.specs.declared.Phase.TheVariants.{Running}
-use Rattle.fast_path.specs.Committing.{kept_with, kept_without, tags_with, with_blocks}
 use Rattle.fast_path.specs.Plans.{IsFault}
-use Rattle.fast_path.proofs.CommittedPlans.{can_commit, kept_committed, table_committed, tags_committed}
 use Rattle.sdx_core.specs.Changing.{Leads}
 use Rattle.sdx_core.specs.View.{state_of}
-use Rattle.sdx_core.proofs.Rerouted.{asked_of, committed_kept, committed_step, full_step, pool_is, says, short_step, state_then}
+use Rattle.sdx_core.proofs.Rerouted.{asked_of, committed_kept, committed_step, full_step, planned_of, pool_is, says, short_step, state_then}
 use Rattle.sdx_core.proofs.sdx.Sdx.reroute.Goals as goal
 
 pub returns-in-Err-NoNextHop : goal.returns-in-Err-NoNextHop
@@ -34,10 +31,12 @@ commit-changes-requires c =
     let s : State = state_of a.phase a.base a.size a.registry a.server a.resolved.items a.classes a.told.items a.switch in
     let e = c.requires.0 in
     let r = c.requires.2 in
+    let plan = c.in-Ok.plan in
     let here : Leads s e r c.args.proposal = subst (λ x. Leads x e r c.args.proposal) (sym c.self.view_is) c.requires.3 in
     let plans = c.in-Ok.ensures s r (asked_of s e r _ _ _ _ _ _ refl refl refl refl (sym c.deref.ensures.value) refl refl c.self.invariant here) in
-    can_commit s r c.in-Ok.plan c.self.invariant.steady here.alike plans c.reserve-2.new.classes a.pool c.reserve-2.new.switch (sym c.reserve-2.ensures.tag) (sym c.reserve-2.ensures.kept) (pool_is s a.pool c.self.invariant) (sym c.reserve-2.ensures.table)
-    c.in_ok-reserve-2.ensures.prefixes c.in_ok-reserve-2.ensures.tags c.in_ok-reserve-2.ensures.pairs
+    c.plans_are_committed.ensures.allowed s r plan c.reserve-2.new.classes a.pool c.reserve-2.new.switch (planned_of s e r c.args.proposal plan c.self.invariant.steady here plans)
+    (record { tag = sym c.reserve-2.ensures.tag; kept = sym c.reserve-2.ensures.kept; pool = pool_is s a.pool c.self.invariant; table = sym c.reserve-2.ensures.table })
+    (record { prefixes = c.in_ok-reserve-2.ensures.prefixes; tags = c.in_ok-reserve-2.ensures.tags; pairs = c.in_ok-reserve-2.ensures.pairs })
 
 pub invariant_of-self-2 : goal.invariant_of-self-2
 invariant_of-self-2 c =
@@ -48,14 +47,14 @@ invariant_of-self-2 c =
     let plan = c.in-Ok.plan in
     let here : Leads s e r c.args.proposal = subst (λ x. Leads x e r c.args.proposal) (sym c.self.view_is) c.requires.3 in
     let plans = c.in-Ok.ensures s r (asked_of s e r _ _ _ _ _ _ refl refl refl refl (sym c.deref.ensures.value) refl refl c.self.invariant here) in
-    let reached = c.commit.ensures.reached s.routing r (sym c.reserve.ensures.routes) (sym c.reserve.ensures.rules) here.proposes in
+    let reached = c.commit.ensures.reached s.routing r (sym c.reserve.ensures.routes) (sym c.reserve.ensures.rules) (sym c.reserve.ensures.named) here.proposes in
+    let to = c.plans_are_committed.ensures.reached s r plan c.reserve-2.new.classes a.pool c.reserve-2.new.switch (planned_of s e r c.args.proposal plan c.self.invariant.steady here plans)
+    (record { tag = sym c.reserve-2.ensures.tag; kept = sym c.reserve-2.ensures.kept; pool = pool_is s a.pool c.self.invariant; table = sym c.reserve-2.ensures.table }) in
     let done = c.commit-changes.ensures in
-    let then = state_then a.phase a.base a.size a.registry a.server a.resolved.items a.classes a.told.items a.switch r c.commit.new.self c.commit-changes.new.classes c.commit-changes.new.switch here.alike reached.0 reached.1
-    (done.tag ∙ ap (λ m. tags_with m plan.tags) c.reserve-2.ensures.tag ∙ tags_committed s r plan c.self.invariant.steady here.alike plans)
-    (done.kept ∙ ap (λ m. kept_without (kept_with m plan.fresh.items) plan.dead.items) c.reserve-2.ensures.kept ∙ kept_committed s r plan c.self.invariant.steady here.alike plans)
-    (done.table ∙ ap (λ m. with_blocks (without_pairs m plan.drops) plan.blocks.items) c.reserve-2.ensures.table ∙ table_committed s r plan c.self.invariant.steady here.alike plans)
-    (done.capacity ∙ c.reserve-2.ensures.capacity) in
-    committed_kept s e r c.args.proposal plan c.changes_reply.result _ a.pool c.self.invariant c.requires.1 here plans (says c.changes_reply.result c.commit-changes.result plan c.changes_reply.ensures done.changes) then c.commit-changes.new.pool done.pool
+    let then = state_then a.phase a.base a.size a.registry a.server a.resolved.items a.classes a.told.items a.switch r c.commit.new.self c.commit-changes.new.classes c.commit-changes.new.switch here.alike reached.0 reached.1 reached.2
+    (done.tag ∙ to.tag) (done.kept ∙ to.kept) (done.table ∙ to.table) (done.capacity ∙ c.reserve-2.ensures.capacity) in
+    committed_kept c.plans_are_committed.ensures.replied s e r c.args.proposal plan c.changes_reply.result _ a.pool c.self.invariant c.requires.1 here plans (says c.changes_reply.result c.commit-changes.result plan c.changes_reply.ensures done.changes) then
+    c.reserve-2.new.classes c.reserve-2.new.switch to c.commit-changes.new.pool done.pool
 
 pub returns : goal.returns
 returns c = λ e r formed leads.
@@ -64,13 +63,12 @@ returns c = λ e r formed leads.
     let plan = c.in-Ok.plan in
     let here : Leads s e r c.args.proposal = subst (λ x. Leads x e r c.args.proposal) (sym c.self.view_is) leads in
     let plans = c.in-Ok.ensures s r (asked_of s e r _ _ _ _ _ _ refl refl refl refl (sym c.deref.ensures.value) refl refl c.self.invariant here) in
-    let reached = c.commit.ensures.reached s.routing r (sym c.reserve.ensures.routes) (sym c.reserve.ensures.rules) here.proposes in
+    let reached = c.commit.ensures.reached s.routing r (sym c.reserve.ensures.routes) (sym c.reserve.ensures.rules) (sym c.reserve.ensures.named) here.proposes in
+    let to = c.plans_are_committed.ensures.reached s r plan c.reserve-2.new.classes a.pool c.reserve-2.new.switch (planned_of s e r c.args.proposal plan c.self.invariant.steady here plans)
+    (record { tag = sym c.reserve-2.ensures.tag; kept = sym c.reserve-2.ensures.kept; pool = pool_is s a.pool c.self.invariant; table = sym c.reserve-2.ensures.table }) in
     let done = c.commit-changes.ensures in
-    let then = state_then a.phase a.base a.size a.registry a.server a.resolved.items a.classes a.told.items a.switch r c.commit.new.self c.commit-changes.new.classes c.commit-changes.new.switch here.alike reached.0 reached.1
-    (done.tag ∙ ap (λ m. tags_with m plan.tags) c.reserve-2.ensures.tag ∙ tags_committed s r plan c.self.invariant.steady here.alike plans)
-    (done.kept ∙ ap (λ m. kept_without (kept_with m plan.fresh.items) plan.dead.items) c.reserve-2.ensures.kept ∙ kept_committed s r plan c.self.invariant.steady here.alike plans)
-    (done.table ∙ ap (λ m. with_blocks (without_pairs m plan.drops) plan.blocks.items) c.reserve-2.ensures.table ∙ table_committed s r plan c.self.invariant.steady here.alike plans)
-    (done.capacity ∙ c.reserve-2.ensures.capacity) in
+    let then = state_then a.phase a.base a.size a.registry a.server a.resolved.items a.classes a.told.items a.switch r c.commit.new.self c.commit-changes.new.classes c.commit-changes.new.switch here.alike reached.0 reached.1 reached.2
+    (done.tag ∙ to.tag) (done.kept ∙ to.kept) (done.table ∙ to.table) (done.capacity ∙ c.reserve-2.ensures.capacity) in
     let s' : State = state_of Running a.base a.size a.registry c.commit.new.self a.resolved.items c.commit-changes.new.classes a.told.items c.commit-changes.new.switch in
     subst (λ x. IsStep x e c.changes_reply.result s') c.self.view_is
-    (committed_step s e r c.args.proposal plan c.changes_reply.result s' a.pool c.self.invariant formed here plans (says c.changes_reply.result c.commit-changes.result plan c.changes_reply.ensures done.changes) then)
+    (committed_step c.plans_are_committed.ensures.replied s e r c.args.proposal plan c.changes_reply.result s' a.pool c.self.invariant formed here plans (says c.changes_reply.result c.commit-changes.result plan c.changes_reply.ensures done.changes) then)
