@@ -32,7 +32,6 @@ use Rattle.route_server.specs.Effects.{AreRowsOf, routing_after}
 use Rattle.route_server.specs.Rows.{look}
 use Rattle.route_server.specs.Served.{Served, AreDeclared, AreOwned, owns, routing}
 use Rattle.route_server.specs.declared.change.Change.{Change}
-use Rattle.route_server.specs.declared.fault.RouteFault.{RouteFault}
 use Rattle.route_server.specs.declared.fault.RouteFault.TheVariants.{FirstAs, NextHop}
 
 -- ---- one change more

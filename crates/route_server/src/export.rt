@@ -5,7 +5,7 @@ ghost use Rattle.net_types.specs.Sets.{Member};
 ghost use Rattle.route_server.specs.Edits.{IsKept, prefixes_of};
 ghost use Rattle.route_server.specs.Effects.{routing_after};
 ghost use Rattle.route_server.specs.Proposed.{IsProposal};
-ghost use Rattle.route_server.specs.Rows.{look, padded, rules_with, Rising};
+ghost use Rattle.route_server.specs.Rows.{padded, rules_with};
 ghost use Rattle.route_server.specs.Served.{routing, AreDeclared};
 ghost use Rattle.route_server.specs.declared.change.Change.{Change};
 
