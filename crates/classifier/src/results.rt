@@ -61,13 +61,17 @@ impl Results {
         Ok(())
     }
 
-    /// The pairs, in the order in which they were put, each once.
+    /// The pairs, in the order in which they were put.
     pub fn items(&self) -> &[(Assign, Loc)]
         ensures { result.now ≡ self.now }
-        ensures once { HasNoRepeats self.now }
     {
         self.pairs.as_slice()
     }
+
+    /// No pair is there twice.
+    pub fn known(&self)
+        ensures { HasNoRepeats self.now }
+    {}
 
     /// Whether there are no results: the packet is dropped.
     pub fn is_empty(&self) -> bool
