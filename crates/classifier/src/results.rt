@@ -17,6 +17,7 @@ pub struct Results {
 impl Model for Results {
     ghost use Rattle.std.specs.Prelude.{List};
     ghost use Rattle.net_types.specs.declared.headers.Assign.{Assign};
+    ghost use Rattle.net_types.specs.Sets.{HasNoRepeats};
     ghost use Rattle.net_types.specs.declared.headers.Loc.{Loc};
 
     ghost Value = { List (Assign × Loc) };
@@ -71,7 +72,9 @@ impl Results {
     /// No pair is there twice.
     pub fn known(&self)
         ensures { HasNoRepeats self.now }
-    {}
+    {
+        let _pairs = self.pairs.as_slice();
+    }
 
     /// Whether there are no results: the packet is dropped.
     pub fn is_empty(&self) -> bool

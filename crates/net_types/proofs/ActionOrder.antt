@@ -1,5 +1,5 @@
 -- Actions in the order in which they are printed: a sorted list of them without repeats is the list in order.
-use Rattle.std.proofs.Common.{◌≡◌, true, List, [], IsPermutation, ap, refl}
+use Rattle.std.proofs.Common.{◌≡◌, true, List, IsPermutation, ap, refl}
 use Rattle.std.specs.Prelude.{Some, None}
 use Rattle.std.specs.Cmp.{IsTotalOrder, nat_cmp_total}
 use Rattle.std.specs.Cmp.Lexicographic.{options_total}

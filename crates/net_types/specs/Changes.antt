@@ -1,5 +1,5 @@
 -- The routes after accepted lines (RFC 4271 9), and the prefixes for which somebody's choice is another then.
-use Rattle.std.specs.Prelude.{◌≡◌, ◌≢◌, ◌⊎◌, Bool, true, not, nat_eq, List, [], ◌∷◌, Option, Some, None}
+use Rattle.std.specs.Prelude.{◌≢◌, ◌⊎◌, not, nat_eq, List, [], ◌∷◌, Option, Some, None}
 use Rattle.std.specs.Option.{option_map}
 use Rattle.std.specs.FinMap.{FinMap, insert, remove, retain_keys}
 use Rattle.net_types.specs.Exports.{Routing}

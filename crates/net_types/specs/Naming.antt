@@ -4,7 +4,6 @@ use Rattle.net_types.specs.Keys.{pid_cmp}
 use Rattle.net_types.specs.Maps.{ordered}
 use Rattle.net_types.specs.Policies.{Target, Name, Number, Policy, Drop, Pass, Block, Fwd, Match, Set, Both, Then}
 use Rattle.net_types.specs.declared.address.Pid.{Pid}
-use Rattle.net_types.specs.declared.address.PortNo.{PortNo}
 
 -- the participant, where there is one
 abbrev pub known : Option Pid → List Pid
