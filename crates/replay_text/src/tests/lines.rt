@@ -312,18 +312,17 @@ fn name_of(event: &Option<Event>) -> &[u8] {
     match event {
         Some(Event::Participant { name, .. }) => name.items(),
         Some(Event::Port { name, .. }) => name.items(),
-        Some(Event::Update { name, .. }) => name.items(),
-        Some(Event::Down { name }) => name.items(),
         Some(Event::Export { name, .. }) => name.items(),
-        Some(Event::Drain { name }) => name.items(),
         _ => &[],
     }
 }
 
-/// The word, the port and the octets of a line that has these.
+/// The word of a line, with its port and its octets or name where it has these.
 fn parts_of(event: &Option<Event>) -> (&'static str, u16, &[u8]) {
     match event {
         Some(Event::Update { bytes, .. }) => ("update", 0, bytes.items()),
+        Some(Event::Down { name }) => ("down", 0, name.items()),
+        Some(Event::Drain { name }) => ("drain", 0, name.items()),
         Some(Event::Arp { port, bytes }) => ("arp", port.0, bytes.items()),
         Some(Event::Resolve { port }) => ("resolve", port.0, &[]),
         Some(Event::Packet { port, bytes }) => ("packet", port.0, bytes.items()),
@@ -334,7 +333,7 @@ fn parts_of(event: &Option<Event>) -> (&'static str, u16, &[u8]) {
 }
 
 #[test]
-fn a_line_of_each_kind_is_read(rt: HostRuntime) -> Result<(), Fail> {
+fn a_declaring_line_is_read(rt: HostRuntime) -> Result<(), Fail> {
     let alloc = rt.alloc();
     let exchange = read_line(alloc, b"exchange 172.16.0.0 4096 100000")?;
     assert!(rt;
@@ -365,12 +364,6 @@ fn a_line_of_each_kind_is_read(rt: HostRuntime) -> Result<(), Fail> {
         matches!(&port, Some(Event::Port { number: PortNo(65279), ip: Ip(2886729986), mac: read, .. }) if *read == mac)
     );
     assert!(rt; name_of(&port) == b"A".as_slice());
-    let drain = read_line(alloc, b"drain a")?;
-    assert!(rt; matches!(&drain, Some(Event::Drain { .. })));
-    assert!(rt; name_of(&drain) == b"a".as_slice());
-    let down = read_line(alloc, b"down B")?;
-    assert!(rt; matches!(&down, Some(Event::Down { .. })));
-    assert!(rt; name_of(&down) == b"B".as_slice());
     Ok(())
 }
 
@@ -432,8 +425,10 @@ fn a_text_is_read_as_it_stands(rt: HostRuntime) -> Result<(), Fail> {
     Ok(())
 }
 
-/// Lines with their words, ports and octets.
-const READ: [(&[u8], &str, u16, &[u8]); 9] = [
+/// Lines with their words, ports, and octets or names.
+const READ: [(&[u8], &str, u16, &[u8]); 11] = [
+    (b"drain a", "drain", 0, b"a"),
+    (b"down B", "down", 0, b"B"),
     (b"update A 00", "update", 0, b"\x00"),
     (b"update A fFFf0a0AA0", "update", 0, b"\xff\xff\x0a\x0a\xa0"),
     (b"arp 1 ffEE", "arp", 1, b"\xff\xee"),
