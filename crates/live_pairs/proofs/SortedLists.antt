@@ -1,5 +1,5 @@
 -- A sorted list without repeats is the list in order.
-use Rattle.std.proofs.Common.{◌≡◌, Bool, ◌&&◌, List, [], eqb, IsPermutation, sym, ◌∙◌, refl}
+use Rattle.std.proofs.Common.{◌≡◌, Bool, ◌&&◌, List, eqb, IsPermutation, sym, ◌∙◌, refl}
 use Rattle.std.specs.Prelude.{Option, Some, None}
 use Rattle.std.specs.Cmp.{unsigned_ties}
 use Rattle.std.specs.List.{dedup}
