@@ -8,8 +8,6 @@ mod laws;
 mod offers;
 mod receive;
 mod spread;
-#[cfg(test)]
-mod tests;
 mod view;
 
 pub use block::{Block, BuildFault};

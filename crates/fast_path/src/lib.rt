@@ -9,8 +9,6 @@ mod parts;
 mod planned;
 mod planning;
 mod tagging;
-#[cfg(test)]
-mod tests;
 
 pub use carried::plans_are_committed;
 pub use committing::{commit, reserve};

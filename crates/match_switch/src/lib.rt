@@ -5,8 +5,6 @@ mod forwarding;
 mod iter;
 mod leaving;
 mod switch;
-#[cfg(test)]
-mod tests;
 
 pub use iter::Iter;
 pub use switch::Switch;

@@ -6,8 +6,6 @@ mod lines;
 mod pieces;
 mod replies;
 mod rules;
-#[cfg(test)]
-mod tests;
 
 pub use lines::read_line;
 pub use replies::write_reply;

@@ -18,8 +18,6 @@ mod rules;
 mod server;
 mod signature;
 mod terms;
-#[cfg(test)]
-mod tests;
 mod update;
 
 pub use fault::RouteFault;

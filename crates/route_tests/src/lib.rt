@@ -14,6 +14,8 @@ mod prefixes;
 #[cfg(test)]
 mod rules;
 #[cfg(test)]
+mod servers;
+#[cfg(test)]
 mod sorted_lists;
 #[cfg(test)]
 mod tags;

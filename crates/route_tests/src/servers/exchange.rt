@@ -1,0 +1,224 @@
+//! A small exchange: A with port 1, B with the ports 2 and 3, C with port 4.
+
+ghost use Rattle.std.specs.Prelude.{◌≡◌, ◌<◌, length, IfOk, OnOk};
+ghost use Rattle.std.specs.FinMap.{empty};
+ghost use Rattle.route_server.specs.Served.{AreDeclared};
+
+use super::said::{Route, Said, prefix, update};
+use super::told::{bests, fault, prefixes, proposed, push_signature};
+use route_server::RouteServer;
+use export_rules::{Bound, parse_rules};
+use net_types::{Ip, Mac, Memory, Pid, PortNo};
+use registry::{RegFault, Registry};
+use std::alloc::Global;
+use std::test::Fail;
+
+#[derive(Clone, Copy)]
+pub enum Who {
+    A,
+    B,
+    C,
+}
+
+impl Who {
+    pub fn pid(self) -> Pid
+        ensures { result.0 < 3 }
+    {
+        match self {
+            Who::A => Pid(0),
+            Who::B => Pid(1),
+            Who::C => Pid(2),
+        }
+    }
+}
+
+fn add_participants(names: &mut Registry) -> Result<(), RegFault>
+    requires { length names.old.participants ≡ 0 }
+    ensures { OnOk result (length names.new.participants ≡ 3) }
+{
+    names.add_participant("A", 65001, Ip(0x01000001))?;
+    names.add_participant("B", 65002, Ip(0x01000002))?;
+    names.add_participant("C", 65003, Ip(0x01000003))?;
+    Ok(())
+}
+
+/// A port whose number is the last octet of its address 172.16.1.x and of its MAC.
+fn add_port(names: &mut Registry, owner: Who, number: u8) -> Result<(), RegFault>
+    requires { length names.old.participants ≡ 3 }
+    ensures { length names.new.participants ≡ 3 }
+{
+    let ip = Ip(0xAC100100 + number as u32);
+    let mac = Mac([2, 0, 0, 0, 0, number]);
+    names.add_port(owner.pid(), PortNo(number as u16), ip, mac)
+}
+
+fn add_ports(names: &mut Registry) -> Result<(), RegFault>
+    requires { length names.old.participants ≡ 3 }
+    ensures { length names.new.participants ≡ 3 }
+{
+    add_port(names, Who::A, 1)?;
+    add_port(names, Who::B, 2)?;
+    add_port(names, Who::B, 3)?;
+    add_port(names, Who::C, 4)
+}
+
+fn declare(names: &mut Registry) -> Result<(), RegFault>
+    requires { length names.old.participants ≡ 0 }
+    ensures { OnOk result (length names.new.participants ≡ 3) }
+{
+    add_participants(names)?;
+    add_ports(names)
+}
+
+fn three(alloc: Global) -> Result<Registry, RegFault>
+    ensures { IfOk result (λ names. length names.participants ≡ 3) }
+{
+    let mut names = Registry::new(alloc);
+    declare(&mut names)?;
+    Ok(names)
+}
+
+/// A server of the three, without routes and rules.
+fn server_of_three(alloc: Global, names: &Registry) -> Result<RouteServer, Memory>
+    ensures rules { IfOk result (λ server. length server.rules ≡ 3) }
+    ensures declared { IfOk result (λ server. AreDeclared names.now server.routes) }
+{
+    let mut server = RouteServer::new(alloc);
+    server.add_participant()?;
+    server.add_participant()?;
+    server.add_participant()?;
+    Ok(server)
+}
+
+/// A participant's update is taken or refused; told are the touched prefixes or the fault.
+fn run(
+    alloc: Global,
+    server: &mut RouteServer,
+    names: &Registry,
+    from: Who,
+    said: Said,
+) -> Result<String, Fail>
+    requires known { length names.now.participants ≡ 3 }
+    requires declared { AreDeclared names.now server.old.routes }
+    ensures declared { AreDeclared names.now server.new.routes }
+    ensures rules { server.new.rules ≡ server.old.rules }
+{
+    let update = update(alloc, said)?;
+    let proposal = match server.propose_update(names, from.pid(), &update) {
+        Ok(proposal) => proposal,
+        Err(why) => return fault(alloc, why),
+    };
+    let touched = prefixes(alloc, proposal.touched())?;
+    server.reserve(&proposal)?;
+    server.commit(proposal);
+    Ok(touched)
+}
+
+/// A server after one update.
+fn server_after(alloc: Global, names: &Registry, from: Who, said: Said) -> Result<RouteServer, Fail>
+    requires { length names.now.participants ≡ 3 }
+    ensures rules { IfOk result (λ server. length server.rules ≡ 3) }
+    ensures declared { IfOk result (λ server. AreDeclared names.now server.routes) }
+{
+    let mut server = server_of_three(alloc, names)?;
+    run(alloc, &mut server, names, from, said)?;
+    Ok(server)
+}
+
+/// The signature of 10.0.0.0/8 behind an earlier text.
+fn with_signature(
+    alloc: Global,
+    server: &RouteServer,
+    names: &Registry,
+    told: String,
+) -> Result<String, Fail>
+    requires { AreDeclared names.now server.now.routes }
+{
+    let mut told = told;
+    push_signature(alloc, &mut told, &server.signature(names, prefix(10)?)?)?;
+    Ok(told)
+}
+
+fn second(
+    alloc: Global,
+    server: &mut RouteServer,
+    names: &Registry,
+    from: Who,
+    said: Said,
+) -> Result<String, Fail>
+    requires known { length names.now.participants ≡ 3 }
+    requires declared { AreDeclared names.now server.old.routes }
+{
+    let told = run(alloc, server, names, from, said)?;
+    with_signature(alloc, server, names, told)
+}
+
+fn after_in(
+    alloc: Global,
+    names: &Registry,
+    first: (Who, Said),
+    then: (Who, Said),
+) -> Result<String, Fail>
+    requires { length names.now.participants ≡ 3 }
+{
+    let mut server = server_after(alloc, names, first.0, first.1)?;
+    second(alloc, &mut server, names, then.0, then.1)
+}
+
+/// What the second of two updates touches, and then the signature of 10.0.0.0/8.
+pub fn after(alloc: Global, first: (Who, Said), then: (Who, Said)) -> Result<String, Fail> {
+    let names = three(alloc)?;
+    after_in(alloc, &names, first, then)
+}
+
+fn bests_in(alloc: Global, names: &Registry, of_b: Route, who: Who) -> Result<String, Fail>
+    requires { length names.now.participants ≡ 3 }
+{
+    let server = server_after(alloc, names, Who::B, Said::Here(of_b, 10))?;
+    bests(alloc, &server, names, who.pid())
+}
+
+/// A participant's best routes after B's for 10.0.0.0/8.
+pub fn bests_after(alloc: Global, of_b: Route, who: Who) -> Result<String, Fail> {
+    let names = three(alloc)?;
+    bests_in(alloc, &names, of_b, who)
+}
+
+fn down_in(alloc: Global, names: &Registry, of_b: Route) -> Result<String, Fail>
+    requires { length names.now.participants ≡ 3 }
+{
+    let server = server_after(alloc, names, Who::B, Said::Here(of_b, 10))?;
+    let proposal = server.propose_down(names, Pid(1))?;
+    Ok(proposed(alloc, &proposal)?)
+}
+
+/// What is touched where B, with a route for 10.0.0.0/8, is down, and the signature then.
+pub fn down(alloc: Global, of_b: Route) -> Result<String, Fail> {
+    let names = three(alloc)?;
+    down_in(alloc, &names, of_b)
+}
+
+/// Rules that give nothing to anybody.
+fn nothing(alloc: Global, names: &Registry) -> Result<Bound, Fail> {
+    let Ok(rules) = parse_rules(alloc, "deny * *") else {
+        return Err(Fail::new("the rules are refused"));
+    };
+    match rules.bind(names) {
+        Ok(bound) => Ok(bound),
+        Err(_) => Err(Fail::new("a name is not declared")),
+    }
+}
+
+fn closed_in(alloc: Global, names: &Registry, of_b: Route) -> Result<String, Fail>
+    requires { length names.now.participants ≡ 3 }
+{
+    let server = server_after(alloc, names, Who::B, Said::Here(of_b, 10))?;
+    let proposal = server.propose_rules(names, Pid(1), nothing(alloc, names)?)?;
+    Ok(proposed(alloc, &proposal)?)
+}
+
+/// What is touched where B, with a route for 10.0.0.0/8, gives nothing to anybody, and the signature then.
+pub fn closed(alloc: Global, of_b: Route) -> Result<String, Fail> {
+    let names = three(alloc)?;
+    closed_in(alloc, &names, of_b)
+}
