@@ -10,8 +10,6 @@ mod policies;
 mod preds;
 mod sets;
 mod width;
-#[cfg(test)]
-mod widths;
 
 pub use policies::compile;
 pub use width::{count_meets, too_wide, width_is_tested};

@@ -11,3 +11,5 @@ mod compiled;
 mod isolation;
 #[cfg(test)]
 mod texts;
+#[cfg(test)]
+mod widths;

@@ -1,6 +1,6 @@
 //! Policies that are just too wide, and those just not.
 
-use crate::too_wide;
+use policy_compile::too_wide;
 use bumpalo::Bump;
 use policy_syntax::parse;
 use std::test::Fail;
