@@ -6,7 +6,7 @@ ghost use Rattle.fast_path.specs.Grouping.{change_before, changes_of, known, tag
 
 use crate::grouping::{group_place, is_kept, same_tags};
 use events::{TagChange, TagChanges};
-use live_pairs::Fresh;
+use crate::forward::Fresh;
 use net_types::{Items, Memory, Prefix, Sig, Tag};
 use next_hop_pool::Pool;
 use prefix_classes::ClassMap;
