@@ -21,6 +21,7 @@ impl Model for Addresses {
     ghost use Rattle.std.specs.Coded.{codes};
     ghost use Rattle.std.specs.FinMap as map;
     ghost use Rattle.border_router.specs.Known.{Stations};
+    ghost use Rattle.net_types.specs.Keys.{ip_cmp};
 
     ghost Value = { Stations };
 

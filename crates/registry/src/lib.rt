@@ -9,4 +9,5 @@ mod ports;
 mod registry;
 
 pub use fault::RegFault;
+pub use net_types::{Participant, PortInfo};
 pub use registry::Registry;

@@ -20,9 +20,10 @@ use Rattle.net_types.specs.declared.prefix.Prefix.{Prefix}
 use Rattle.net_types.specs.declared.route.Attrs.{Attrs}
 use Rattle.registry.specs.Registered.{Registered}
 use Rattle.route_server.specs.Edits.{IsEdit}
-use Rattle.route_server.specs.Effects.{AreRowsOf}
+use Rattle.net_types.specs.declared.export.ExportRule.{ExportRule}
+use Rattle.route_server.specs.Effects.{AreRowsOf, routing_after}
 use Rattle.route_server.specs.Rows.{look}
-use Rattle.route_server.specs.Served.{AreAll, AreDeclared, Carries, routes_of}
+use Rattle.route_server.specs.Served.{AreAll, AreDeclared, AreOwned, Carries, owns, routes_of}
 use Rattle.route_server.specs.declared.change.Change.{Change}
 use Rattle.route_server.specs.declared.held.Held.{Held}
 use Rattle.route_server.proofs.ServedLaws.{get-routes_of}
@@ -94,6 +95,16 @@ module _ (from : Pid) (m : FinMap route_cmp Attrs) where
     where
       by : (k : RouteKey) (b : Bool) → IfSome (cond b (get m k) None) (λ _. k.from.0 < length names.participants)
       by k true = are.declared k
+      by k false = tt
+
+  pub without_owned : (names : Registered) (rules : List (List ExportRule)) (named : List (List Pid)) → AreOwned (routing_after names rules named m) → AreOwned (routing_after names rules named (without_routes from m))
+  without_owned names rules named are = record { owned = λ k. subst (λ o. IfSome o (fits k)) (sym (get_without k)) (by k (not (eqb k.from.0 from.0))) }
+    where
+      fits : RouteKey → Attrs → Type 0
+      fits k a = (k.from.0 < length names.participants) × (owns (routing_after names rules named m) k.from a.next_hop ≡ true)
+
+      by : (k : RouteKey) (b : Bool) → IfSome (cond b (get m k) None) (fits k)
+      by k true = are.owned k
       by k false = tt
 
 -- one more is looked at

@@ -26,7 +26,7 @@ use Rattle.net_types.proofs.LongestLemmas.{any-member, member-any}
 use Rattle.net_types.proofs.RisingLemmas.{filter-Member, Member-filter, filter-IsRising}
 use Rattle.registry.specs.Registered.{Registered}
 use Rattle.route_server.specs.Rows.{settled, held_at, held_by, look, Rising, signature_of}
-use Rattle.route_server.specs.Served.{Served, routing, AreDeclared}
+use Rattle.route_server.specs.Served.{Served, routing, AreDeclared, AreOwned}
 use Rattle.route_server.specs.Effects.{place_attrs, row_at, effect_bests, best_by_row, same_by_rows, is_same, IsEffect, IsEffectOf, routing_after, AreRowsOf, AreEffects}
 use Rattle.route_server.specs.Proposed.{IsProposal}
 use Rattle.route_server.specs.declared.change.Change.{Change}
@@ -244,8 +244,8 @@ touched_are r s cs es f rising elsewhere = subst (AreTouched r s) (sym now) (rec
 pub proposal_is : (names : Registered) (v : Served) (rules held : List (List ExportRule)) (m : FinMap route_cmp Attrs) (o : Option (List (List ExportRule))) (cs ds : List Change) (es fs : List Effect) (ps : List Prefix) → held ≡ rules → ds ≡ cs → fs ≡ es → ps ≡ map (λ (e : Effect). e.prefix) fs → unwrap_or o v.rules ≡ rules → AreRowsOf cs m
     → AreEffects (routing names v) (routing_after names held v.named m) ds (length ds) es → IsRising is_before (map (λ (c : Change). c.prefix) cs)
     → ((q : RouteKey) → (Member q.prefix (map (λ (c : Change). c.prefix) cs) → ⊥) → get m q ≡ get v.routes q) → ((p : Prefix) → (Member p (map (λ (c : Change). c.prefix) cs) → ⊥) → Differs (routing names v) (routing_after names rules v.named m) p → ⊥)
-    → IsProposal (routing names v) (routing_after names rules v.named m) (record { changes = cs; rules = o; touched = ps; sigs = map (λ (e : Effect). e.sig) es; bests = map (effect_bests cs) es })
-proposal_is names v rules held m o cs ds es fs ps same_rules same_changes same_effects at own rows f rising kept elsewhere =
+    → (AreOwned (routing names v) → AreOwned (routing_after names rules v.named m)) → IsProposal (routing names v) (routing_after names rules v.named m) (record { changes = cs; rules = o; touched = ps; sigs = map (λ (e : Effect). e.sig) es; bests = map (effect_bests cs) es })
+proposal_is names v rules held m o cs ds es fs ps same_rules same_changes same_effects at own rows f rising kept elsewhere owned =
     let r = routing names v in
     let s = routing_after names rules v.named m in
     let k : AreEffects r s cs (length cs) es = subst (λ xs. AreEffects r s xs (length xs) es) same_changes (subst (λ rs. AreEffects r (routing_after names rs v.named m) ds (length ds) es) same_rules f) in
@@ -257,4 +257,5 @@ proposal_is names v rules held m o cs ds es fs ps same_rules same_changes same_e
       routes = changes_reach m v.routes cs cs refl rows kept;
       rules = own;
       named = refl;
+      owned = owned;
     }

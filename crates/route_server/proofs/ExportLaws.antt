@@ -1,5 +1,5 @@
 -- Other rules of one participant.
-use Rattle.std.proofs.Common.{◌≡◌, ℕ, zero, suc, ◌<◌, Bool, true, false, cond, ◌&&◌, not, eqb, List, [], ◌∷◌, length, set, arith, sym, ap, ◌∙◌, refl}
+use Rattle.std.proofs.Common.{◌≡◌, ℕ, zero, suc, ◌+◌, ◌-◌, ◌<◌, ◌≤◌, Bool, true, false, cond, ◌&&◌, not, eqb, List, [], ◌∷◌, ◌++◌, length, length-append, append_assoc, append-nil, set, arith, sym, ap, ◌∙◌, refl}
 use Rattle.std.specs.Prelude.{Option, Some, None, is_some}
 use Rattle.std.specs.Option.{option_and_then}
 use Rattle.std.specs.FinMap.{FinMap, get}
@@ -16,7 +16,7 @@ use Rattle.net_types.specs.declared.route.Attrs.{Attrs}
 use Rattle.registry.specs.Registered.{Registered}
 use Rattle.route_server.specs.Edits.{IsKept}
 use Rattle.route_server.specs.Effects.{AreRowsOf}
-use Rattle.route_server.specs.Rows.{rules_at}
+use Rattle.route_server.specs.Rows.{nothings, padded, rules_at, rules_with}
 use Rattle.route_server.specs.Served.{Served, routing, Carries}
 use Rattle.route_server.specs.declared.change.Change.{Change}
 use Rattle.route_server.proofs.ProposalLaws.{no_other}
@@ -60,3 +60,45 @@ set_rules (x ∷ xs) zero own zero within = sym (ap (λ b. cond b own x) (eq-eqb
 set_rules (x ∷ xs) zero own (suc n) within = sym (ap (λ b. cond b own (rules_at xs n)) (ne_eqb 0 (suc n) (λ e. absurd (omega arith))))
 set_rules (x ∷ xs) (suc at) own zero within = sym (ap (λ b. cond b own x) (ne_eqb (suc at) 0 (λ e. absurd (omega arith))))
 set_rules (x ∷ xs) (suc at) own (suc n) within = set_rules xs at own n (omega arith) ∙ sym (ap (λ b. cond b own (rules_at xs n)) (same_next at n (eqb at n) refl))
+
+-- ---- lists of rules that are as long as they have to be
+
+length_nothings : (k : ℕ) → length (nothings k) ≡ k
+length_nothings zero = refl
+length_nothings (suc k) = ap suc (length_nothings k)
+
+nothing_at : (k n : ℕ) → rules_at (nothings k) n ≡ []
+nothing_at zero n = refl
+nothing_at (suc k) zero = refl
+nothing_at (suc k) (suc n) = nothing_at k n
+
+pad_at : (xs : List (List ExportRule)) (k n : ℕ) → rules_at (xs ++ nothings k) n ≡ rules_at xs n
+pad_at [] k n = nothing_at k n
+pad_at (x ∷ xs) k zero = refl
+pad_at (x ∷ xs) k (suc n) = pad_at xs k n
+
+-- the participant has its own rules, and all others theirs
+pub padded_rules : (xs : List (List ExportRule)) (from : Pid) (own : List ExportRule) (n : ℕ) → rules_at (rules_with xs from own) n ≡ cond (eqb from.0 n) own (rules_at xs n)
+padded_rules xs from own n =
+    let k = (from.0 + 1) - length xs in
+    set_rules (padded xs (from.0 + 1)) from.0 own n (let e = length-append xs (nothings k) in let f = length_nothings k in omega (arith, e, f))
+    ∙ ap (cond (eqb from.0 n) own) (pad_at xs k n)
+
+pub listed_rules : (xs : List (List ExportRule)) (from : Pid) (own : List ExportRule) → from.0 < length xs → rules_with xs from own ≡ set xs from.0 own
+listed_rules xs from own within =
+    let none : (from.0 + 1) - length xs ≡ 0 = omega (arith, within) in
+    ap (λ k. set (xs ++ nothings k) from.0 own) none ∙ ap (λ ys. set ys from.0 own) (append-nil xs)
+
+-- one list more
+pub pad_more : (count place : ℕ) (xs all : List (List ExportRule)) → place < count → xs ++ nothings (count - place) ≡ all → (xs ++ [] ∷ []) ++ nothings (count - (place + 1)) ≡ all
+pad_more count place xs all low h =
+    let one : count - place ≡ suc (count - (place + 1)) = omega (arith, low) in
+    append_assoc xs ([] ∷ []) (nothings (count - (place + 1))) ∙ ap (λ k. xs ++ nothings k) (sym one) ∙ h
+
+pub pad_all : (count place : ℕ) (xs all : List (List ExportRule)) → count ≤ place → xs ++ nothings (count - place) ≡ all → xs ≡ all
+pad_all count place xs all enough h =
+    let none : count - place ≡ 0 = omega (arith, enough) in
+    sym (ap (λ k. xs ++ nothings k) none ∙ append-nil xs) ∙ h
+
+pub padded_long : (xs : List (List ExportRule)) (count : ℕ) → count ≤ length (padded xs count)
+padded_long xs count = let e = length-append xs (nothings (count - length xs)) in let f = length_nothings (count - length xs) in omega (arith, e, f)

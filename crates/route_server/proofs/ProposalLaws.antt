@@ -22,7 +22,7 @@ use Rattle.route_server.specs.Edits.{prefixes_of}
 use Rattle.route_server.specs.Effects.{AreRowsOf}
 use Rattle.route_server.specs.Proposed.{Proposed, IsProposal}
 use Rattle.route_server.specs.Rows.{look, names_at}
-use Rattle.route_server.specs.Served.{Served, routing, one_after, route_after, Reaches}
+use Rattle.route_server.specs.Served.{Served, AreOwned, routing, one_after, route_after, Reaches}
 use Rattle.route_server.specs.declared.change.Change.{Change}
 
 same_prefix_is : (p q : Prefix) → same_prefix p q ≡ true → p ≡ q
@@ -82,6 +82,12 @@ same_routes names v w p rules named same = no_other names v w p named (λ to fro
 pub rules_are : {A B : Type 0} (f : A → B) (o : Option A) (q : Option B) (d : B) → option_map f o ≡ q → option_map_or f o d ≡ unwrap_or q d
 rules_are f None q d e = ap (λ x. unwrap_or x d) e
 rules_are f (Some x) q d e = ap (λ y. unwrap_or y d) e
+
+-- what a commit does keeps next hops owned
+pub stays_owned : (p : Proposed) (old now : FinMap route_cmp Attrs) → ((m : FinMap route_cmp Attrs) → Reaches p.changes old m → now ≡ m)
+    → (r s : Routing) → r.routes ≡ old → IsProposal r s p → AreOwned r → AreOwned (record s { routes = now })
+stays_owned p old now h r s same k owned =
+    subst (λ m. AreOwned (record s { routes = m })) (sym (h s.routes (subst (λ m. Reaches p.changes m s.routes) same k.routes))) (k.owned owned)
 
 -- what a commit does leads to what was proposed
 pub reached_by : (p : Proposed) (old now : FinMap route_cmp Attrs) (rules after : List (List ExportRule)) (named : List (List Pid)) → ((m : FinMap route_cmp Attrs) → Reaches p.changes old m → now ≡ m) → after ≡ unwrap_or p.rules rules

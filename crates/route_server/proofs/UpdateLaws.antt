@@ -1,6 +1,7 @@
 -- The rows that an update's changes have are those of the routes after it.
 use Rattle.std.proofs.Common.{◌≡◌, ℕ, ◌+◌, ◌<◌, ◌≤◌, Bool, true, false, cond, eqb, List, [], ◌∷◌, ◌++◌, take, length, get_or, sum_by, sym, ap, subst, ◌∙◌, refl, arith, append_assoc, inl, inr, true≢false}
 use Rattle.std.specs.Prelude.{Option, Some, None, IfSome, IfOk, Result, Ok, Err, ◌⊎◌}
+use Rattle.std.specs.Option.{option_and_then}
 use Rattle.std.specs.FinMap.{FinMap, get, insert, remove, get-insert, get-remove}
 use Rattle.std.specs.List.Sorted.{IsPermutation, IsSortedBy}
 use Rattle.std.specs.Ordering.{eq_by_cmp, is_lt}
@@ -25,11 +26,13 @@ use Rattle.net_types.specs.declared.prefix.Prefix.{Prefix}
 use Rattle.net_types.specs.declared.route.Attrs.{Attrs}
 use Rattle.net_types.specs.declared.update.Update.{Update}
 use Rattle.registry.specs.Registered.{Registered}
+use Rattle.route_server.specs.Admission.{attrs_refusal, begins_with_own, refusal}
 use Rattle.route_server.specs.Edits.{IsEdit, prefixes_of}
-use Rattle.route_server.specs.Effects.{AreRowsOf}
+use Rattle.route_server.specs.Effects.{AreRowsOf, routing_after}
 use Rattle.route_server.specs.Rows.{look}
-use Rattle.route_server.specs.Served.{AreDeclared}
+use Rattle.route_server.specs.Served.{Served, AreDeclared, AreOwned, owns, routing}
 use Rattle.route_server.specs.declared.change.Change.{Change}
+use Rattle.route_server.specs.declared.fault.RouteFault.TheVariants.{FirstAs, NextHop}
 
 -- ---- one change more
 
@@ -189,6 +192,47 @@ updated_declared names from u m within before = record { declared = λ k. by k (
     by : (k : RouteKey) (b : Bool) → eqb from.0 k.from.0 ≡ b → IfSome (get (updated from u m) k) (λ _. k.from.0 < length names.participants)
     by k true e = anyway (get (updated from u m) k) k (subst (λ n. n < length names.participants) (eqb-true from.0 k.from.0 e) within)
     by k false e = subst (λ o. IfSome o (λ _. k.from.0 < length names.participants)) (sym (updated_other from k u m e)) (before.declared k)
+
+-- ---- what is true of each route
+
+module _ (fits : RouteKey → Attrs → Type 0) (from : Pid) where
+  gone_fit : (ps : List Prefix) (m : FinMap route_cmp Attrs) → ((k : RouteKey) → IfSome (get m k) (fits k)) → (k : RouteKey) → IfSome (get (withdrawn from ps m) k) (fits k)
+  gone_fit [] m h = h
+  gone_fit (p ∷ ps) m h = gone_fit ps (remove m (key from p)) (λ k. subst (λ o. IfSome o (fits k)) (sym (get-remove routes_total m (key from p) k)) (by k (eq_by_cmp route_cmp k (key from p))))
+    where
+      by : (k : RouteKey) (b : Bool) → IfSome (cond b None (get m k)) (fits k)
+      by k true = tt
+      by k false = h k
+
+  module _ (attrs : Attrs) (own : (p : Prefix) → fits (key from p) attrs) where
+    here_fit : (ps : List Prefix) (m : FinMap route_cmp Attrs) → ((k : RouteKey) → IfSome (get m k) (fits k)) → (k : RouteKey) → IfSome (get (announced_by from attrs ps m) k) (fits k)
+    here_fit [] m h = h
+    here_fit (p ∷ ps) m h = here_fit ps (insert m (key from p) attrs) (λ k. subst (λ o. IfSome o (fits k)) (sym (get-insert routes_total m (key from p) attrs k)) (by k (eq_by_cmp route_cmp k (key from p)) refl))
+      where
+        by : (k : RouteKey) (b : Bool) → eq_by_cmp route_cmp k (key from p) ≡ b → IfSome (cond b (Some attrs) (get m k)) (fits k)
+        by k true e = subst (λ q. fits q attrs) (sym (exact_route k (key from p) e)) (own p)
+        by k false e = h k
+
+  with_fit : (o : Option Attrs) (ps : List Prefix) (m : FinMap route_cmp Attrs) → ((a : Attrs) → o ≡ Some a → (p : Prefix) → fits (key from p) a) → ((k : RouteKey) → IfSome (get m k) (fits k)) → (k : RouteKey) → IfSome (get (announced_with from o ps m) k) (fits k)
+  with_fit None ps m own h = h
+  with_fit (Some a) ps m own h = here_fit a (own a refl) ps m h
+
+-- next hops stay owned after an update that is taken
+pub updated_owned : (names : Registered) (from : Pid) (u : Update) (v : Served) → from.0 < length names.participants → refusal names from u ≡ None → AreOwned (routing names v) → AreOwned (routing_after names v.rules v.named (updated from u v.routes))
+updated_owned names from u v within taken are = record {
+  owned = with_fit fits from u.attrs u.announced (withdrawn from u.withdrawn v.routes) (λ a e p. (within, own a (ap (option_and_then (attrs_refusal names from)) (sym e) ∙ taken))) (gone_fit fits from u.withdrawn v.routes are.owned);
+}
+  where
+    fits : RouteKey → Attrs → Type 0
+    fits k a = (k.from.0 < length names.participants) × (owns (routing names v) k.from a.next_hop ≡ true)
+
+    own : (a : Attrs) → attrs_refusal names from a ≡ None → owns (routing names v) from a.next_hop ≡ true
+    own a e = by (begins_with_own names from a) (owns (routing names v) from a.next_hop) e
+      where
+        by : (b c : Bool) → cond b (cond c None (Some NextHop)) (Some FirstAs) ≡ None → c ≡ true
+        by true true e = refl
+        by true false e = absurd (cc)
+        by false c e = absurd (cc)
 
 -- ---- the prefixes rise
 

@@ -8,7 +8,7 @@ use Rattle.net_types.specs.declared.export.ExportRule.{ExportRule}
 use Rattle.net_types.specs.declared.prefix.Prefix.{Prefix}
 use Rattle.net_types.specs.declared.route.Attrs.{Attrs}
 use Rattle.net_types.specs.declared.route.Part.{Part}
-use Rattle.route_server.specs.Served.{Reaches}
+use Rattle.route_server.specs.Served.{AreOwned, Reaches}
 use Rattle.route_server.specs.declared.change.Change.{Change}
 
 -- the rows that prefixes get, the rules where they become others, and the touched prefixes, each with its signature and
@@ -29,3 +29,5 @@ pub record IsProposal (r s : Routing) (p : Proposed) : Type 0 where
   pub routes : Reaches p.changes r.routes s.routes
   pub rules : unwrap_or p.rules r.rules ≡ s.rules
   pub named : r.named ≡ s.named
+  -- where every route's participant owns the port of its next hop, this stays so
+  pub owned : AreOwned r → AreOwned s

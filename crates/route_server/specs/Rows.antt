@@ -1,5 +1,5 @@
 -- The routes for one prefix, and which of them are given to a participant.
-use Rattle.std.specs.Prelude.{ℕ, ◌+◌, ◌<◌, ◌≤◌, nat_eq, nat_lt, List, [], ◌∷◌, map, filter, not, slice_get, unwrap_or, Option, Some, None, if◌then◌else◌}
+use Rattle.std.specs.Prelude.{ℕ, zero, suc, ◌+◌, ◌-◌, ◌<◌, ◌≤◌, length, slice_set, ◌++◌, nat_eq, nat_lt, List, [], ◌∷◌, map, filter, not, slice_get, unwrap_or, Option, Some, None, if◌then◌else◌}
 use Rattle.std.specs.Coded.{Unit-prop, le_prop}
 use Rattle.std.specs.List.{filter_map}
 use Rattle.std.specs.Option.{option_map}
@@ -91,6 +91,19 @@ after from row = filter (λ (h : Held). nat_lt from h.from.0) row
 -- whom a participant names, by the lists of all
 abbrev pub names_at : List (List Pid) → ℕ → List Pid
 names_at named n = unwrap_or (slice_get named n) []
+
+-- as many lists without rules
+abbrev pub nothings : ℕ → List (List ExportRule)
+nothings zero = []
+nothings (suc n) = [] ∷ nothings n
+
+-- the rules of so many participants at least; those that have none yet have no rules
+abbrev pub padded : List (List ExportRule) → ℕ → List (List ExportRule)
+padded rules count = rules ++ nothings (count - length rules)
+
+-- the rules with a participant's own in place of its earlier ones
+abbrev pub rules_with : List (List ExportRule) → Pid → List ExportRule → List (List ExportRule)
+rules_with rules from own = slice_set (padded rules (from.0 + 1)) from.0 own
 
 -- the rules at a place
 abbrev pub rules_at : List (List ExportRule) → ℕ → List ExportRule

@@ -1,5 +1,5 @@
 -- What a route server holds.
-use Rattle.std.specs.Prelude.{◌≡◌, ◌<◌, length, ℕ, true, is_some, List, [], ◌∷◌, map, flat_map, Option, Some, IfSome, if◌then◌else◌}
+use Rattle.std.specs.Prelude.{◌≡◌, ◌<◌, length, ℕ, Bool, true, is_some, List, [], ◌∷◌, map, flat_map, Option, Some, IfSome, if◌then◌else◌}
 use Rattle.std.specs.Option.{option_and_then}
 use Rattle.std.specs.FinMap.{FinMap, get, entries}
 use Rattle.net_types.specs.Keys.{RouteKey, prefix_cmp, route_cmp}
@@ -8,11 +8,12 @@ use Rattle.net_types.specs.Changes.{best_attrs}
 use Rattle.net_types.specs.Exports.{Routing, same_prefix}
 use Rattle.net_types.specs.Sets.{IsRising, Member}
 use Rattle.net_types.specs.UpdateSpelling.{is_before}
+use Rattle.net_types.specs.declared.address.Ip.{Ip}
 use Rattle.net_types.specs.declared.address.Pid.{Pid}
 use Rattle.net_types.specs.declared.prefix.Prefix.{Prefix}
 use Rattle.net_types.specs.declared.route.Attrs.{Attrs}
 use Rattle.net_types.specs.declared.export.ExportRule.{ExportRule}
-use Rattle.registry.specs.Registered.{Registered}
+use Rattle.registry.specs.Registered.{Registered, has_address}
 use Rattle.route_server.specs.Rows.{look, Rising}
 use Rattle.route_server.specs.declared.change.Change.{Change}
 use Rattle.route_server.specs.declared.held.Held.{Held}
@@ -60,6 +61,14 @@ pub record Reaches (cs : List Change) (before after : FinMap route_cmp Attrs) : 
 -- each route is that of a declared participant
 pub record AreDeclared (names : Registered) (routes : FinMap route_cmp Attrs) : Type 0 where
   pub declared : (k : RouteKey) → IfSome (get routes k) (λ _. k.from.0 < length names.participants)
+
+-- one of a participant's ports has an address
+abbrev pub owns : Routing → Pid → Ip → Bool
+owns r who ip = has_address (record { participants = r.participants; ports = r.ports }) who ip
+
+-- each route is that of a declared participant, which owns the port of its next hop
+pub record AreOwned (r : Routing) : Type 0 where
+  pub owned : (k : RouteKey) → IfSome (get r.routes k) (λ a. (k.from.0 < length r.participants) × (owns r k.from a.next_hop ≡ true))
 
 -- the prefixes of all routes, ascending
 pub record AreAll (routes : FinMap route_cmp Attrs) (ps : List Prefix) : Type 0 where

@@ -1,11 +1,11 @@
 //! What other export rules of a participant do.
 
-ghost use Rattle.std.specs.Prelude.{◌≡◌, ◌<◌, Some, length, slice_set, IfOk};
+ghost use Rattle.std.specs.Prelude.{◌≡◌, ◌<◌, ◌≤◌, Some, length, slice_set, IfOk};
 ghost use Rattle.net_types.specs.Sets.{Member};
 ghost use Rattle.route_server.specs.Edits.{IsKept, prefixes_of};
 ghost use Rattle.route_server.specs.Effects.{routing_after};
 ghost use Rattle.route_server.specs.Proposed.{IsProposal};
-ghost use Rattle.route_server.specs.Rows.{look, Rising};
+ghost use Rattle.route_server.specs.Rows.{padded, rules_with};
 ghost use Rattle.route_server.specs.Served.{routing, AreDeclared};
 ghost use Rattle.route_server.specs.declared.change.Change.{Change};
 
@@ -14,6 +14,7 @@ use crate::down::prefixes_from;
 use crate::held::Held;
 use crate::proposal::Proposal;
 use crate::server::RouteServer;
+use export_rules::Bound;
 use net_types::{ExportRules, Items, Memory, Pid, Prefix, TryCopy};
 use registry::Registry;
 use std::alloc::Global;
@@ -30,6 +31,20 @@ fn copied(alloc: Global, rules: &[ExportRules]) -> Result<Vec<ExportRules>, Memo
     Ok(twins)
 }
 
+/// A copy of all rules, with lists for so many participants at least.
+fn padded(alloc: Global, rules: &[ExportRules], count: usize) -> Result<Vec<ExportRules>, Memory>
+    ensures padded { IfOk result (λ after. after.items ≡ padded rules.now count) }
+    ensures long { IfOk result (λ after. count ≤ length after.items) }
+{
+    let mut after = copied(alloc, rules)?;
+    let mut place = rules.len();
+    while place < count {
+        after.push(Items::new(alloc))?;
+        place += 1;
+    }
+    Ok(after)
+}
+
 /// The rules with a participant's own in place of its earlier ones.
 fn with_rules(
     alloc: Global,
@@ -37,11 +52,10 @@ fn with_rules(
     from: Pid,
     own: ExportRules,
 ) -> Result<Vec<ExportRules>, Memory>
-    requires { from.0 < length rules.now }
-    ensures { IfOk result (λ after. after.items ≡ slice_set rules.now from.0 own) }
+    ensures { IfOk result (λ after. after.items ≡ rules_with rules.now from own) }
 {
-    let mut after = copied(alloc, rules)?;
     let place = from.0 as usize;
+    let mut after = padded(alloc, rules, place + 1)?;
     after[place] = own;
     Ok(after)
 }
@@ -80,23 +94,22 @@ fn all_kept(server: &RouteServer, prefixes: &[Prefix]) -> Result<Vec<Change>, Me
 }
 
 impl RouteServer {
-    /// What it does that a participant has these export rules, in place of its earlier ones. The server keeps a list of
-    /// rules for the participant already.
+    /// What it does that a participant has these export rules, in place of its earlier ones.
     pub fn propose_rules(
         &self,
         names: &Registry,
         from: Pid,
-        rules: ExportRules,
+        rules: Bound,
     ) -> Result<Proposal, Memory>
-        requires listed { from.0 < length self.now.rules }
-        requires declared { AreDeclared names.now self.now.routes }
-        ensures rules { IfOk result (λ p. p.rules ≡ Some (slice_set self.now.rules from.0 rules)) }
-        ensures proposal { IfOk result (λ p. IsProposal (routing names.now self.now) (routing_after names.now (slice_set self.now.rules from.0 rules) self.now.named self.now.routes) p) }
+        requires { AreDeclared names.now self.now.routes }
+        ensures rules { IfOk result (λ p. p.rules ≡ Some (rules_with self.now.rules from rules)) }
+        ensures listed { IfOk result (λ _. from.0 < length self.now.rules → rules_with self.now.rules from rules ≡ slice_set self.now.rules from.0 rules) }
+        ensures proposal { IfOk result (λ p. IsProposal (routing names.now self.now) (routing_after names.now (rules_with self.now.rules from rules) self.now.named self.now.routes) p) }
     {
         let prefixes = prefixes_from(self, from)?;
         let changes = all_kept(self, prefixes.as_slice())?;
         let before = self.rules();
-        let after = with_rules(self.allocator(), before, from, rules)?;
+        let after = with_rules(self.allocator(), before, from, rules.into_rules())?;
         let proposal = Proposal::of(self, names, changes, Some(after))?;
         Ok(proposal)
     }

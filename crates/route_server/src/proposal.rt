@@ -12,7 +12,7 @@ ghost use Rattle.net_types.specs.declared.route.Attrs.{Attrs};
 ghost use Rattle.route_server.specs.Edits.{prefixes_of};
 ghost use Rattle.route_server.specs.Effects.{AreRowsOf, routing_after};
 ghost use Rattle.route_server.specs.Proposed.{Proposed, IsProposal};
-ghost use Rattle.route_server.specs.Served.{routing, AreDeclared};
+ghost use Rattle.route_server.specs.Served.{routing, AreDeclared, AreOwned};
 ghost use Rattle.route_server.specs.declared.effect.Effect.{Effect};
 
 use crate::change::Change;
@@ -96,7 +96,7 @@ impl Proposal {
         ensures rules { IfOk result (λ p. p.rules ≡ option_map (λ r. r.items) rules) }
         ensures effects { IfOk result (λ p. (m : FinMap route_cmp Attrs) → let after = routing_after names.now (option_map_or (λ r. r.items) rules server.now.rules) server.now.named m in AreDeclared names.now m → AreRowsOf changes.items m → IsRising is_before (prefixes_of changes.items)
             → ((q : RouteKey) → (Member q.prefix (prefixes_of changes.items) → ⊥) → get m q ≡ get server.now.routes q)
-            → ((q : Prefix) → (Member q (prefixes_of changes.items) → ⊥) → Differs (routing names.now server.now) after q → ⊥) → IsProposal (routing names.now server.now) after p) }
+            → ((q : Prefix) → (Member q (prefixes_of changes.items) → ⊥) → Differs (routing names.now server.now) after q → ⊥) → (AreOwned (routing names.now server.now) → AreOwned after) → IsProposal (routing names.now server.now) after p) }
     {
         let after = rules_after(server, &rules);
         let effects = effects_of(server, names, after, changes.as_slice())?;

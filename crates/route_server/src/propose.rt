@@ -11,7 +11,7 @@ ghost use Rattle.net_types.specs.declared.route.Attrs.{Attrs};
 ghost use Rattle.route_server.specs.Admission.{refusal};
 ghost use Rattle.route_server.specs.Effects.{routing_after};
 ghost use Rattle.route_server.specs.Proposed.{IsProposal};
-ghost use Rattle.route_server.specs.Served.{routing, AreDeclared, Reaches};
+ghost use Rattle.route_server.specs.Served.{routing, AreDeclared, AreOwned, Reaches};
 
 use crate::admission::refusal;
 use crate::fault::RouteFault;
@@ -32,6 +32,7 @@ fn proposed_update(
     requires sound { IsSoundUpdate update.now }
     requires short { IfSome update.now.attrs (λ a. sum_by hops_of a.path < 2 ^ 32) }
     requires declared { AreDeclared names.now server.now.routes }
+    requires taken { refusal names.now from update.now ≡ None }
     ensures rules { IfOk result (λ p. p.rules ≡ None) }
     ensures proposal { IfOk result (λ p. IsProposal (routing names.now server.now) (routing_after names.now server.now.rules server.now.named (updated from update.now server.now.routes)) p) }
 {
@@ -86,6 +87,8 @@ impl RouteServer {
         ensures routes { (m : FinMap route_cmp Attrs) → Reaches proposal.changes self.old.routes m → self.new.routes ≡ m }
         ensures rules { self.new.rules ≡ unwrap_or proposal.rules self.old.rules }
         ensures named { self.new.named ≡ self.old.named }
+        // Every route's participant owns the port of its next hop where it was so when the proposal was made.
+        ensures owned { (r s : Routing) → r.routes ≡ self.old.routes → IsProposal r s proposal → AreOwned r → AreOwned (record s { routes = self.new.routes }) }
         // After a proposal for the routes and rules as they are, these are those that were proposed.
         ensures reached { (r s : Routing) → r.routes ≡ self.old.routes → r.rules ≡ self.old.rules → r.named ≡ self.old.named → IsProposal r s proposal → (self.new.routes ≡ s.routes) × (self.new.rules ≡ s.rules) × (self.new.named ≡ s.named) }
     {

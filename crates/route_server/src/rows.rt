@@ -1,6 +1,6 @@
 //! The routes for one prefix: which are given to a participant, and which of these is its best.
 
-ghost use Rattle.std.specs.Prelude.{◌≡◌, ◌≤◌, ◌<◌, length, nat_eq, IfSome, [], List, List};
+ghost use Rattle.std.specs.Prelude.{◌≡◌, ◌≤◌, ◌<◌, length, nat_eq, IfSome, []};
 ghost use Rattle.std.specs.List.{list_any};
 ghost use Rattle.std.specs.Option.{option_and_then, option_map, option_copied};
 ghost use Rattle.net_types.specs.Exports.{asns, is_in_path, is_given, asn_of};

@@ -7,7 +7,8 @@ ghost use Rattle.route_server.specs.Served.{AreDeclared};
 use super::said::{Route, Said, prefix, update};
 use super::told::{bests, fault, prefixes, proposed, push_signature};
 use crate::RouteServer;
-use net_types::{ExportRule, ExportRules, Ip, Items, Mac, Memory, Pid, PortNo, Which};
+use export_rules::{Bound, parse_rules};
+use net_types::{Ip, Mac, Memory, Pid, PortNo};
 use registry::{RegFault, Registry};
 use std::alloc::Global;
 use std::test::Fail;
@@ -198,21 +199,21 @@ pub fn down(alloc: Global, of_b: Route) -> Result<String, Fail> {
 }
 
 /// Rules that give nothing to anybody.
-fn nothing(alloc: Global) -> Result<ExportRules, Memory> {
-    let mut rules = Items::new(alloc);
-    rules.push(ExportRule {
-        allow: false,
-        who: None,
-        which: Which::Every,
-    })?;
-    Ok(rules)
+fn nothing(alloc: Global, names: &Registry) -> Result<Bound, Fail> {
+    let Ok(rules) = parse_rules(alloc, "deny * *") else {
+        return Err(Fail::new("the rules are refused"));
+    };
+    match rules.bind(names) {
+        Ok(bound) => Ok(bound),
+        Err(_) => Err(Fail::new("a name is not declared")),
+    }
 }
 
 fn closed_in(alloc: Global, names: &Registry, of_b: Route) -> Result<String, Fail>
     requires { length names.now.participants ≡ 3 }
 {
     let server = server_after(alloc, names, Who::B, Said::Here(of_b, 10))?;
-    let proposal = server.propose_rules(names, Pid(1), nothing(alloc)?)?;
+    let proposal = server.propose_rules(names, Pid(1), nothing(alloc, names)?)?;
     Ok(proposed(alloc, &proposal)?)
 }
 

@@ -14,9 +14,9 @@ use crate::line_order::is_declared;
 use crate::replies::{changes_reply, refused};
 use bgp_update::{UpdateFault, decode};
 use events::{Phase, Refusal, Reply};
-use export_rules::{BindFault, RulesFault, parse_rules};
+use export_rules::{BindFault, Bound, RulesFault, parse_rules};
 use fast_path::{FastFault, commit, plan, plans_are_committed, reserve};
-use net_types::{Bytes, ExportRules, Memory, Name, Pid, Text};
+use net_types::{Bytes, Memory, Name, Pid, Text};
 use route_server::{Proposal, RouteFault};
 
 impl Sdx {
@@ -112,7 +112,7 @@ impl Sdx {
     }
 
     /// The rules of a text among the declared participants, or why the text is refused.
-    fn bound_rules(&self, text: &Text) -> Result<Result<ExportRules, Refusal>, Memory>
+    fn bound_rules(&self, text: &Text) -> Result<Result<Bound, Refusal>, Memory>
         requires { IsTrue (is_utf8 text.now) }
         ensures { IfOk result (λ rules. rules ≡ rules_or_refusal self.now.routing text.now) }
     {
@@ -126,7 +126,7 @@ impl Sdx {
             Err(RulesFault::Memory) => return Err(Memory),
         };
         match named.bind(&self.registry) {
-            Ok(bound) => Ok(Ok(bound.into_rules())),
+            Ok(bound) => Ok(Ok(bound)),
             Err(BindFault::UnknownName) => Ok(Err(Refusal::Unknown)),
             Err(BindFault::Memory) => Err(Memory),
         }

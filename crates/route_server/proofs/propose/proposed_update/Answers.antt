@@ -1,6 +1,6 @@
 use Rattle.std.proofs.Common.{refl}
 use Rattle.net_types.specs.Changes.{updated}
-use Rattle.route_server.proofs.UpdateLaws.{updated_out, updated_declared}
+use Rattle.route_server.proofs.UpdateLaws.{updated_owned, updated_out, updated_declared}
 use Rattle.route_server.proofs.ProposalLaws.{same_routes}
 use Rattle.route_server.proofs.propose.proposed_update.Goals as goal
 
@@ -11,3 +11,4 @@ returns-clause-proposal c =
     (λ q away. updated_out c.args.from q c.args.update.now c.args.server.now.routes (λ k. away (c.in_ok-changes.ensures.all q.prefix k)))
     (λ q away. same_routes c.args.names.now c.args.server.now (record { routes = m; rules = c.args.server.now.rules; named = c.args.server.now.named; room = 0 }) q refl refl
     (λ f. updated_out c.args.from (record { from = f; prefix = q }) c.args.update.now c.args.server.now.routes (λ k. away (c.in_ok-changes.ensures.all q k))))
+    (updated_owned c.args.names.now c.args.from c.args.update.now c.args.server.now c.requires.known c.requires.taken)

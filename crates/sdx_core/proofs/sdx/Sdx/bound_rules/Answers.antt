@@ -1,9 +1,8 @@
-use Rattle.std.proofs.Common.{◌≡◌, ◌≤◌, sym, ap, subst, ◌∙◌, length, List}
+use Rattle.std.proofs.Common.{◌≡◌, ◌≤◌, sym, ap, subst, ◌∙◌, length}
 use Rattle.std.specs.Prelude.{None, Ok, Some}
-use Rattle.net_types.specs.declared.export.ExportRule.{ExportRule}
 use Rattle.events.specs.State.{State}
 use Rattle.net_types.specs.ExportReading.{rules_of_text}
-use Rattle.sdx_core.specs.Changing.{bound_or, rules_or_refusal}
+use Rattle.sdx_core.specs.Changing.{rules_or_refusal}
 use Rattle.sdx_core.specs.View.{state_of}
 use Rattle.std.specs.Prelude.{IsUtf8}
 use Rattle.sdx_core.proofs.Utf8.{passed_is_utf8}
@@ -20,8 +19,7 @@ returns-in-Ok-bind c =
     let same : c.in-Ok.text.now ≡ c.args.text.now = c.in-Ok.ensures.cases.0 ∙ c.items.ensures in
     let fits : length c.args.text.now ≤ 8192 = subst (λ octets. length octets ≤ 8192) same c.in-Ok-parse_rules.ensures.ok.0 in
     let read : rules_of_text c.args.text.now ≡ Ok c.in-Ok-parse_rules.named = sym (ap rules_of_text same) ∙ c.in-Ok-parse_rules.ensures.value in
-    ap (λ (rules : List ExportRule). bound_or (Some rules)) c.into_rules.ensures
-    ∙ sym (rules_bound s.routing c.args.text.now c.in-Ok-parse_rules.named (Some c.in-Ok-bind.bound) fits read c.in-Ok-bind.ensures.ok)
+    sym (rules_bound s.routing c.args.text.now c.in-Ok-parse_rules.named (Some c.in-Ok-bind.bound) fits read c.in-Ok-bind.ensures.ok)
     ∙ ap (λ (x : State). rules_or_refusal x.routing c.args.text.now) c.self.view_is
 
 pub returns-in-Err-UnknownName : goal.returns-in-Err-UnknownName
