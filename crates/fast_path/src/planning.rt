@@ -11,14 +11,14 @@ ghost use Rattle.match_switch.specs.Installed.{rule_count};
 ghost use Rattle.next_hop_pool.specs.Free.{free_tags};
 ghost use Rattle.fast_path.specs.declared.forward.Fresh.{Fresh};
 
+use crate::emptied::emptied;
+use crate::forward::Fresh;
 use crate::grouping::groups;
+use crate::pairs::{gone_pairs, new_flows, untold};
 use crate::planned::{FastFault, Plan};
 use crate::tagging::{fresh_tags, tag_changes};
 use advert_queue::Told;
 use events::{Flow, Flows, TagChanges};
-use crate::emptied::emptied;
-use crate::forward::Fresh;
-use crate::pairs::{gone_pairs, new_flows, untold};
 use match_switch::Switch;
 use net_types::{Items, Memory, Pair, Pairs, Rule, Sig, Tag, TryCopy};
 use next_hop_pool::Pool;
