@@ -20,7 +20,6 @@ mod tests;
 pub use ascending::ascending_pairs;
 pub use carried::plans_are_committed;
 pub use committing::{commit, reserve};
-pub use emptied::emptied;
 pub use forward::{Forward, Fresh};
 pub use pair_laws::{
     changes_are_planned, dead_tags_are_live_only, emptied_tags_are_those, gone_pairs_are_live_only,
