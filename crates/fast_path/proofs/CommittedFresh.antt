@@ -29,7 +29,7 @@ use Rattle.net_types.specs.declared.route.Part.{Part}
 use Rattle.fast_path.proofs.CommittedMaps.{get_front, get_taken, take-IsRising}
 use Rattle.fast_path.specs.Committing.{Kept, kept_of, tags_of}
 use Rattle.fast_path.specs.Planned.{group_kept, is_tag_below}
-use Rattle.live_pairs.specs.LiveOnly.{group_signatures, group_tags}
+use Rattle.fast_path.specs.LiveOnly.{group_signatures, group_tags}
 
 -- ---- tags with signatures
 

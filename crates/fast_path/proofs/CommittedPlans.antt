@@ -30,7 +30,7 @@ use Rattle.prefix_classes.specs.Classes.{Classes}
 use Rattle.fast_path.specs.Committing.{Block, AreFree, AreTaken, AreUnkept, AreUnused, CanCommit, HaveKept, HaveOneRule, kept_with, kept_without, marked_all, tags_of, tags_with, with_blocks}
 use Rattle.next_hop_pool.specs.Free.{Tags}
 use Rattle.match_switch.specs.Installed.{Installed}
-use Rattle.live_pairs.specs.LiveOnly.{group_tags}
+use Rattle.fast_path.specs.LiveOnly.{group_tags}
 use Rattle.fast_path.specs.declared.planned.Plan.{Plan}
 use Rattle.fast_path.specs.Planned.{IsPoolOf, blocks_of, group_kept}
 use Rattle.fast_path.specs.Plans.{IsPlan}

@@ -18,7 +18,7 @@ use Rattle.fast_path.proofs.CommittedMaps.{filter_alike}
 use Rattle.fast_path.specs.Committing.{AreFree, AreTaken, marked_all}
 use Rattle.next_hop_pool.specs.Free.{IsTag, Tags, free_tags, is_taken, marked, tag}
 use Rattle.fast_path.specs.Planned.{IsPoolOf, is_tag_below}
-use Rattle.live_pairs.specs.LiveOnly.{AreDead, group_tags}
+use Rattle.fast_path.specs.LiveOnly.{AreDead, group_tags}
 
 -- ---- marks
 

@@ -18,7 +18,7 @@ use Rattle.fast_path.proofs.CommittedFresh.{each_kept, fresh_with_signature, liv
 use Rattle.fast_path.proofs.CommittedMaps.{get_with_all, get_without_others, get_without_those, with_all, without_all}
 use Rattle.fast_path.specs.Committing.{Kept, kept_with, kept_without}
 use Rattle.fast_path.specs.Planned.{group_kept}
-use Rattle.live_pairs.specs.LiveOnly.{AreDead}
+use Rattle.fast_path.specs.LiveOnly.{AreDead}
 
 -- the signatures that are kept
 abbrev KeptOf : Type 0

@@ -24,7 +24,7 @@ use Rattle.prefix_classes.proofs.MemberLemmas.{no_members}
 use Rattle.fast_path.specs.Committing.{AreUnkept, AreUnused, HaveKept, kept_of, kept_with, tags_with}
 use Rattle.prefix_classes.specs.Classes.{members}
 use Rattle.fast_path.specs.Planned.{group_kept, is_tag_below}
-use Rattle.live_pairs.specs.LiveOnly.{AreDead, group_signatures, group_tags}
+use Rattle.fast_path.specs.LiveOnly.{AreDead, group_signatures, group_tags}
 
 -- tags that rise, of which none is kept, are none that is kept when their turn comes
 unkept_in_turn : (m : FinMap tag_cmp (List Part)) (ts : List Tag) (sigs : List (List Part)) → IsRising is_tag_below ts → ((t : Tag) → Member t ts → get m t ≡ None) → AreUnkept m (kept_of ts sigs)

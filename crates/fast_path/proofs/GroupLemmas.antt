@@ -13,7 +13,7 @@ use Rattle.net_types.specs.declared.prefix.Prefix.{Prefix}
 use Rattle.net_types.specs.declared.route.Part.{Part}
 use Rattle.fast_path.specs.Committing.{Kept, kept_of}
 use Rattle.fast_path.specs.Grouping.{Known, group_at, group_before, group_of_class, groups_of, is_moved, more_groups, moved_groups, one_more, same_class, change_before, changes_of, tag_after}
-use Rattle.live_pairs.specs.declared.forward.Fresh.{Fresh}
+use Rattle.fast_path.specs.declared.forward.Fresh.{Fresh}
 
 -- the element at a place is the first of those from there on
 pub drop_at : {A : Type 0} (xs : List A) (n : ℕ) (x : A) → slice_get xs n ≡ Some x → drop n xs ≡ x ∷ drop (n + 1) xs

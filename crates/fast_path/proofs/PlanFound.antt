@@ -27,15 +27,15 @@ use Rattle.exchange_laws.specs.Listed.{AreLiveOnly}
 use Rattle.exchange_laws.specs.Rules.{IsChange, default_rules, with_default_rules}
 use Rattle.exchange_laws.specs.Touched.{IsTouching}
 use Rattle.exchange_laws.proofs.OneRuleEach.{steady_have_one_each}
-use Rattle.live_pairs.specs.Emptied.{emptied, is_left, old_tags}
-use Rattle.live_pairs.specs.LiveOnly.{AreDead, AreEmptied, group_signatures, group_tags, registered}
-use Rattle.live_pairs.specs.Pairs.{flow_of, gone_pairs, new_flows, rule_by, untold}
-use Rattle.live_pairs.specs.declared.forward.Forward.{Forward}
-use Rattle.live_pairs.specs.declared.forward.Fresh.{Fresh}
-use Rattle.live_pairs.proofs.DeadTags.{untold_are_dead}
-use Rattle.live_pairs.proofs.EmptiedTags.{emptied_are_those}
-use Rattle.live_pairs.proofs.GonePairs.{gone_pairs_are_those}
-use Rattle.live_pairs.proofs.NewPairs.{listed, new_flow_rules, new_live_only}
+use Rattle.fast_path.specs.Emptied.{emptied, is_left, old_tags}
+use Rattle.fast_path.specs.LiveOnly.{AreDead, AreEmptied, group_signatures, group_tags, registered}
+use Rattle.fast_path.specs.Pairs.{flow_of, gone_pairs, new_flows, rule_by, untold}
+use Rattle.fast_path.specs.declared.forward.Forward.{Forward}
+use Rattle.fast_path.specs.declared.forward.Fresh.{Fresh}
+use Rattle.fast_path.proofs.DeadTags.{untold_are_dead}
+use Rattle.fast_path.proofs.EmptiedTags.{emptied_are_those}
+use Rattle.fast_path.proofs.GonePairs.{gone_pairs_are_those}
+use Rattle.fast_path.proofs.NewPairs.{listed, new_flow_rules, new_live_only}
 use Rattle.match_switch.specs.Installed.{Installed}
 use Rattle.match_switch.specs.Installed as installed
 use Rattle.next_hop_pool.specs.Free.{Tags, free_tags}

@@ -12,7 +12,7 @@ use Rattle.net_types.specs.declared.route.Part.{Part}
 use Rattle.events.specs.Tags.{Group, same_group, same_tag}
 use Rattle.events.specs.declared.TagChange.{TagChange}
 use Rattle.prefix_classes.specs.Classes.{Classes}
-use Rattle.live_pairs.specs.declared.forward.Fresh.{Fresh}
+use Rattle.fast_path.specs.declared.forward.Fresh.{Fresh}
 
 -- what the groups are made of: the tag of each prefix, and the signature of each tag
 pub record Known : Type 0 where

@@ -1,3 +1,7 @@
+pub mod Pairs
+pub mod LiveOnly
+pub mod Emptied
+pub mod PlannedChanges
 pub mod Grouping
 pub mod Shown
 pub mod Committing

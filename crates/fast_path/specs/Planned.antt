@@ -12,7 +12,7 @@ use Rattle.net_types.specs.Sets.{Member}
 use Rattle.net_types.specs.declared.address.Tag.{Tag}
 use Rattle.next_hop_pool.specs.Free.{Tags}
 use Rattle.next_hop_pool.specs.Free as pool
-use Rattle.live_pairs.specs.LiveOnly.{group_signatures, group_tags}
+use Rattle.fast_path.specs.LiveOnly.{group_signatures, group_tags}
 use Rattle.fast_path.specs.Committing.{Block, Kept, kept_of}
 
 -- the fresh tags with their signatures

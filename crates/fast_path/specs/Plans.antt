@@ -15,16 +15,16 @@ use Rattle.exchange_laws.specs.Rules.{IsDeclaredAlike, with_default_rules}
 use Rattle.exchange_laws.specs.Steady.{IsSteady}
 use Rattle.match_switch.specs.Installed.{Installed}
 use Rattle.next_hop_pool.specs.Free.{Tags, free_tags}
-use Rattle.live_pairs.specs.Emptied.{emptied}
-use Rattle.live_pairs.specs.Pairs.{gone_pairs, new_flows, untold}
-use Rattle.live_pairs.specs.declared.forward.Fresh.{Fresh}
+use Rattle.fast_path.specs.Emptied.{emptied}
+use Rattle.fast_path.specs.Pairs.{gone_pairs, new_flows, untold}
+use Rattle.fast_path.specs.declared.forward.Fresh.{Fresh}
 use Rattle.fast_path.specs.Committing.{kept_of}
 use Rattle.fast_path.specs.Grouping.{changes_of, known}
 use Rattle.prefix_classes.specs.Classes.{Classes}
 use Rattle.registry.specs.Registered.{Registered}
 use Rattle.route_server.specs.Proposed.{IsProposal, Proposed}
 use Rattle.exchange_laws.specs.Listed.{AreLiveOnly}
-use Rattle.live_pairs.specs.LiveOnly.{AreDead}
+use Rattle.fast_path.specs.LiveOnly.{AreDead}
 use Rattle.fast_path.specs.Planned.{AreNewFlows, blocks_of, group_kept, is_tag_below}
 use Rattle.fast_path.specs.Shown.{AreShown}
 use Rattle.fast_path.specs.declared.planned.FastFault.{FastFault}

@@ -7,7 +7,7 @@ ghost use Rattle.net_types.specs.Attributes.{same_option};
 ghost use Rattle.events.specs.Tags.{same_group, same_tag};
 ghost use Rattle.fast_path.specs.Grouping.{groups_of, is_kept_sig, is_moved, known, more_groups, moved_groups, one_more, same_class};
 
-use live_pairs::Fresh;
+use crate::forward::Fresh;
 use net_types::{Memory, Prefix, Sig, Tag, TryCopy, same_items};
 use prefix_classes::ClassMap;
 use route_server::Proposal;

@@ -4,9 +4,9 @@ ghost use Rattle.std.specs.Prelude.{◌≡◌, ◌≤◌, ◌++◌, [], length, 
 ghost use Rattle.next_hop_pool.specs.Free.{free_tags};
 ghost use Rattle.fast_path.specs.Grouping.{change_before, changes_of, known, tag_after};
 
+use crate::forward::Fresh;
 use crate::grouping::{group_place, is_kept, same_tags};
 use events::{TagChange, TagChanges};
-use live_pairs::Fresh;
 use net_types::{Items, Memory, Prefix, Sig, Tag};
 use next_hop_pool::Pool;
 use prefix_classes::ClassMap;

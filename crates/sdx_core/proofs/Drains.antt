@@ -30,8 +30,8 @@ use Rattle.fast_path.proofs.CommittedSignatures.{nothing}
 use Rattle.fast_path.proofs.TagOrder.{rising_tags, tag_tie}
 use Rattle.fast_path.specs.Committing.{AreTaken, kept_without, marked_all}
 use Rattle.fast_path.specs.Planned.{IsPoolOf, is_tag_below}
-use Rattle.live_pairs.specs.LiveOnly.{AreDead, registered}
-use Rattle.live_pairs.specs.Pairs.{is_told, untold}
+use Rattle.fast_path.specs.LiveOnly.{AreDead, registered}
+use Rattle.fast_path.specs.Pairs.{is_told, untold}
 use Rattle.net_types.proofs.OrderLemmas.{tags_total}
 use Rattle.net_types.proofs.RisingLemmas.{before, filter-IsRising}
 use Rattle.net_types.proofs.TieLemmas.{tag_cmp-IsAntisymmetric}

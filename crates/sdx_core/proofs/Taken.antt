@@ -18,9 +18,9 @@ use Rattle.exchange_laws.specs.Steady.{PortsDiffer}
 use Rattle.exchange_laws.specs.Telling.{told_anew}
 use Rattle.advert_queue.proofs.PendingLemmas.{told_among}
 use Rattle.advert_queue.specs.Telling.{tags_of}
-use Rattle.live_pairs.proofs.PortsAndTags.{IsPortOf, found_number, has_prefix_of, number_listed, port_listed, prefix_with, tie}
-use Rattle.live_pairs.specs.LiveOnly.{AreDead, has_prefix, registered}
-use Rattle.live_pairs.specs.Pairs.{is_told, pair_at, untold}
+use Rattle.fast_path.proofs.PortsAndTags.{IsPortOf, found_number, has_prefix_of, number_listed, port_listed, prefix_with, tie}
+use Rattle.fast_path.specs.LiveOnly.{AreDead, has_prefix, registered}
+use Rattle.fast_path.specs.Pairs.{is_told, pair_at, untold}
 use Rattle.net_types.proofs.OrderLemmas.{pairs_total, tags_total}
 use Rattle.net_types.proofs.RisingLemmas.{Member-filter, filter-Member}
 use Rattle.net_types.proofs.SetLemmas.{Member-map, Member-union, map-Member, union-Member}

@@ -10,8 +10,8 @@ use Rattle.events.specs.Pending.{pending}
 use Rattle.events.specs.State.{State, present, told_to}
 use Rattle.events.specs.declared.Entry.{Entry}
 use Rattle.events.specs.declared.Event.TheVariants.{Drain}
-use Rattle.live_pairs.specs.LiveOnly.{registered}
-use Rattle.live_pairs.specs.Pairs.{Told, pair_at, untold}
+use Rattle.fast_path.specs.LiveOnly.{registered}
+use Rattle.fast_path.specs.Pairs.{Told, pair_at, untold}
 use Rattle.net_types.specs.Keys.{pair_cmp, prefix_cmp}
 use Rattle.net_types.specs.Maps.{ordered}
 use Rattle.net_types.specs.Sets.{union_over}

@@ -6,7 +6,7 @@ ghost use Rattle.sdx_core.specs.Taking.{all_pairs, dead_tags, entries_at, has_no
 
 use advert_queue::Told;
 use events::Entry;
-use live_pairs::{ascending_pairs, push_pairs, untold};
+use fast_path::{ascending_pairs, push_pairs, untold};
 use net_types::{Attrs, Memory, Pair, PortNo, Prefix, Tag, TryCopy};
 use prefix_classes::ClassMap;
 use std::alloc::Global;

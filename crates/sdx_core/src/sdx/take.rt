@@ -13,8 +13,7 @@ use crate::replies::{bare_reply, refused};
 use crate::taking::{dead_among, entries_of, pairs_of};
 use advert_queue::{Told, adverts};
 use events::{Head, Messages, Phase, Reply};
-use fast_path::{forget_all, give_all, remove_all};
-use live_pairs::untold;
+use fast_path::{forget_all, give_all, remove_all, untold};
 use net_types::{Items, Memory, Name, Pairs, Pid, Tags};
 
 /// What a participant that takes all is told, and what goes with what it was told before.

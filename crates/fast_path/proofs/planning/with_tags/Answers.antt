@@ -1,7 +1,7 @@
 use Rattle.std.proofs.Common.{◌+◌, ◌++◌, ◌∷◌, [], length, map, drop, sym, ap, ◌∙◌}
 use Rattle.std.specs.Prelude.{is_some, slice_index_or}
 use Rattle.net_types.specs.declared.address.Tag.{Tag}
-use Rattle.live_pairs.specs.declared.forward.Fresh.{Fresh}
+use Rattle.fast_path.specs.declared.forward.Fresh.{Fresh}
 use Rattle.fast_path.specs.Committing.{kept_of}
 use Rattle.fast_path.proofs.GroupLemmas.{at_place, item_at, kept_end, kept_step, within}
 use Rattle.fast_path.proofs.planning.with_tags.Goals as goal

@@ -5,7 +5,7 @@ use Rattle.advert_queue.proofs.PendingLemmas.{adverts-state}
 use Rattle.advert_queue.specs.Telling.{adverts as messages}
 use Rattle.events.specs.State.{State, present, told_to}
 use Rattle.events.specs.declared.Entry.{Entry}
-use Rattle.live_pairs.specs.Pairs.{untold}
+use Rattle.fast_path.specs.Pairs.{untold}
 use Rattle.net_types.specs.Keys.{prefix_cmp}
 use Rattle.registry.specs.Registered.{ports_of}
 use Rattle.sdx_core.specs.Taking.{IsTaking, all_pairs, dead_tags, gone_for, gone_tags}

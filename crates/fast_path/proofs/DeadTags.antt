@@ -1,0 +1,29 @@
+-- Those of the emptied tags that nobody was told are the tags that are live no more.
+use Rattle.std.proofs.Common.{◌≡◌, Bool, true, false, ◌||◌, not, ap, ◌∙◌, inl, inr}
+use Rattle.std.specs.List.{list_any}
+use Rattle.std.proofs.lemmas.Bool.{false_from_ne_true, or_cases, or_left, or_right}
+use Rattle.events.specs.State.{State}
+use Rattle.events.specs.Tags.{retagged, tells}
+use Rattle.exchange_laws.proofs.Lists.{clash, not_true}
+use Rattle.fast_path.specs.LiveOnly.{UntoldAreDead, has_prefix}
+use Rattle.net_types.proofs.RisingLemmas.{Member-filter, filter-Member}
+use Rattle.net_types.specs.declared.address.Tag.{Tag}
+
+-- somebody was told the tag
+abbrev is_told : State → Tag → Bool
+is_told s t = list_any (λ entries. tells entries t) s.told
+
+pub untold_are_dead : UntoldAreDead
+untold_are_dead s r ts emptied = record {
+  each = λ t m.
+      let left = filter-Member (λ u. not (is_told s u)) ts t m in
+      let empty = emptied.each t left.stands in (
+        or_left (has_prefix s t) (is_told s t) empty.0,
+        ap (λ b. b || is_told s t) empty.1 ∙ not_true (is_told s t) left.passes,
+      );
+  all = λ t live dead.
+      let untold : is_told s t ≡ false = false_from_ne_true (is_told s t) (λ told. clash (or_right (has_prefix (retagged s r) t) (is_told s t) told) dead) in
+      let had : has_prefix s t ≡ true = elim (or_cases (has_prefix s t) (is_told s t) live) [ inl has ↦ has | inr told ↦ absurd (clash told untold) ] in
+      let none : has_prefix (retagged s r) t ≡ false = false_from_ne_true (has_prefix (retagged s r) t) (λ has. clash (or_left (has_prefix (retagged s r) t) (is_told s t) has) dead) in
+      Member-filter (λ u. not (is_told s u)) ts t (emptied.all t had none) (ap not untold);
+}

@@ -1,7 +1,0 @@
--- with those of the rest they are all
-use Rattle.std.proofs.Common.{◌≡◌, ◌++◌, drop}
-use Rattle.live_pairs.specs.Emptied.{old_tags}
-use Rattle.live_pairs.proofs.emptied.old_tags.Given as goal
-
-abbrev pub invariant-loop-change : goal.invariant-loop-change
-invariant-loop-change l = l.tags.items ++ old_tags l.classes.tag (drop l.change-index l.changes) ≡ old_tags l.classes.tag l.changes

@@ -1,8 +1,0 @@
-use Rattle.std.proofs.Common.{◌≡◌, ◌++◌, drop}
-use Rattle.net_types.specs.Sets.{union_over}
-use Rattle.live_pairs.specs.Pairs.{tag_pairs}
-use Rattle.live_pairs.proofs.pairs.gone_pairs.Given as goal
-
--- with those of the rest they are all
-abbrev pub invariant-loop-tag : goal.invariant-loop-tag
-invariant-loop-tag l = l.pairs.items ++ union_over (tag_pairs l.names l.classes.kept l.told) (drop l.tag-index l.emptied) ≡ union_over (tag_pairs l.names l.classes.kept l.told) l.emptied

@@ -1,7 +1,0 @@
-use Rattle.std.proofs.Common.{◌≡◌, take}
-use Rattle.live_pairs.specs.Pairs.{untold}
-use Rattle.live_pairs.proofs.pairs.untold.Given as goal
-
--- those among the tags so far
-abbrev pub invariant-loop-tag : goal.invariant-loop-tag
-invariant-loop-tag l = l.dead.items ≡ untold l.told (take l.tag-index l.tags)

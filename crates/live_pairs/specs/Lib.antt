@@ -1,4 +1,0 @@
-pub mod Pairs
-pub mod LiveOnly
-pub mod Emptied
-pub mod Planned
