@@ -27,6 +27,7 @@ use Rattle.net_types.specs.declared.address.Tag.{Tag}
 use Rattle.net_types.specs.declared.prefix.Prefix.{Prefix}
 use Rattle.net_types.specs.declared.route.Part.{Part}
 use Rattle.fast_path.proofs.CommittedMaps.{get_front, get_taken, take-IsRising}
+use Rattle.fast_path.proofs.NewPairs.{once_of}
 use Rattle.fast_path.specs.Committing.{Kept, kept_of, tags_of}
 use Rattle.fast_path.specs.Planned.{group_kept, is_tag_below}
 use Rattle.fast_path.specs.LiveOnly.{group_signatures, group_tags}
@@ -62,12 +63,6 @@ pub tags_back : (ts : List Tag) (sigs : List (List Part)) → length ts ≤ leng
 tags_back [] sigs few = refl
 tags_back (t ∷ ts) [] few = absurd (omega arith)
 tags_back (t ∷ ts) (sig ∷ sigs) few = ap (λ us. t ∷ us) (tags_back ts sigs (omega arith))
-
--- a member that is left once was there
-once_back : {A : Type 0} (same : A → A → Bool) (xs : List A) (x : A) → Member x (each_once same xs) → Member x xs
-once_back same [] x m = m
-once_back same (y ∷ xs) x (inl e) = inl e
-once_back same (y ∷ xs) x (inr m) = inr (once_back same xs x (filter-Member (λ z. not (same y z)) (each_once same xs) x m).stands)
 
 module _ (s : State) (r : Routing) where
   abbrev s1 : State
@@ -115,7 +110,7 @@ module _ (s : State) (r : Routing) where
 
   pub has_fresh : (t : Tag) (is : IsFresh t) → HasFresh t is.group
   has_fresh t is =
-      let listed = once_back same_group (map (group_of s r) (filter (is_changed s r) (carried r))) is.group (slice_get-Member (groups s r) is.place is.group is.grouped) in
+      let listed = once_of same_group (map (group_of s r) (filter (is_changed s r) (carried r))) is.group (slice_get-Member (groups s r) is.place is.group is.grouped) in
       let image = map-Member (group_of s r) (filter (is_changed s r) (carried r)) is.group listed in
       let outer = filter-Member (is_changed s r) (carried r) image.of image.stands in
       let inner = filter-Member (is_carried r) (ordered prefix_cmp (announced r)) image.of outer.stands in

@@ -3,7 +3,6 @@ use Rattle.std.proofs.Common.{◌≡◌, ◌⊎◌, Bool, true, false, cond, Lis
 use Rattle.std.specs.Prelude.{Some, None}
 use Rattle.std.specs.FinMap.{get, insert, remove, same_map}
 use Rattle.std.specs.Option.{option_map}
-use Rattle.std.specs.Ordering.{eq_by_cmp}
 use Rattle.events.specs.After.{without_pairs}
 use Rattle.events.specs.Sound.{owners_part}
 use Rattle.events.specs.State.{State}
@@ -16,18 +15,16 @@ use Rattle.exchange_laws.specs.Retagging.{TagsArePooled}
 use Rattle.exchange_laws.specs.Rules.{default_rules, table_after}
 use Rattle.net_types.proofs.OrderLemmas.{pairs_total}
 use Rattle.net_types.proofs.SetLemmas.{Member-map, map-Member}
-use Rattle.net_types.proofs.TieLemmas.{pair_cmp-IsAntisymmetric, same_from_tie}
+use Rattle.net_types.proofs.TieLemmas.{pair_cmp-IsAntisymmetric}
 use Rattle.net_types.specs.Exports.{Routing}
 use Rattle.net_types.specs.Keys.{pair_cmp}
 use Rattle.net_types.specs.Sets.{Member}
 use Rattle.net_types.specs.declared.rule.Pair.{Pair}
 use Rattle.fast_path.proofs.CommittedMaps.{IsPut, get_with_all, get_without_others, get_without_those, with_all, without_all}
 use Rattle.fast_path.proofs.CommittedSignatures.{nothing}
+use Rattle.fast_path.proofs.PortsAndTags.{tie}
 use Rattle.fast_path.specs.Committing.{Block, with_blocks}
 use Rattle.fast_path.specs.Planned.{AreNewFlows, blocks_of}
-
-tie : (x y : Pair) → eq_by_cmp pair_cmp x y ≡ true → x ≡ y
-tie = same_from_tie pair_cmp pair_cmp-IsAntisymmetric
 
 with_is : (m : TableOf) (bs : List Block) → with_blocks m bs ≡ with_all pair_cmp pairs_total tie m bs
 with_is m [] = refl

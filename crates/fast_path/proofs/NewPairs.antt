@@ -47,7 +47,7 @@ use Rattle.net_types.specs.declared.rule.Pair.{Pair}
 use Rattle.registry.specs.Registered.{Registered, ports_of}
 
 -- the different ones are among all
-once_of : {A : Type 0} (same : A → A → Bool) (xs : List A) (y : A) → Member y (each_once same xs) → Member y xs
+pub once_of : {A : Type 0} (same : A → A → Bool) (xs : List A) (y : A) → Member y (each_once same xs) → Member y xs
 once_of same [] y m = elim m [ ]
 once_of same (x ∷ xs) y (inl e) = inl e
 once_of same (x ∷ xs) y (inr m) = inr (once_of same xs y (filter-Member (λ z. not (same x z)) (each_once same xs) y m).stands)

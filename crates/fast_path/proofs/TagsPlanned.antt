@@ -25,6 +25,7 @@ use Rattle.exchange_laws.proofs.Sames.{group_itself, group_same}
 use Rattle.exchange_laws.proofs.TouchedPrefixes.{touched_have_changes, touched_have_groups}
 use Rattle.fast_path.specs.Grouping.{Known, change_before, changes_of, group_before, groups_of, is_empty, is_kept_sig, is_moved, more_groups, moved_groups, same_class, tag_after}
 use Rattle.fast_path.specs.declared.forward.Fresh.{Fresh}
+use Rattle.fast_path.proofs.CommittedMaps.{get_front}
 use Rattle.fast_path.proofs.GroupLemmas.{place_among}
 
 -- ---- a signature has parts where somebody has a best route
@@ -164,12 +165,6 @@ place_within test n (x ∷ xs) k e = by (test x) (place_within test (n + 1) xs k
     by : (b : Bool) → (position_from test (n + 1) xs ≡ Some k → k < n + 1 + length xs) → cond b (Some n) (position_from test (n + 1) xs) ≡ Some k → k < n + suc (length xs)
     by true later e = let same : n ≡ k = some_of n k e in omega arith
     by false later e = let below : k < n + 1 + length xs = later e in omega arith
-
-get_front : {A : Type 0} (n : ℕ) (xs : List A) (k : ℕ) → k < n → slice_get (take n xs) k ≡ slice_get xs k
-get_front zero xs k below = absurd (omega arith)
-get_front (suc n) [] k below = refl
-get_front (suc n) (x ∷ xs) zero below = refl
-get_front (suc n) (x ∷ xs) (suc k) below = get_front n xs k (omega arith)
 
 front_place : (ts : List Tag) (n : ℕ) (o : Option ℕ) → ((k : ℕ) → o ≡ Some k → k < n) → option_and_then (slice_get (take n ts)) o ≡ option_and_then (slice_get ts) o
 front_place ts n None within = refl
