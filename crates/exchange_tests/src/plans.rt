@@ -2,9 +2,9 @@
 
 mod exchange;
 
-use fast_path::{FastFault, Plan, plan, reserve};
 use events::TagChange;
 use exchange::{proposal, ten, three, untold};
+use fast_path::{FastFault, Plan, plan, reserve};
 use match_switch::Switch;
 use net_types::{Action, Assign, Cube, Ip, Pair, PortNo, Tag};
 use next_hop_pool::Pool;

@@ -1,7 +1,7 @@
 //! Routers that hear advertisements and ARP replies.
 
-use border_router::{News, Router, TagFault, news};
 use arp_frame::{ArpRequest, reply};
+use border_router::{News, Router, TagFault, news};
 use net_types::{Ip, Ips, Mac, Memory, Prefix, Prefixes};
 use std::alloc::Global;
 use std::test::Fail;

@@ -3,10 +3,10 @@
 ghost use Rattle.policy_isolate.specs.SmallExchange.{letter_pid, declared_pid, declared_owner};
 ghost use Rattle.std.specs.Prelude.{◌≡◌};
 
-use policy_compile::{compile, count_meets, too_wide};
 use bumpalo::Bump;
 use classifier::Classifier;
 use net_types::{Assign, Headers, Ip, Loc, Memory, Pid, PortNo};
+use policy_compile::{compile, count_meets, too_wide};
 use policy_isolate::Names;
 use policy_syntax::{Node, Pred, Target, Test, Tree, parse};
 use std::alloc::Global;

@@ -3,9 +3,9 @@
 ghost use Rattle.policy_isolate.specs.SmallExchange.{letter_pid, declared_pid, declared_owner};
 ghost use Rattle.std.specs.Prelude.{◌≡◌};
 
-use policy_isolate::{IsolateFault, Kind, Names, check_in, check_out};
 use bumpalo::Bump;
 use net_types::{Pid, PortNo, Span};
+use policy_isolate::{IsolateFault, Kind, Names, check_in, check_out};
 use policy_syntax::parse;
 use std::alloc::Global;
 use std::test::Fail;

@@ -1,8 +1,8 @@
 //! Texts with the answers that they have, and trees with theirs.
 
-use policy_syntax::{Node, SyntaxFault, Target, Tree, parse, print};
 use bumpalo::Bump;
 use net_types::Span;
+use policy_syntax::{Node, SyntaxFault, Target, Tree, parse, print};
 use std::alloc::Global;
 use std::test::Fail;
 

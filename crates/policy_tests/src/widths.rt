@@ -1,7 +1,7 @@
 //! Policies that are just too wide, and those just not.
 
-use policy_compile::too_wide;
 use bumpalo::Bump;
+use policy_compile::too_wide;
 use policy_syntax::parse;
 use std::test::Fail;
 

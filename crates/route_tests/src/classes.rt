@@ -1,7 +1,7 @@
 //! Rows of the calls.
 
-use prefix_classes::{ClassMap, new_ones_are_few};
 use net_types::{Ip, Memory, Prefix, Sig, Tag};
+use prefix_classes::{ClassMap, new_ones_are_few};
 use std::alloc::Global;
 use std::test::Fail;
 

@@ -2,8 +2,8 @@
 
 ghost use Rattle.std.specs.Prelude.{◌≡◌, length, IfOk};
 
-use registry::{RegFault, Registry};
 use net_types::{Ip, Mac, Pid, PortInfo, PortNo};
+use registry::{RegFault, Registry};
 use std::alloc::Global;
 use std::test::Fail;
 

@@ -1,7 +1,7 @@
 //! Rows of the map's calls.
 
-use prefix_map::PrefixMap;
 use net_types::{Ip, Memory, Prefix};
+use prefix_map::PrefixMap;
 use std::alloc::Global;
 use std::test::Fail;
 

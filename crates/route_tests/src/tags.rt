@@ -1,7 +1,7 @@
 //! Rows of the pool's calls.
 
-use next_hop_pool::{Pool, vmac};
 use net_types::{Ip, Mac, Tag};
+use next_hop_pool::{Pool, vmac};
 use std::test::Fail;
 
 // The tag with this address is given back, where it is taken.

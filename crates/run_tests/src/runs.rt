@@ -4,12 +4,14 @@ ghost use Rattle.std.specs.Prelude.{◌≡◌, Some};
 mod inputs;
 mod routes;
 
-use replay_run::{Failed, Sink, SinkFault, SinkOf, SinkOk, Source, SourceOf, SourceOk, Status, run};
 use inputs::{
     ARP_INPUT, ARP_OUTPUT, FIRST_INPUT, FIRST_OUTPUT, NOT_DRAINED_INPUT, NOT_DRAINED_OUTPUT,
     REFUSALS_INPUT, REFUSALS_OUTPUT, TWO_PREFIXES_INPUT, TWO_PREFIXES_OUTPUT,
 };
 use net_types::{Items, Memory, Steps, Text, Words};
+use replay_run::{
+    Failed, Sink, SinkFault, SinkOf, SinkOk, Source, SourceOf, SourceOk, Status, run,
+};
 use routes::{
     DISCARDED_INPUT, DISCARDED_OUTPUT, EXPORT_RULES_INPUT, EXPORT_RULES_OUTPUT, SAME_AS_INPUT,
     SAME_AS_OUTPUT, SMALL_POOL_INPUT, SMALL_POOL_OUTPUT, TAKEN_INPUT, TAKEN_OUTPUT,

@@ -1,9 +1,9 @@
 //! What the table makes of frames.
 
 use super::{put, rule, to};
-use match_switch::Switch;
 use events::Frame;
 use ip_frame::wrap;
+use match_switch::Switch;
 use net_types::{Action, Assign, Cube, Ip, Items, Mac, Memory, Pid, PortInfo, PortNo};
 use std::alloc::Global;
 use std::test::Fail;

@@ -1,8 +1,8 @@
 //! Lines with what they are read as.
 
-use replay_text::read_line;
 use events::Event;
 use net_types::{Ip, Mac, Memory, PortNo};
+use replay_text::read_line;
 use std::alloc::Global;
 use std::test::Fail;
 

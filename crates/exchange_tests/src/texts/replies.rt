@@ -1,6 +1,5 @@
 //! Replies with their texts.
 
-use replay_text::write_reply;
 use events::{
     Event, Exchange, Exchanges, Flow, Flows, Frame, Frames, Head, Messages, Refusal, Reply,
     TagChange, TagChanges,
@@ -9,6 +8,7 @@ use net_types::{
     Action, Actions, Assign, Bytes, Cube, Fault, Ip, Kind, Memory, Pair, Pairs, PortNo, Prefix,
     Rule, Tag,
 };
+use replay_text::write_reply;
 use std::alloc::Global;
 use std::test::Fail;
 

@@ -6,10 +6,10 @@ ghost use Rattle.route_server.specs.Served.{AreDeclared};
 
 use super::said::{Route, Said, prefix, update};
 use super::told::{bests, fault, prefixes, proposed, push_signature};
-use route_server::RouteServer;
 use export_rules::{Bound, parse_rules};
 use net_types::{Ip, Mac, Memory, Pid, PortNo};
 use registry::{RegFault, Registry};
+use route_server::RouteServer;
 use std::alloc::Global;
 use std::test::Fail;
 

@@ -4,9 +4,9 @@ ghost use Rattle.std.specs.Prelude.{◌<◌, length};
 ghost use Rattle.route_server.specs.Served.{AreDeclared};
 
 use super::said::prefix;
-use route_server::{Proposal, RouteFault, RouteServer};
 use net_types::{Attrs, Memory, Pid, Prefix, Sig};
 use registry::Registry;
+use route_server::{Proposal, RouteFault, RouteServer};
 use std::alloc::{AllocError, Global};
 use std::test::Fail;
 
