@@ -1,6 +1,7 @@
 -- Export rules, and which routes a participant gives to which other (this exchange's own rule).
 -- which prefixes a rule is about: every one, one alone, or one and all that lie within it
-pub use Rattle.net_types.specs.declared.export.Which.{Which}
+pub use Rattle.net_types.specs.Paths.{asns}
+use Rattle.net_types.specs.declared.export.Which.{Which}
 pub use Rattle.net_types.specs.declared.export.Which.TheVariants.{Every, Exactly, Within}
 -- a rule without a participant is about every one
 pub use Rattle.net_types.specs.declared.export.ExportRule.{ExportRule}
@@ -17,7 +18,6 @@ use Rattle.net_types.specs.declared.route.Attrs.{Attrs}
 use Rattle.net_types.specs.declared.route.Participant.{Participant}
 use Rattle.net_types.specs.declared.route.PortInfo.{PortInfo}
 use Rattle.net_types.specs.declared.route.Segment.{Segment}
-use Rattle.net_types.specs.declared.route.Segment.TheVariants.{Set, Sequence}
 
 -- the same address and length
 abbrev pub same_prefix : Prefix → Prefix → Bool
@@ -54,11 +54,6 @@ pid_of r name = option_map (λ n. record { 0 = n }) (position_from (λ (m : Part
 -- a participant's route for a prefix
 abbrev pub route : Routing → Pid → Prefix → Option Attrs
 route r from p = get r.routes (record { from = from; prefix = p })
-
--- the AS numbers of a segment
-abbrev pub asns : Segment → List ℕ
-asns (Set ns) = ns
-asns (Sequence ns) = ns
 
 -- an AS stands in some segment of a path
 abbrev pub is_in_path : ℕ → List Segment → Bool

@@ -5,6 +5,7 @@ use Rattle.std.specs.Option.{option_and_then, option_map_or}
 use Rattle.std.specs.FinMap.{keys}
 use Rattle.net_types.specs.Exports.{Routing, route, is_given, asn_of}
 use Rattle.net_types.specs.Keys.{RouteKey}
+use Rattle.net_types.specs.Paths.{hops_of}
 use Rattle.net_types.specs.Prefixes.{covers}
 use Rattle.net_types.specs.declared.address.Ip.{Ip}
 use Rattle.net_types.specs.declared.address.Pid.{Pid}
@@ -12,8 +13,6 @@ use Rattle.net_types.specs.declared.prefix.Prefix.{Prefix}
 use Rattle.net_types.specs.declared.route.Attrs.{Attrs}
 use Rattle.net_types.specs.declared.route.Participant.{Participant}
 use Rattle.net_types.specs.declared.route.PortInfo.{PortInfo}
-use Rattle.net_types.specs.declared.route.Segment.{Segment}
-use Rattle.net_types.specs.declared.route.Segment.TheVariants.{Set, Sequence}
 
 -- a route to choose from, with what the choice looks at
 pub record Candidate : Type 0 where
@@ -32,11 +31,6 @@ numbers low (suc count) = low ∷ numbers (low + 1) count
 -- the participants in order of declaration
 abbrev pub pids : Routing → List Pid
 pids r = map (λ n. record { 0 = n }) (numbers 0 (length r.participants))
-
--- a set of AS numbers counts one as a whole (RFC 4271 9.1.2.2 a)
-abbrev pub hops_of : Segment → ℕ
-hops_of (Set ns) = 1
-hops_of (Sequence ns) = length ns
 
 -- the address of the first declared port
 abbrev pub peer_of : Routing → Pid → Ip

@@ -10,18 +10,18 @@ use Rattle.net_types.specs.declared.route.Attrs.{Attrs}
 use Rattle.net_types.specs.declared.route.Segment.{Segment}
 use Rattle.net_types.specs.declared.route.Unknown.{Unknown}
 use Rattle.net_types.specs.declared.update.Update.{Update}
-use Rattle.net_types.specs.Exports.{asns as asns_of}
+use Rattle.net_types.specs.Paths.{asns as asns_of}
 
 -- each member of a list
 abbrev pub Each : {A : Type 0} → (A → Type 0) → List A → Type 0
 Each P [] = Unit {0}
 Each P (x ∷ xs) = P x × Each P xs
 
--- a segment has 1 to 255 AS numbers of two octets
+-- a segment has 1 to 255 AS numbers, of four octets at most
 pub record IsSoundSegment (s : Segment) : Type 0 where
   pub some : 1 ≤ length (asns_of s)
   pub few : length (asns_of s) ≤ 255
-  pub asns : Each (λ n. n < 65536) (asns_of s)
+  pub asns : Each (λ n. n < 4294967296) (asns_of s)
 
 -- a next hop's first octet is neither 0 nor above 223
 pub record IsSoundNextHop (ip : Ip) : Type 0 where

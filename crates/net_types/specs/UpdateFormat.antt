@@ -1,13 +1,13 @@
--- UPDATE messages, check by check (RFC 4271 4.1, 4.3, 6.1, 6.3). The first line that fails gives the fault.
-use Rattle.std.specs.Prelude.{◌≡◌, IsTrue, ℕ, ◌+◌, ◌*◌, ◌/◌, ◌%◌, ◌<◌, Bool, true, false, not, ◌&&◌, ◌||◌, ◌==◌, nat_le, nat_lt, List, [], ◌∷◌, ◌++◌, length, take, drop, slice_index, Option, Some, None, is_some, if◌then◌else◌}
+-- UPDATE messages, check by check (RFC 4271 4.1, 4.3, 6.1, 6.3; RFC 6793 3). The first line that fails gives the fault.
+use Rattle.std.specs.Prelude.{◌≡◌, IsTrue, ℕ, ◌+◌, ◌*◌, ◌/◌, ◌%◌, ◌<◌, Bool, true, false, not, ◌&&◌, ◌||◌, ◌==◌, ◌⊎◌, nat_le, nat_lt, List, [], ◌∷◌, ◌++◌, length, take, drop, slice_index, Option, Some, None, is_some, if◌then◌else◌}
 use Rattle.std.specs.List.{list_all}
-use Rattle.grammar.specs.Formats.{Format, pure, octet, octets, ensure, ◌>>=◌, ◌>>◌, block, items, to_end}
+use Rattle.grammar.specs.Formats.{Format, pure, octet, octets, ensure, ◌>>=◌, ◌>>◌, block, items, to_end, ItemsSpell, ItemsFail}
 use Rattle.grammar.specs.Numbers.{big_endian, two_octets}
 use Rattle.net_types.specs.Bits.{same_bits}
 use Rattle.net_types.specs.AttributeTypes.{type_of, type_flags, type_length, has_length}
 use Rattle.net_types.specs.declared.address.Ip.{Ip}
 use Rattle.net_types.specs.declared.attribute.Attribute.{Attribute}
-use Rattle.net_types.specs.declared.attribute.Attribute.TheVariants.{Origin, AsPath, NextHop, MultiExitDisc, LocalPref, AtomicAggregate, Communities, Ignored}
+use Rattle.net_types.specs.declared.attribute.Attribute.TheVariants.{Origin, AsPath, NextHop, MultiExitDisc, LocalPref, AtomicAggregate, Communities, As4Path, Ignored}
 use Rattle.net_types.specs.declared.attribute.Attribute.TheVariants as attributes
 use Rattle.net_types.specs.declared.attribute.AttributeType.{AttributeType}
 use Rattle.net_types.specs.declared.attribute.AttributeType.TheVariants as types
@@ -55,15 +55,36 @@ longs (a ∷ b ∷ c ∷ d ∷ s) = big_endian (a ∷ b ∷ c ∷ d ∷ []) ∷ 
 abbrev pub segment_of : ℕ → List ℕ → Segment
 segment_of kind asns = if kind == 1 then Set asns else Sequence asns
 
--- a segment of a path, with one AS at least
-abbrev pub segment : Format Fault Segment
-segment = do
+-- a segment of a path, with one AS at least, whose numbers have so many octets each
+abbrev pub segment_by : ℕ → (List ℕ → List ℕ) → Format Fault Segment
+segment_by size numbers = do
   kind ← octet faults.AsPath
   ensure (kind == 1 || kind == 2) faults.AsPath
   count ← octet faults.AsPath
   ensure (nat_le 1 count) faults.AsPath
-  asns ← octets (count * 2) faults.AsPath
-  pure (segment_of kind (words asns))
+  asns ← octets (count * size) faults.AsPath
+  pure (segment_of kind (numbers asns))
+
+-- a segment of AS_PATH: two octets a number
+abbrev pub segment : Format Fault Segment
+segment = segment_by 2 words
+
+-- a segment of AS4_PATH: four octets a number (RFC 6793 3)
+abbrev pub wide_segment : Format Fault Segment
+wide_segment = segment_by 4 longs
+
+-- what an AS4_PATH of these segments says: without one, nothing
+abbrev pub wide_value : List Segment → Attribute
+wide_value [] = Ignored 17
+wide_value (s ∷ segments) = As4Path (s ∷ segments)
+
+-- what the octets of an AS4_PATH say: where they are no segments, nothing (this exchange's own rule: it is no fault)
+abbrev pub IsWide : List ℕ → Attribute → Type 0
+IsWide inner a = ((segments : List Segment) × ItemsSpell wide_segment inner segments × (a ≡ wide_value segments)) ⊎ ((e : Fault) × ItemsFail wide_segment inner e × (a ≡ Ignored 17))
+
+-- no more octets, where the block inner, which was taken before, is the value of an AS4_PATH; no octets fail
+abbrev pub wide_path : List ℕ → Format Fault Attribute
+wide_path inner = record { Spells = λ s a. (s ≡ []) × IsWide inner a; Fails = λ s e. ⊥ }
 
 -- the flags 0x80, 0x40, 0x20 and 0x10
 abbrev pub is_optional : ℕ → Bool
@@ -106,6 +127,7 @@ known_value types.LocalPref partial inner = pure LocalPref
 known_value types.AtomicAggregate partial inner = pure AtomicAggregate
 known_value types.Aggregator partial inner = pure (attributes.Aggregator (record { partial = partial; asn = big_endian (take 2 inner); ip = address (drop 2 inner) }))
 known_value types.Communities partial inner = pure (Communities partial (longs inner))
+known_value types.As4Path partial inner = wide_path inner
 
 -- a value of another type: it is passed on where it is transitive
 abbrev pub unknown_value : Bool → ℕ → List ℕ → Attribute
@@ -142,6 +164,7 @@ number_of LocalPref = 5
 number_of AtomicAggregate = 6
 number_of (attributes.Aggregator a) = 7
 number_of (Communities partial ns) = 8
+number_of (As4Path segments) = 17
 number_of (attributes.Unknown u) = u.kind
 number_of (Ignored number) = number
 

@@ -8,13 +8,13 @@ use Rattle.grammar.specs.Numbers.{big_endian}
 use Rattle.grammar.specs.Reading.{on_read}
 use Rattle.net_types.specs.FirstBits.{first_bits_of}
 use Rattle.net_types.specs.AttributeTypes.{has_length, type_flags, type_length, type_of}
-use Rattle.net_types.specs.UpdateFormat.{Head, Parts, address, is_complete, is_long, is_optional, is_partial, is_transitive, longs, no_types, padded, segment_of, unknown_value, upper_flags, with_type, words}
+use Rattle.net_types.specs.UpdateFormat.{Head, Parts, address, is_complete, is_long, is_optional, is_partial, is_transitive, longs, no_types, padded, segment_of, unknown_value, upper_flags, wide_value, with_type, words}
 use Rattle.net_types.specs.Keys.{prefix_cmp}
 use Rattle.net_types.specs.Maps.{ordered}
 use Rattle.net_types.specs.UpdateSpelling.{is_type_before}
-use Rattle.net_types.specs.UpdateValue.{Said, said}
+use Rattle.net_types.specs.UpdateValue.{Said, said, said_path}
 use Rattle.net_types.specs.declared.attribute.Attribute.{Attribute}
-use Rattle.net_types.specs.declared.attribute.Attribute.TheVariants.{AsPath, AtomicAggregate, Communities, LocalPref, MultiExitDisc, NextHop, Origin}
+use Rattle.net_types.specs.declared.attribute.Attribute.TheVariants.{AsPath, AtomicAggregate, Communities, Ignored, LocalPref, MultiExitDisc, NextHop, Origin}
 use Rattle.net_types.specs.declared.attribute.Attribute.TheVariants as attributes
 use Rattle.net_types.specs.declared.attribute.AttributeType.{AttributeType}
 use Rattle.net_types.specs.declared.attribute.AttributeType.TheVariants as types
@@ -42,19 +42,28 @@ read_prefix = do
 unfoldable pub read_prefixes : List ℕ → Result (List Prefix) Fault
 read_prefixes s = read_items read_prefix s
 
--- a segment of a path
-unfoldable pub read_segment : Reader Fault Segment
-read_segment = do
+-- a segment of a path, whose numbers have so many octets each
+unfoldable pub read_segment_by : ℕ → (List ℕ → List ℕ) → Reader Fault Segment
+read_segment_by size numbers = do
   kind ← read_octet faults.AsPath
   read_ensure (kind == 1 || kind == 2) faults.AsPath
   count ← read_octet faults.AsPath
   read_ensure (nat_le 1 count) faults.AsPath
-  asns ← read_octets (count * 2) faults.AsPath
-  pure (segment_of kind (words asns))
+  asns ← read_octets (count * size) faults.AsPath
+  pure (segment_of kind (numbers asns))
 
--- the segments of a path
+-- the segments of AS_PATH
 unfoldable pub read_segments : List ℕ → Result (List Segment) Fault
-read_segments s = read_items read_segment s
+read_segments s = read_items (read_segment_by 2 words) s
+
+-- the segments of AS4_PATH
+unfoldable pub read_wide_segments : List ℕ → Result (List Segment) Fault
+read_wide_segments s = read_items (read_segment_by 4 longs) s
+
+-- what was read of an AS4_PATH: where it is wrong, it says nothing
+abbrev pub wide_read : Result (List Segment) Fault → Attribute
+wide_read (Ok segments) = wide_value segments
+wide_read (Err fault) = Ignored 17
 
 -- what was read of a block, in front of what stands behind it
 abbrev pub within : {X : Type 0} → Result X Fault → Reader Fault X
@@ -81,6 +90,7 @@ read_known_value types.LocalPref partial inner = pure LocalPref
 read_known_value types.AtomicAggregate partial inner = pure AtomicAggregate
 read_known_value types.Aggregator partial inner = pure (attributes.Aggregator (record { partial = partial; asn = big_endian (take 2 inner); ip = address (drop 2 inner) }))
 read_known_value types.Communities partial inner = pure (Communities partial (longs inner))
+read_known_value types.As4Path partial inner = pure (wide_read (read_wide_segments inner))
 
 -- a value
 unfoldable pub read_value : Option AttributeType → ℕ → ℕ → List ℕ → Reader Fault Attribute
@@ -154,7 +164,7 @@ said_attrs s =
       communities = s.communities;
       communities_partial = s.communities_partial;
       unknown = by_type s.unknown;
-    }) s.next_hop) s.path) s.origin
+    }) s.next_hop) (said_path s)) s.origin
 
 -- attributes are there only where a prefix is announced
 abbrev pub attrs_for : Said → List Prefix → Option Attrs

@@ -4,7 +4,7 @@ use Rattle.std.specs.Ordering.{is_lt}
 use Rattle.net_types.specs.Keys.{prefix_cmp}
 use Rattle.net_types.specs.Sets.{IsRising, Member, SameMembers}
 use Rattle.net_types.specs.UpdateFormat.{Parts, message}
-use Rattle.net_types.specs.UpdateValue.{Said, said}
+use Rattle.net_types.specs.UpdateValue.{Said, said, said_path}
 use Rattle.net_types.specs.declared.prefix.Prefix.{Prefix}
 use Rattle.net_types.specs.declared.route.Attrs.{Attrs}
 use Rattle.net_types.specs.declared.route.Unknown.{Unknown}
@@ -38,7 +38,7 @@ pub record IsOrderedWithout (ps qs rs : List Prefix) : Type 0 where
 -- the attributes of a route are what a message says, its unknown ones ascending by type
 pub record AreSaid (s : Said) (a : Attrs) : Type 0 where
   pub origin : s.origin ≡ Some a.origin
-  pub path : s.path ≡ Some a.path
+  pub path : said_path s ≡ Some a.path
   pub next_hop : s.next_hop ≡ Some a.next_hop
   pub med : a.med ≡ s.med
   pub atomic : a.atomic ≡ s.atomic

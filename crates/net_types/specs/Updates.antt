@@ -1,6 +1,8 @@
--- UPDATE messages as they are written (RFC 4271 4.1, 4.3; RFC 1997).
-use Rattle.std.specs.Prelude.{ℕ, ◌+◌, ◌/◌, ◌%◌, nat_le, nat_lt, Bool, List, [], ◌∷◌, ◌++◌, length, take, filter, flat_map, Option, Some, None, if◌then◌else◌}
+-- UPDATE messages as they are written (RFC 4271 4.1, 4.3; RFC 1997; RFC 6793 4.2.2).
+use Rattle.std.specs.Prelude.{ℕ, ◌+◌, ◌/◌, ◌%◌, nat_le, nat_lt, Bool, false, ◌&&◌, List, [], ◌∷◌, ◌++◌, length, take, filter, flat_map, Option, Some, None, if◌then◌else◌}
+use Rattle.std.specs.List.{list_any}
 use Rattle.net_types.specs.Octets.{word, address_octets}
+use Rattle.net_types.specs.Paths.{has_wide}
 use Rattle.net_types.specs.declared.address.Ip.{Ip}
 use Rattle.net_types.specs.declared.prefix.Prefix.{Prefix}
 use Rattle.net_types.specs.declared.route.Aggregator.{Aggregator}
@@ -14,10 +16,14 @@ use Rattle.net_types.specs.declared.update.Update.{Update}
 abbrev pub marker : List ℕ
 marker = 255 ∷ 255 ∷ 255 ∷ 255 ∷ 255 ∷ 255 ∷ 255 ∷ 255 ∷ 255 ∷ 255 ∷ 255 ∷ 255 ∷ 255 ∷ 255 ∷ 255 ∷ 255 ∷ []
 
--- type 1 is AS_SET and 2 is AS_SEQUENCE
+-- an AS number in two octets: 23456, AS_TRANS, stands for one that takes more (RFC 6793 9)
+abbrev pub short : ℕ → List ℕ
+short n = word (if nat_lt n 65536 then n else 23456)
+
+-- a segment of AS_PATH: type 1 is AS_SET and 2 is AS_SEQUENCE
 abbrev pub segment_octets : Segment → List ℕ
-segment_octets (Set ns) = 1 ∷ length ns % 256 ∷ flat_map word ns
-segment_octets (Sequence ns) = 2 ∷ length ns % 256 ∷ flat_map word ns
+segment_octets (Set ns) = 1 ∷ length ns % 256 ∷ flat_map short ns
+segment_octets (Sequence ns) = 2 ∷ length ns % 256 ∷ flat_map short ns
 
 -- an attribute: flags, type, length, value; a length over 255 takes two octets, which the flag 0x10 says
 abbrev pub attribute : ℕ → ℕ → List ℕ → List ℕ
@@ -26,6 +32,15 @@ attribute flags kind value = if nat_le (length value) 255 then flags ∷ kind �
 -- a number in four octets
 abbrev pub long : ℕ → List ℕ
 long n = word (n / 65536) ++ word n
+
+-- a segment of AS4_PATH (RFC 6793 3)
+abbrev pub wide_segment_octets : Segment → List ℕ
+wide_segment_octets (Set ns) = 1 ∷ length ns % 256 ∷ flat_map long ns
+wide_segment_octets (Sequence ns) = 2 ∷ length ns % 256 ∷ flat_map long ns
+
+-- AS4_PATH: optional and transitive, of type 17, with the whole path, where some number takes more than two octets
+abbrev pub wide_octets : List Segment → List ℕ
+wide_octets path = if has_wide path then attribute 192 17 (flat_map wide_segment_octets path) else []
 
 -- MULTI_EXIT_DISC: optional, of type 4
 abbrev pub med_octets : Option ℕ → List ℕ
@@ -54,13 +69,14 @@ communities_octets partial (c ∷ cs) = attribute (passed_on partial) 8 (flat_ma
 abbrev pub unknown_octets : List Unknown → List ℕ
 unknown_octets us = flat_map (λ (u : Unknown). attribute 224 u.kind u.value) us
 
--- the attributes, ascending by type: an unknown one of type 0 comes first
+-- the attributes, ascending by type: an unknown one of type 0 comes first, and those below 17 before AS4_PATH
 abbrev pub attrs_octets : Attrs → List ℕ
 attrs_octets a =
     unknown_octets (filter (λ (u : Unknown). nat_lt u.kind 1) a.unknown)
     ++ attribute 64 1 (a.origin ∷ []) ++ attribute 64 2 (flat_map segment_octets a.path) ++ attribute 64 3 (address_octets a.next_hop)
     ++ med_octets a.med ++ atomic_octets a.atomic ++ aggregator_octets a.aggregator ++ communities_octets a.communities_partial a.communities
-    ++ unknown_octets (filter (λ (u : Unknown). nat_le 1 u.kind) a.unknown)
+    ++ unknown_octets (filter (λ (u : Unknown). nat_le 1 u.kind && nat_lt u.kind 17) a.unknown) ++ wide_octets a.path
+    ++ unknown_octets (filter (λ (u : Unknown). nat_le 17 u.kind) a.unknown)
 
 -- a prefix: its length in bits, and the fewest octets that hold so many
 abbrev pub prefix_octets : Prefix → List ℕ
@@ -92,6 +108,15 @@ announcement p a next_hop = update_message [] (attrs_octets (record a { next_hop
 -- the canonical message that withdraws one prefix
 abbrev pub withdrawal : Prefix → List ℕ
 withdrawal p = update_message (prefix_octets p) [] []
+
+-- with these attributes, if there are any, the announcement of some prefix takes more than 4096 octets
+abbrev pub is_oversize_with : Option Attrs → List Prefix → Bool
+is_oversize_with None ps = false
+is_oversize_with (Some a) ps = list_any (λ p. nat_lt 4096 (length (announcement p a a.next_hop))) ps
+
+-- some announced prefix couldn't be told in a message, whose length is 4096 octets at most (this exchange's own rule)
+abbrev pub is_oversize : Update → Bool
+is_oversize u = is_oversize_with u.attrs u.announced
 
 -- the first AS of a path that begins with a sequence
 abbrev pub first_as : List Segment → Option ℕ

@@ -1,4 +1,4 @@
-//! The path attributes that the exchange knows, and attributes as they stand in a message (RFC 4271 4.3, 5; RFC 1997).
+//! The path attributes that the exchange knows, and attributes as they stand in a message (RFC 4271 4.3, 5; RFC 1997; RFC 6793).
 
 ghost use Rattle.std.specs.Prelude.{◌≡◌};
 ghost use Rattle.net_types.specs.UpdateFormat.{number_of};
@@ -19,6 +19,7 @@ pub enum AttributeType {
     AtomicAggregate,
     Aggregator,
     Communities,
+    As4Path,
 }
 
 /// How many octets a value has.
@@ -67,6 +68,7 @@ impl AttributeType {
             6 => Some(AttributeType::AtomicAggregate),
             7 => Some(AttributeType::Aggregator),
             8 => Some(AttributeType::Communities),
+            17 => Some(AttributeType::As4Path),
             _ => None,
         }
     }
@@ -96,6 +98,7 @@ impl AttributeType {
             ),
             AttributeType::Aggregator => row(7, "AGGREGATOR", 0xC0, ValueLength::Exactly(6)),
             AttributeType::Communities => row(8, "COMMUNITIES", 0xC0, ValueLength::MultipleOfFour),
+            AttributeType::As4Path => row(17, "AS4_PATH", 0xC0, ValueLength::Any),
         }
     }
 }
@@ -126,9 +129,12 @@ pub enum Attribute {
     Aggregator(Aggregator),
     /// Whether it passed somebody who doesn't know it, and its value.
     Communities(bool, Numbers),
+    /// The path in AS numbers of four octets; it has a segment at least.
+    As4Path(Segments),
     /// Optional and transitive, of a type that the exchange doesn't know.
     Unknown(Unknown),
-    /// Optional and not transitive, of a type that the exchange doesn't know: its type alone.
+    /// What says nothing, its type alone: optional and not transitive, of a type that the exchange doesn't know, or an
+    /// AS4_PATH of another form.
     Ignored(u8),
 }
 
@@ -146,6 +152,7 @@ impl Attribute {
             Attribute::AtomicAggregate => 6,
             Attribute::Aggregator(_) => 7,
             Attribute::Communities(_, _) => 8,
+            Attribute::As4Path(_) => 17,
             Attribute::Unknown(unknown) => unknown.kind,
             Attribute::Ignored(number) => *number,
         }

@@ -1,7 +1,7 @@
 //! Whether an update is taken.
 
 ghost use Rattle.std.specs.Prelude.{◌≡◌, ◌<◌, ◌^◌, sum_by};
-ghost use Rattle.net_types.specs.Routes.{hops_of};
+ghost use Rattle.net_types.specs.Paths.{hops_of};
 ghost use Rattle.net_types.specs.Updates.{first_as};
 ghost use Rattle.route_server.specs.Admission.{first_in, attrs_refusal, refusal};
 

@@ -1,7 +1,7 @@
 //! A participant's route for a prefix.
 
 ghost use Rattle.std.specs.Prelude.{◌≡◌, sum_by};
-ghost use Rattle.net_types.specs.Routes.{hops_of};
+ghost use Rattle.net_types.specs.Paths.{hops_of};
 
 use net_types::{Attrs, Pid};
 

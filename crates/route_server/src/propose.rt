@@ -5,7 +5,7 @@ ghost use Rattle.std.specs.FinMap.{FinMap};
 ghost use Rattle.net_types.specs.Changes.{updated};
 ghost use Rattle.net_types.specs.Exports.{Routing};
 ghost use Rattle.net_types.specs.Keys.{route_cmp};
-ghost use Rattle.net_types.specs.Routes.{hops_of};
+ghost use Rattle.net_types.specs.Paths.{hops_of};
 ghost use Rattle.net_types.specs.SoundUpdates.{IsSoundUpdate};
 ghost use Rattle.net_types.specs.declared.route.Attrs.{Attrs};
 ghost use Rattle.route_server.specs.Admission.{refusal};

@@ -3,7 +3,8 @@
 ghost use Rattle.std.specs.Prelude.{◌≡◌, ◌≤◌, ◌<◌, length, nat_eq, IfSome, []};
 ghost use Rattle.std.specs.List.{list_any};
 ghost use Rattle.std.specs.Option.{option_and_then, option_map, option_copied};
-ghost use Rattle.net_types.specs.Exports.{asns, is_in_path, is_given, asn_of};
+ghost use Rattle.net_types.specs.Exports.{is_in_path, is_given, asn_of};
+ghost use Rattle.net_types.specs.Paths.{asns};
 ghost use Rattle.net_types.specs.Routes.{best_of, candidate};
 ghost use Rattle.net_types.specs.Routes as definition;
 ghost use Rattle.decision.specs.Seen.{seen};

@@ -5,7 +5,7 @@ ghost use Rattle.std.specs.List.Sorted.{IsPermutation, IsSortedBy};
 ghost use Rattle.std.specs.Ordering.{is_lt};
 ghost use Rattle.net_types.specs.Changes.{updated};
 ghost use Rattle.net_types.specs.Keys.{prefix_cmp};
-ghost use Rattle.net_types.specs.Routes.{hops_of};
+ghost use Rattle.net_types.specs.Paths.{hops_of};
 ghost use Rattle.net_types.specs.Sets.{Member, IsRising};
 ghost use Rattle.net_types.specs.SoundUpdates.{IsSoundUpdate, HasSoundAttrs};
 ghost use Rattle.net_types.specs.UpdateSpelling.{is_before};

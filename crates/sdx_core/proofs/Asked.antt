@@ -9,7 +9,7 @@ use Rattle.net_types.specs.Attributes.{same_option}
 use Rattle.net_types.specs.ExportReading.{rules_of_text}
 use Rattle.net_types.specs.ExportTexts.{bound}
 use Rattle.net_types.specs.Exports.{Routing, asn_of, pid_of}
-use Rattle.net_types.specs.Routes.{hops_of}
+use Rattle.net_types.specs.Paths.{hops_of}
 use Rattle.net_types.specs.UpdateReading.{decoded}
 use Rattle.net_types.specs.Octets.{address_octets, word}
 use Rattle.net_types.specs.Updates.{aggregator_octets, atomic_octets, attribute, attrs_octets, canonical, communities_octets, first_as, marker, med_octets, optional_attrs_octets, prefixes_octets, segment_octets, unknown_octets, update_message}

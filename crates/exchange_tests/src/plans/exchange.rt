@@ -1,7 +1,7 @@
 //! A small exchange: A with port 1, B with the ports 2 and 3, and C with port 4. B announces 10.0.0.0/8.
 
 ghost use Rattle.std.specs.Prelude.{◌≡◌, ◌<◌, ◌^◌, ◌∷◌, [], length, sum_by, IfOk, IfSome};
-ghost use Rattle.net_types.specs.Routes.{hops_of};
+ghost use Rattle.net_types.specs.Paths.{hops_of};
 ghost use Rattle.net_types.specs.SoundUpdates.{AreSoundAttrs, Each, IsSoundSegment, IsSoundUpdate};
 ghost use Rattle.route_server.specs.Served.{AreDeclared};
 

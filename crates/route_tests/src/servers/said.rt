@@ -1,7 +1,7 @@
 //! What participants say: updates that are sound, whose paths are short.
 
 ghost use Rattle.std.specs.Prelude.{◌≡◌, ◌<◌, ◌≤◌, ◌^◌, ◌∷◌, [], sum_by, true, IfOk, IfSome};
-ghost use Rattle.net_types.specs.Routes.{hops_of};
+ghost use Rattle.net_types.specs.Paths.{hops_of};
 ghost use Rattle.net_types.specs.SoundUpdates.{AreSoundAttrs, Each, IsSoundSegment, IsSoundNextHop, IsSoundUpdate};
 ghost use Rattle.net_types.specs.UpdateSpelling.{is_before};
 

@@ -1,5 +1,5 @@
 use Rattle.std.proofs.Common.{◌≡◌, ◌+◌, drop, sum_by}
-use Rattle.net_types.specs.Routes.{hops_of}
+use Rattle.net_types.specs.Paths.{hops_of}
 use Rattle.route_server.proofs.admission.hops.Given as goal
 
 abbrev pub invariant-loop-segment : goal.invariant-loop-segment
