@@ -143,6 +143,10 @@ ruled_declared s who (Some rules) is = record { owners = is.owners; told = is.to
 ruled_declared s who None is = is
 
 -- and so does an outbound policy
+received_declared : (s : State) (who : Pid) (text : List ℕ) (read : Result Policy Misread) → IsDeclared s → IsDeclared (received_by s who text read)
+received_declared s who text (Err fault) is = is
+received_declared s who text (Ok p) is = record { owners = is.owners; told = is.told }
+
 sent_declared : (s : State) (who : Pid) (text : List ℕ) (read : Result Policy Misread) → IsDeclared s → IsDeclared (sent_by s who text read)
 sent_declared s who text (Ok p) is = record { owners = is.owners; told = is.told }
 sent_declared s who text (Err fault) is = is
@@ -195,7 +199,7 @@ after_declared s (Export name text) is =
 after_declared s (Outbound name text) is =
     known_declared s (pid_of s.routing name) (λ who. sent_by s who text (policy_of_text text)) is (λ who e. sent_declared s who text (policy_of_text text) is)
 after_declared s (Inbound name text) is =
-    known_declared s (pid_of s.routing name) (λ who. received_by s who text) is (λ who e. record { owners = is.owners; told = is.told })
+    known_declared s (pid_of s.routing name) (λ who. received_by s who text (policy_of_text text)) is (λ who e. received_declared s who text (policy_of_text text) is)
 after_declared s (Take name count) is =
     known_declared s (pid_of s.routing name) (λ who. settled (running (taken s who (take count (pending s who))))) is (λ who e. record {
       owners = is.owners;

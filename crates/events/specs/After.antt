@@ -122,9 +122,10 @@ sent_by s who text (Err fault) = s
 sent_by s who text (Ok p) =
     let named = named_in (pid_of s.routing) p in restarted (retagged (with_outbound s who text named) (with_named s.routing who named))
 
--- the state after another inbound policy
-abbrev pub received_by : State → Pid → List ℕ → State
-received_by s who text = restarted (running (record s { inbound = slice_set s.inbound who.0 text }))
+-- the state after another inbound policy, as it was read; a text that is none changes nothing
+abbrev pub received_by : State → Pid → List ℕ → Result Policy Misread → State
+received_by s who text (Err fault) = s
+received_by s who text (Ok p) = restarted (running (record s { inbound = slice_set s.inbound who.0 text }))
 
 -- a tag that is live no more is kept no more
 abbrev pub settled : State → State
@@ -157,7 +158,7 @@ after s (Update name bytes) = with_known s (pid_of s.routing name) (λ who. upda
 after s (Down name) = with_known s (pid_of s.routing name) (λ who. retagged s (without_from s.routing who))
 after s (Export name text) = with_known s (pid_of s.routing name) (λ who. ruled s who (bound_read s.routing (rules_of_text text)))
 after s (Outbound name text) = with_known s (pid_of s.routing name) (λ who. sent_by s who text (policy_of_text text))
-after s (Inbound name text) = with_known s (pid_of s.routing name) (λ who. received_by s who text)
+after s (Inbound name text) = with_known s (pid_of s.routing name) (λ who. received_by s who text (policy_of_text text))
 after s (Take name count) = with_known s (pid_of s.routing name) (λ who. settled (running (taken s who (take count (pending s who)))))
 after s (Drain name) = with_known s (pid_of s.routing name) (λ who. settled (running (with_told s who (present s who))))
 after s (Arp port bytes) = with_known s (port_of s port) (λ q. running (with_answer s q bytes))

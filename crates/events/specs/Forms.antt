@@ -9,7 +9,7 @@ use Rattle.events.specs.declared.Event.TheVariants.{Bad, Exchange, Participant a
 abbrev pub IsWellFormed : Event → Type 0
 IsWellFormed Bad = Unit {0}
 IsWellFormed (Exchange base size capacity) = (1 ≤ size) × (size ≤ 65536) × (1 ≤ capacity) × (capacity ≤ 1000000) × (16777215 ≤ base.0) × (base.0 + size ≤ 3758096383)
-IsWellFormed (DeclaresParticipant name asn id) = IsTrue (is_name name) × (1 ≤ asn) × (asn ≤ 65535)
+IsWellFormed (DeclaresParticipant name asn id) = IsTrue (is_name name) × (1 ≤ asn) × (asn ≤ 4294967295)
 IsWellFormed (DeclaresPort name number ip mac) = IsTrue (is_name name) × (1 ≤ number.0) × (number.0 ≤ 65279)
 IsWellFormed (Update name bytes) = IsTrue (is_name name)
 IsWellFormed (Down name) = IsTrue (is_name name)

@@ -31,12 +31,12 @@ use Rattle.events.specs.declared.Event.TheVariants.{Bad, Exchange, Participant a
 use Rattle.events.specs.declared.Phase.{Phase}
 use Rattle.events.specs.declared.Phase.TheVariants.{Start, Declaring, Running}
 use Rattle.events.specs.declared.Refusal.{Refusal}
-use Rattle.events.specs.declared.Refusal.TheVariants.{BadLine, Misplaced, Unknown, Clash, Full, BadUpdate, FirstAs, NextHop, TextLong, Syntax, TooDeep, Isolate, TooWide, NoNextHop, BadPacket}
+use Rattle.events.specs.declared.Refusal.TheVariants.{BadLine, Misplaced, Unknown, Clash, Full, BadUpdate, FirstAs, NextHop, Oversize, TextLong, Syntax, TooDeep, Isolate, TooWide, NoNextHop, BadPacket}
 use Rattle.events.specs.After.{with_named, with_outbound, with_rules, with_update, without_from}
 use Rattle.events.specs.Resolving.{is_in_pool}
 use Rattle.events.specs.State.{State, owner_of, port_of}
 use Rattle.events.specs.Tags.{free_tags, groups}
-use Rattle.net_types.specs.Updates.{first_as}
+use Rattle.net_types.specs.Updates.{first_as, is_oversize}
 
 -- which lines are in place in a phase: only `exchange` at the start, then all but `exchange`, and after the declarations
 -- neither `participant` nor `port`
@@ -153,7 +153,7 @@ attrs_refusal s who (Some attrs) =
 -- the first refusal of what was read of an UPDATE
 abbrev pub update_refusal : State → Pid → Result Message Fault → Option Refusal
 update_refusal s who (Err fault) = Some (BadUpdate fault)
-update_refusal s who (Ok u) = or_else (attrs_refusal s who u.attrs) (tags_refusal s (with_update s.routing who u))
+update_refusal s who (Ok u) = or_else (attrs_refusal s who u.attrs) (or_else (refused_if (is_oversize u) Oversize) (tags_refusal s (with_update s.routing who u)))
 
 -- the first refusal of rules, where each name in them is declared
 abbrev pub bound_refusal : State → Pid → Option (List ExportRule) → Option Refusal
