@@ -1,8 +1,8 @@
 -- What the reply to an accepted line is: no refusal, and it tells nobody anything but what is present.
 use Rattle.std.proofs.Common.{◌≡◌, ℕ, Bool, true, false, cond, List, [], ◌∷◌, map, ap, sym, ◌∙◌, refl}
-use Rattle.std.specs.Prelude.{Option, Some, None, MatchOption, nat_lt, take, unwrap_or}
+use Rattle.std.specs.Prelude.{Option, Some, None, MatchOption, nat_lt, take}
 use Rattle.std.specs.FinMap.{get, keys}
-use Rattle.events.specs.Fits.{IsAnswer, IsBuilt, IsSent, IsTagged, IsTaken, IsWorked, adverts, all_flows, asks_for, bare, by_table, destination, is_receivers, is_senders, none_rebuilt, responder_reply}
+use Rattle.events.specs.Fits.{IsAnswer, IsBuilt, IsSent, IsTagged, IsTaken, IsWorked, adverts, asks_for, bare, by_table, destination, is_receivers, is_senders, none_rebuilt, responder_reply}
 use Rattle.events.specs.Pending.{pending}
 use Rattle.events.specs.Resolving.{is_pool_request, is_resolved, pool_mac, tag_address, unresolved}
 use Rattle.events.specs.State.{State, port_of, told_to}
@@ -10,7 +10,7 @@ use Rattle.events.specs.declared.Entry.{Entry}
 use Rattle.events.specs.declared.Event.{Event}
 use Rattle.events.specs.declared.Event.TheVariants.{Bad, Exchange, Participant, Port, Update, Down, Export, Outbound, Inbound, Take, Drain, Arp, Resolve, Packet, Frame, Recompile, Work, Table}
 use Rattle.events.specs.declared.Head.{Head}
-use Rattle.events.specs.declared.Head.TheVariants.{Fine, Working, Finished, Unrouted, Unresolved, Silent, Refused}
+use Rattle.events.specs.declared.Head.TheVariants.{Fine, Finished, Unrouted, Unresolved, Silent, Refused}
 use Rattle.events.specs.declared.Refusal.{Refusal}
 use Rattle.events.specs.declared.Reply.{Reply}
 use Rattle.net_types.specs.Arp.{arp_reply, asked_ip, asker_ip, asker_mac}

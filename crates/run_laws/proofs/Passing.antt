@@ -8,9 +8,9 @@ use Rattle.events.proofs.DropText.{drop_is_read}
 use Rattle.events.specs.After.{after, bound_read, merged, received_by, ruled, running, sent_by, settled, taken, updated, with_known, with_named, with_outbound, with_participant, with_port, with_told, without_from, worked}
 use Rattle.events.specs.Legal.{state_after}
 use Rattle.events.specs.Pending.{pending}
-use Rattle.events.specs.Refusals.{if_known, if_short, inbound_refusal, is_placed, isolation_refusal, or_else, outbound_refusal, policy_refusal, refusal, refused_if, tags_refusal}
+use Rattle.events.specs.Refusals.{if_known, if_short, inbound_refusal, is_placed, isolation_refusal, outbound_refusal, policy_refusal, refusal, refused_if, tags_refusal}
 use Rattle.events.specs.Resolving.{is_pool_request, port_place, resolved_at, unresolved, with_answer, with_resolved}
-use Rattle.events.specs.State.{State, ArePassed, ArePolicies, AreRead, IsRead, first, owner_of, port_of, present}
+use Rattle.events.specs.State.{State, AreRead, IsRead, first, owner_of, port_of, present}
 use Rattle.events.specs.Tags.{retagged}
 use Rattle.events.specs.declared.Event.{Event}
 use Rattle.events.specs.declared.Event.TheVariants.{Bad, Exchange, Participant as DeclaresParticipant, Port as DeclaresPort, Update, Down, Export, Outbound, Inbound, Take, Drain, Arp, Resolve, Packet, Frame, Recompile, Work, Table}
@@ -20,7 +20,7 @@ use Rattle.events.specs.declared.Refusal.{Refusal}
 use Rattle.events.specs.declared.Refusal.TheVariants.{TextLong, TooWide}
 use Rattle.grammar.specs.TextReading.{Fault as Misread}
 use Rattle.net_types.proofs.ValueLemmas.{no_entries}
-use Rattle.net_types.specs.Answers.{Policies, policy_of}
+use Rattle.net_types.specs.Answers.{policy_of}
 use Rattle.net_types.specs.Arp.{asked_ip, asker_mac}
 use Rattle.net_types.specs.ExportReading.{rules_of_text}
 use Rattle.net_types.specs.Exports.{named_by, pid_of}
@@ -43,7 +43,7 @@ use Rattle.net_types.specs.declared.route.PortInfo.{PortInfo}
 use Rattle.net_types.specs.declared.update.Fault.{Fault}
 use Rattle.net_types.specs.declared.update.Update.{Update as Message}
 use Rattle.net_types.specs.declared.rule.Rule.{Rule}
-use Rattle.run_laws.proofs.Carried.{IsCarried, known, neither, not_before, passes, runs_hold}
+use Rattle.run_laws.proofs.Carried.{neither, not_before, passes, runs_hold}
 use Rattle.run_laws.specs.Promises.{PoliciesHavePassed}
 
 -- ---- lists

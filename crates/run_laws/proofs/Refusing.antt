@@ -1,5 +1,5 @@
 -- Which replies are refusals, and what they leave.
-use Rattle.std.proofs.Common.{◌≡◌, Bool, true, false, ap, subst, sym, ◌∙◌, refl, inl, inr}
+use Rattle.std.proofs.Common.{◌≡◌, Bool, true, false, ap, sym, ◌∙◌, refl, inl, inr}
 use Rattle.std.specs.Prelude.{Option, Some, None}
 use Rattle.events.specs.After.{next, next_by}
 use Rattle.events.specs.Fits.{FitsBy, IsAccepted, Passes, bare, is_building}
@@ -12,7 +12,7 @@ use Rattle.events.specs.declared.Refusal.{Refusal}
 use Rattle.events.specs.declared.Refusal.TheVariants.{TableFull}
 use Rattle.events.specs.declared.Reply.{Reply}
 use Rattle.run_laws.proofs.Answered.{answered}
-use Rattle.run_laws.specs.Promises.{IsForTable, IsRefused, RefusalsChangeNothing}
+use Rattle.run_laws.specs.Promises.{IsRefused, RefusalsChangeNothing}
 
 module _ (s : State) (e : Event) (r : Reply) (why : Refusal) (refused : r.head ≡ Refused why) where
   stays : next s e r ≡ s
@@ -30,10 +30,10 @@ module _ (s : State) (e : Event) (r : Reply) (why : Refusal) (refused : r.head �
   passed true none building is = elim is [
     | inl there ↦ accepted there
     | inr full ↦ (let same : TableFull full.rules s.capacity ≡ why = same_refusal (TableFull full.rules s.capacity) full.head in record {
-        stays = stays;
-        bare = full.head ∙ ap (λ w. bare (Refused w)) same;
-        first = inr (record { none = none; building = building; rules = full.rules; over = full.over; full = sym same });
-      })
+      stays = stays;
+      bare = full.head ∙ ap (λ w. bare (Refused w)) same;
+      first = inr (record { none = none; building = building; rules = full.rules; over = full.over; full = sym same });
+    })
   ]
 
   refused_by : (o : Option Refusal) → refusal s e ≡ o → FitsBy o s e r → IsRefused s e r why
