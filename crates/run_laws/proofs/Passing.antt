@@ -230,56 +230,63 @@ port_passing s q declaring is =
       drop_inbound = λ later. too;
     }
 
+-- what isolation speaks of
+record Said : Type 0 where
+  outbound : List (List ℕ)
+  inbound : List (List ℕ)
+  participants : List Participant
+  ports : List PortInfo
+  named : List (List Pid)
+
+abbrev said : State → Said
+said s = record { outbound = s.outbound; inbound = s.inbound; participants = s.routing.participants; ports = s.routing.ports; named = s.routing.named }
+
 -- the exchange runs, with the policies and declarations that it had
 record Keeps (s s1 : State) : Type 0 where
-  outbound : s1.outbound ≡ s.outbound
-  inbound : s1.inbound ≡ s.inbound
-  participants : s1.routing.participants ≡ s.routing.participants
-  ports : s1.routing.ports ≡ s.routing.ports
-  named : s1.routing.named ≡ s.routing.named
+  same : said s1 ≡ said s
   running : s1.phase ≡ Running
 
-kept_passing : (s s1 : State) → Keeps s s1 → IsPassing s → IsPassing s1
-kept_passing s s1 keeps is =
-    let names : pid_of s1.routing ≡ pid_of s.routing = ap (λ ms. pid_of (record s.routing { participants = ms })) keeps.participants in
-    let owners : owner_of s1 ≡ owner_of s = ap (λ qs. owner_of (record s { routing = record s.routing { ports = qs } })) keeps.ports in record {
+kept_passing : (s s1 : State) → said s1 ≡ said s → s1.phase ≡ Running → IsPassing s → IsPassing s1
+kept_passing s s1 same running is =
+    let names : pid_of s1.routing ≡ pid_of s.routing = ap (λ (x : Said). pid_of (record s.routing { participants = x.participants })) same in
+    let owners : owner_of s1 ≡ owner_of s = ap (λ (x : Said). owner_of (record s { routing = record s.routing { ports = x.ports } })) same in record {
       outbound = is.outbound;
       inbound = is.inbound;
-      read_outbound = subst (λ texts. AreRead texts is.outbound) (sym keeps.outbound) is.read_outbound;
-      read_inbound = subst (λ texts. AreRead texts is.inbound) (sym keeps.inbound) is.read_inbound;
+      read_outbound = subst (λ (x : Said). AreRead x.outbound is.outbound) (sym same) is.read_outbound;
+      read_inbound = subst (λ (x : Said). AreRead x.inbound is.inbound) (sym same) is.read_inbound;
       passed_outbound = λ who. ap (λ f. out_faults f (owner_of s1) who (policy_of is.outbound who)) names ∙ ap (λ f. out_faults (pid_of s.routing) f who (policy_of is.outbound who)) owners ∙ is.passed_outbound who;
       passed_inbound = λ who. ap (λ f. in_faults f who (policy_of is.inbound who)) owners ∙ is.passed_inbound who;
-      named = λ who. ap (λ names. at names who.0 []) keeps.named ∙ is.named who ∙ sym (ap (λ f. named_in f (policy_of is.outbound who)) names);
-      as_many = ap length keeps.named ∙ is.as_many;
-      drop_outbound = λ later. absurd (later keeps.running);
-      drop_inbound = λ later. absurd (later keeps.running);
+      named = λ who. ap (λ (x : Said). at x.named who.0 []) same ∙ is.named who ∙ sym (ap (λ f. named_in f (policy_of is.outbound who)) names);
+      as_many = ap (λ (x : Said). length x.named) same ∙ is.as_many;
+      drop_outbound = λ later. absurd (later running);
+      drop_inbound = λ later. absurd (later running);
     }
 
 updated_passing : (s : State) (who : Pid) (read : Result Message Fault) → IsPassing s → IsPassing (updated s who read)
-updated_passing s who (Ok u) is = kept_passing s _ (record { outbound = refl; inbound = refl; participants = refl; ports = refl; named = refl; running = refl }) is
+updated_passing s who (Ok u) is = kept_passing s _ refl refl is
 updated_passing s who (Err fault) is = is
 
 ruled_passing : (s : State) (who : Pid) (rules : Option (List ExportRule)) → IsPassing s → IsPassing (ruled s who rules)
-ruled_passing s who (Some rules) is = kept_passing s _ (record { outbound = refl; inbound = refl; participants = refl; ports = refl; named = refl; running = refl }) is
+ruled_passing s who (Some rules) is = kept_passing s _ refl refl is
 ruled_passing s who None is = is
 
 worked_passing : (s : State) (units owed : ℕ) (b : Bool) → IsPassing s → IsPassing (cond b (running (record s { owed = Some (owed - units) })) (merged s))
-worked_passing s units owed true is = kept_passing s _ (record { outbound = refl; inbound = refl; participants = refl; ports = refl; named = refl; running = refl }) is
-worked_passing s units owed false is = kept_passing s _ (record { outbound = refl; inbound = refl; participants = refl; ports = refl; named = refl; running = refl }) is
+worked_passing s units owed true is = kept_passing s _ refl refl is
+worked_passing s units owed false is = kept_passing s _ refl refl is
 
 resolved_keeps : (s : State) (n : PortNo) (ips : List Ip) → Keeps s (running (with_resolved s n ips))
 resolved_keeps s n ips = by (port_place s n)
   where
     by : (o : Option ℕ) → Keeps s (running (option_map_or (λ place. let x : State = record s { resolved = slice_set s.resolved place (ordered ip_cmp (resolved_at s n ++ ips)) } in x) o s))
-    by None = record { outbound = refl; inbound = refl; participants = refl; ports = refl; named = refl; running = refl }
-    by (Some place) = record { outbound = refl; inbound = refl; participants = refl; ports = refl; named = refl; running = refl }
+    by None = record { same = refl; running = refl }
+    by (Some place) = record { same = refl; running = refl }
 
 answer_keeps : (s : State) (q : PortInfo) (frame : List ℕ) → Keeps s (running (with_answer s q frame))
 answer_keeps s q frame = by (is_pool_request s frame && same_octets (asker_mac frame).0 q.mac.0)
   where
     by : (b : Bool) → Keeps s (running (cond b (with_resolved s q.number (asked_ip frame ∷ [])) s))
     by true = resolved_keeps s q.number (asked_ip frame ∷ [])
-    by false = record { outbound = refl; inbound = refl; participants = refl; ports = refl; named = refl; running = refl }
+    by false = record { same = refl; running = refl }
 
 -- ---- policies
 
@@ -362,7 +369,7 @@ after_passing s (DeclaresPort name number ip mac) none is =
 after_passing s (Update name bytes) none is = known_passing s (pid_of s.routing name) (λ who. updated s who (decoded bytes)) is (λ who there. updated_passing s who (decoded bytes) is)
 after_passing s (Down name) none is =
     known_passing s (pid_of s.routing name) (λ who. retagged s (without_from s.routing who)) is (λ who there.
-    kept_passing s _ (record { outbound = refl; inbound = refl; participants = refl; ports = refl; named = refl; running = refl }) is)
+    kept_passing s _ refl refl is)
 after_passing s (Export name text) none is =
     known_passing s (pid_of s.routing name) (λ who. ruled s who (bound_read s.routing (rules_of_text text))) is (λ who there. ruled_passing s who (bound_read s.routing (rules_of_text text)) is)
 after_passing s (Outbound name text) none is =
@@ -373,19 +380,21 @@ after_passing s (Inbound name text) none is =
     received_passing s who text (policy_of_text text) refl (not_before (nat_lt 8192 (length text)) TextLong (inbound_refusal s who (policy_of_text text)) short) is)
 after_passing s (Take name count) none is =
     known_passing s (pid_of s.routing name) (λ who. settled (running (taken s who (take count (pending s who))))) is (λ who there.
-    kept_passing s _ (record { outbound = refl; inbound = refl; participants = refl; ports = refl; named = refl; running = refl }) is)
+    kept_passing s _ refl refl is)
 after_passing s (Drain name) none is =
     known_passing s (pid_of s.routing name) (λ who. settled (running (with_told s who (present s who)))) is (λ who there.
-    kept_passing s _ (record { outbound = refl; inbound = refl; participants = refl; ports = refl; named = refl; running = refl }) is)
+    kept_passing s _ refl refl is)
 after_passing s (Arp n bytes) none is =
-    known_passing s (port_of s n) (λ q. running (with_answer s q bytes)) is (λ q there. kept_passing s (running (with_answer s q bytes)) (answer_keeps s q bytes) is)
+    known_passing s (port_of s n) (λ q. running (with_answer s q bytes)) is (λ q there.
+    let keeps = answer_keeps s q bytes in kept_passing s (running (with_answer s q bytes)) keeps.same keeps.running is)
 after_passing s (Resolve n) none is =
-    known_passing s (port_of s n) (λ q. running (with_resolved s n (unresolved s q))) is (λ q there. kept_passing s (running (with_resolved s n (unresolved s q))) (resolved_keeps s n (unresolved s q)) is)
-after_passing s (Packet n bytes) none is = kept_passing s _ (record { outbound = refl; inbound = refl; participants = refl; ports = refl; named = refl; running = refl }) is
-after_passing s (Frame n bytes) none is = kept_passing s _ (record { outbound = refl; inbound = refl; participants = refl; ports = refl; named = refl; running = refl }) is
-after_passing s Recompile none is = kept_passing s _ (record { outbound = refl; inbound = refl; participants = refl; ports = refl; named = refl; running = refl }) is
+    known_passing s (port_of s n) (λ q. running (with_resolved s n (unresolved s q))) is (λ q there.
+    let keeps = resolved_keeps s n (unresolved s q) in kept_passing s (running (with_resolved s n (unresolved s q))) keeps.same keeps.running is)
+after_passing s (Packet n bytes) none is = kept_passing s _ refl refl is
+after_passing s (Frame n bytes) none is = kept_passing s _ refl refl is
+after_passing s Recompile none is = kept_passing s _ refl refl is
 after_passing s (Work units) none is = known_passing s s.owed (worked s units) is (λ owed there. worked_passing s units owed (nat_lt units owed) is)
-after_passing s Table none is = kept_passing s _ (record { outbound = refl; inbound = refl; participants = refl; ports = refl; named = refl; running = refl }) is
+after_passing s Table none is = kept_passing s _ refl refl is
 
 pub policies_have_passed : PoliciesHavePassed
 policies_have_passed es rs legal =
