@@ -1,7 +1,7 @@
 //! How long a message is that an update is written as, without writing it; lengths over 65535 are told as 65535.
 
-ghost use Rattle.std.specs.Prelude.{◌≡◌, ◌+◌, ◌*◌, nat_le, min, length, Some, if◌then◌else◌};
-ghost use Rattle.std.specs.List.{flat_map};
+ghost use Rattle.std.specs.Prelude.{◌≡◌, ◌+◌, ◌*◌, nat_le, nat_lt, min, length, Some, if◌then◌else◌};
+ghost use Rattle.std.specs.List.{flat_map, list_any};
 ghost use Rattle.net_types.specs.Updates.{aggregator_octets, atomic_octets, attrs_octets, canonical, communities_octets, is_oversize, is_oversize_with, med_octets, prefix_octets, prefixes_octets, segment_octets, unknown_octets, wide_octets, wide_segment_octets};
 
 use crate::paths::has_wide;
@@ -45,7 +45,7 @@ fn prefixes_len(prefixes: &[Prefix]) -> usize
     total
 }
 
-#[tactic(auto, using(crate::proofs::LengthSums::words_len))]
+#[tactic(auto, using(crate::proofs::LengthSums::shorts_len))]
 fn segment_len(segment: &Segment) -> usize
     ensures { result ≡ min 65535 (length (segment_octets segment.now)) }
 {
@@ -88,10 +88,11 @@ fn wide_path_len(path: &[Segment]) -> usize
 fn as4_path_len(path: &[Segment]) -> usize
     ensures { result ≡ min 65535 (length (wide_octets path.now)) }
 {
-    if !has_wide(path) {
-        return 0;
+    if has_wide(path) {
+        attribute_len(wide_path_len(path))
+    } else {
+        0
     }
-    attribute_len(wide_path_len(path))
 }
 
 fn unknown_len(unknown: &[Unknown]) -> usize
@@ -166,14 +167,24 @@ pub fn encoded_len(update: &Update) -> usize
     }
 }
 
+/// Whether a message with so many octets in front of the prefix has more than 4096.
+fn exceeds(front: usize, prefix: Prefix) -> bool
+    ensures { result ≡ nat_lt 4096 (min 65535 (front + length (prefix_octets prefix))) }
+{
+    4096 < add(front, prefix_len(prefix))
+}
+
+fn some_exceeds(front: usize, announced: &[Prefix]) -> bool
+    ensures { result ≡ list_any (λ p. nat_lt 4096 (min 65535 (front + length (prefix_octets p)))) announced.now }
+{
+    announced.iter().any(|prefix| exceeds(front, *prefix))
+}
+
 /// Whether the announcement of some prefix with these attributes takes more than 4096 octets.
 fn is_oversize_with(attrs: &Attrs, announced: &[Prefix]) -> bool
     ensures { result ≡ is_oversize_with (Some attrs.now) announced.now }
 {
-    let front = add(23, attrs_len(attrs));
-    announced
-        .iter()
-        .any(|prefix| 4096 < add(front, prefix_len(*prefix)))
+    some_exceeds(add(23, attrs_len(attrs)), announced)
 }
 
 /// Whether some announced prefix couldn't be told, since a message with it alone has more than 4096 octets. No memory is

@@ -1,6 +1,6 @@
 //! Paths of AS numbers, and how AS_PATH and AS4_PATH are put together (RFC 6793 4.2.3).
 
-ghost use Rattle.std.specs.Prelude.{◌≡◌, ◌≤◌, ◌++◌, nat_le, IfOk, OnOk, Some, length, take};
+ghost use Rattle.std.specs.Prelude.{◌≡◌, ◌≤◌, ◌++◌, [], ◌∷◌, nat_le, IfOk, OnOk, Some, length, take};
 ghost use Rattle.std.specs.List.{list_any};
 ghost use Rattle.net_types.specs.declared.route.Segment.TheVariants.{Sequence};
 ghost use Rattle.net_types.specs.Paths.{asns, has_wide, hops, hops_of, joined, leading, merged_sequence, whole_path};
@@ -84,6 +84,7 @@ fn first_of(alloc: Global, count: usize, segment: &Segment) -> Result<Segment, M
 }
 
 /// The leading part of a path that counts so many: whole segments while they fit, and then the first numbers of a sequence.
+#[tactic(auto, using(crate::proofs::PathLists::leading_step))]
 fn leading(alloc: Global, count: usize, path: &[Segment]) -> Result<Vec<Segment>, Memory>
     ensures { IfOk result (λ v. v.items ≡ leading count path.now) }
 {
@@ -125,19 +126,29 @@ fn push_merged(out: &mut Vec<Segment>, asns: Asns, path: &[Segment]) -> Result<(
     }
 }
 
+/// A segment before a path.
+fn push_joined(out: &mut Vec<Segment>, last: Segment, path: &[Segment]) -> Result<(), Memory>
+    ensures { OnOk result (out.new.items ≡ out.old.items ++ joined (last ∷ []) path.now) }
+{
+    match last {
+        Segment::Sequence(asns) => push_merged(out, asns, path),
+        Segment::Set(asns) => {
+            out.push(Segment::Set(asns))?;
+            push_segments(out, path)
+        }
+    }
+}
+
 /// One path before another; the segments where they meet may become one.
+#[tactic(auto, using(crate::proofs::PathLists::joined_last))]
 fn joined(front: Vec<Segment>, back: Segments) -> Result<Segments, Memory>
     ensures { IfOk result (λ v. v ≡ joined front.items back) }
 {
     let mut all = front;
-    match all.pop() {
-        None => return Ok(back),
-        Some(Segment::Sequence(asns)) => push_merged(&mut all, asns, back.items())?,
-        Some(Segment::Set(asns)) => {
-            all.push(Segment::Set(asns))?;
-            push_segments(&mut all, back.items())?;
-        }
-    }
+    let Some(last) = all.pop() else {
+        return Ok(back);
+    };
+    push_joined(&mut all, last, back.items())?;
     Ok(Items::from_vec(all))
 }
 
