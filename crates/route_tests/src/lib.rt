@@ -1,18 +1,13 @@
-//! Tests of routes: participants, decisions, export rules, prefixes, tags and adverts.
+//! Tests of routes: prefixes, tags, adverts and what updates touch. Those of names, export rules and decisions are rows of
+//! `route_cases`.
 #![tactic(auto)]
 
 #[cfg(test)]
 mod adverts;
 #[cfg(test)]
-mod best_routes;
-#[cfg(test)]
 mod classes;
 #[cfg(test)]
-mod declared;
-#[cfg(test)]
 mod prefixes;
-#[cfg(test)]
-mod rules;
 #[cfg(test)]
 mod servers;
 #[cfg(test)]
