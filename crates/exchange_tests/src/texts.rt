@@ -1,2 +1,2 @@
-//! What no clause says of replies. Lines are rows of `line_cases`.
+//! What no clause says of replies.
 mod replies;

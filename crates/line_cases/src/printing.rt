@@ -48,7 +48,11 @@ fn push_port(text: &mut String, number: PortNo, ip: Ip, mac: Mac) -> Result<(), 
 /// An event that declares.
 fn push_declared(text: &mut String, event: &Event) -> Result<(), Memory> {
     match event {
-        Event::Exchange { base, size, capacity } => {
+        Event::Exchange {
+            base,
+            size,
+            capacity,
+        } => {
             text.push_str("exchange")?;
             push_address(text, *base)?;
             write!(text, " {size} {capacity}")?;
@@ -59,7 +63,12 @@ fn push_declared(text: &mut String, event: &Event) -> Result<(), Memory> {
             write!(text, " {asn}")?;
             push_address(text, *id)
         }
-        Event::Port { name, number, ip, mac } => {
+        Event::Port {
+            name,
+            number,
+            ip,
+            mac,
+        } => {
             push_named(text, "port", name)?;
             push_port(text, *number, *ip, *mac)
         }

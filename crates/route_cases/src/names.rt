@@ -79,7 +79,14 @@ fn declared(
 pub fn port(alloc: Global, names: &mut Registry, text: &str) -> Result<String, Memory> {
     match numbers(alloc, text)?.as_slice() {
         [owner, number, a, b, c, d, last] => {
-            declared(alloc, names, *owner, *number, address(*a, *b, *c, *d), *last)
+            declared(
+                alloc,
+                names,
+                *owner,
+                *number,
+                address(*a, *b, *c, *d),
+                *last,
+            )
         }
         _ => no_question(alloc),
     }
@@ -90,7 +97,10 @@ pub fn taken(alloc: Global, names: &Registry, text: &str) -> Result<String, Memo
     match numbers(alloc, text)?.as_slice() {
         [number, a, b, c, d, last] => {
             let ip = address(*a, *b, *c, *d);
-            yes_or_no(alloc, names.is_taken(PortNo(*number as u16), ip, mac(*last)))
+            yes_or_no(
+                alloc,
+                names.is_taken(PortNo(*number as u16), ip, mac(*last)),
+            )
         }
         _ => no_question(alloc),
     }

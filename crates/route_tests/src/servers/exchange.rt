@@ -1,6 +1,6 @@
 //! A small exchange: A with port 1, B with the ports 2 and 3, C with port 4.
 
-ghost use Rattle.std.specs.Prelude.{◌≡◌, ◌<◌, length, IfOk, OnOk};
+ghost use Rattle.std.specs.Prelude.{◌≡◌, ◌<◌, length, IfOk};
 ghost use Rattle.std.specs.FinMap.{empty};
 ghost use Rattle.route_server.specs.Served.{AreDeclared};
 
@@ -32,49 +32,29 @@ impl Who {
     }
 }
 
-fn add_participants(names: &mut Registry) -> Result<(), RegFault>
-    requires { length names.old.participants ≡ 0 }
-    ensures { OnOk result (length names.new.participants ≡ 3) }
-{
-    names.add_participant("A", 65001, Ip(0x01000001))?;
-    names.add_participant("B", 65002, Ip(0x01000002))?;
-    names.add_participant("C", 65003, Ip(0x01000003))?;
+/// Participants with their AS numbers and identifiers, and ports whose addresses end in their numbers.
+fn declare(names: &mut Registry) -> Result<(), RegFault> {
+    for (name, asn) in [("A", 65001), ("B", 65002), ("C", 65003)] {
+        names.add_participant(name, asn, Ip(asn))?;
+    }
+    for (owner, number) in [(0, 1), (1, 2), (1, 3), (2, 4)] {
+        if (owner as usize) < names.participants().len() {
+            let ip = Ip(0xAC100100 + number as u32);
+            let mac = Mac([2, 0, 0, 0, 0, number]);
+            names.add_port(Pid(owner), PortNo(number as u16), ip, mac)?;
+        }
+    }
     Ok(())
 }
 
-/// A port whose number is the last octet of its address 172.16.1.x and of its MAC.
-fn add_port(names: &mut Registry, owner: Who, number: u8) -> Result<(), RegFault>
-    requires { length names.old.participants ≡ 3 }
-    ensures { length names.new.participants ≡ 3 }
-{
-    let ip = Ip(0xAC100100 + number as u32);
-    let mac = Mac([2, 0, 0, 0, 0, number]);
-    names.add_port(owner.pid(), PortNo(number as u16), ip, mac)
-}
-
-fn add_ports(names: &mut Registry) -> Result<(), RegFault>
-    requires { length names.old.participants ≡ 3 }
-    ensures { length names.new.participants ≡ 3 }
-{
-    add_port(names, Who::A, 1)?;
-    add_port(names, Who::B, 2)?;
-    add_port(names, Who::B, 3)?;
-    add_port(names, Who::C, 4)
-}
-
-fn declare(names: &mut Registry) -> Result<(), RegFault>
-    requires { length names.old.participants ≡ 0 }
-    ensures { OnOk result (length names.new.participants ≡ 3) }
-{
-    add_participants(names)?;
-    add_ports(names)
-}
-
-fn three(alloc: Global) -> Result<Registry, RegFault>
+fn three(alloc: Global) -> Result<Registry, Fail>
     ensures { IfOk result (λ names. length names.participants ≡ 3) }
 {
     let mut names = Registry::new(alloc);
     declare(&mut names)?;
+    if names.participants().len() != 3 {
+        return Err(Fail::new("three are not declared"));
+    }
     Ok(names)
 }
 
