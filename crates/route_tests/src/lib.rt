@@ -1,5 +1,5 @@
-//! Tests of routes: prefixes, tags, adverts and what updates touch. Those of names, export rules and decisions are rows of
-//! `route_cases`.
+//! Tests of routes: prefixes, tags and adverts. Those of names, export rules, decisions and the route server are rows of
+//! `route_cases` and `server_cases`.
 #![tactic(auto)]
 
 #[cfg(test)]
@@ -8,8 +8,6 @@ mod adverts;
 mod classes;
 #[cfg(test)]
 mod prefixes;
-#[cfg(test)]
-mod servers;
 #[cfg(test)]
 mod sorted_lists;
 #[cfg(test)]
