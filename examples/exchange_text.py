@@ -4,6 +4,7 @@ A line is a dictionary with its number, its text and, where the text is one of t
 dictionary with the number, the line, the head and the details; `reply_text` gives its text again.
 """
 import ipaddress
+import sys
 
 # the parts behind each word: n is a number, t a token, h octets in hexadecimal, r the rest of the line
 LINES = {
@@ -134,6 +135,8 @@ def read_replies(octets, lines):
             replies[-1]["details"].append(detail_of(text))
         else:
             number, *words = text.split(" ")
+            if int(number) not in lines:
+                sys.exit(f"the input has no line {number} to which there is a reply")
             replies.append({"number": int(number), "line": lines[int(number)], "head": head_of(words), "details": []})
     return replies
 
