@@ -1,80 +1,41 @@
 //! A small exchange: A with port 1, B with the ports 2 and 3, C with port 4.
 
-ghost use Rattle.std.specs.Prelude.{◌≡◌, ◌<◌, length, IfOk, OnOk};
+ghost use Rattle.std.specs.Prelude.{◌≡◌, ◌<◌, length, IfOk};
 ghost use Rattle.std.specs.FinMap.{empty};
 ghost use Rattle.route_server.specs.Served.{AreDeclared};
 
-use super::said::{Route, Said, prefix, update};
-use super::told::{bests, fault, prefixes, proposed, push_signature};
+use crate::said::{Said, Who, prefix, update};
+use crate::told::{bests, fault, prefixes, proposed, push_signature};
+use crate::wrong::Wrong;
 use export_rules::{Bound, parse_rules};
 use net_types::{Ip, Mac, Memory, Pid, PortNo};
 use registry::{RegFault, Registry};
 use route_server::RouteServer;
 use std::alloc::Global;
-use std::test::Fail;
 
-#[derive(Clone, Copy)]
-pub enum Who {
-    A,
-    B,
-    C,
-}
-
-impl Who {
-    pub fn pid(self) -> Pid
-        ensures { result.0 < 3 }
-    {
-        match self {
-            Who::A => Pid(0),
-            Who::B => Pid(1),
-            Who::C => Pid(2),
+/// Participants with their AS numbers and identifiers, and ports whose addresses end in their numbers.
+fn declare(names: &mut Registry) -> Result<(), RegFault> {
+    for (name, asn) in [("A", 65001), ("B", 65002), ("C", 65003)] {
+        names.add_participant(name, asn, Ip(asn))?;
+    }
+    for (owner, number) in [(0, 1), (1, 2), (1, 3), (2, 4)] {
+        if (owner as usize) < names.participants().len() {
+            let ip = Ip(0xAC100100 + number as u32);
+            let mac = Mac([2, 0, 0, 0, 0, number]);
+            names.add_port(Pid(owner), PortNo(number as u16), ip, mac)?;
         }
     }
-}
-
-fn add_participants(names: &mut Registry) -> Result<(), RegFault>
-    requires { length names.old.participants ≡ 0 }
-    ensures { OnOk result (length names.new.participants ≡ 3) }
-{
-    names.add_participant("A", 65001, Ip(0x01000001))?;
-    names.add_participant("B", 65002, Ip(0x01000002))?;
-    names.add_participant("C", 65003, Ip(0x01000003))?;
     Ok(())
 }
 
-/// A port whose number is the last octet of its address 172.16.1.x and of its MAC.
-fn add_port(names: &mut Registry, owner: Who, number: u8) -> Result<(), RegFault>
-    requires { length names.old.participants ≡ 3 }
-    ensures { length names.new.participants ≡ 3 }
-{
-    let ip = Ip(0xAC100100 + number as u32);
-    let mac = Mac([2, 0, 0, 0, 0, number]);
-    names.add_port(owner.pid(), PortNo(number as u16), ip, mac)
-}
-
-fn add_ports(names: &mut Registry) -> Result<(), RegFault>
-    requires { length names.old.participants ≡ 3 }
-    ensures { length names.new.participants ≡ 3 }
-{
-    add_port(names, Who::A, 1)?;
-    add_port(names, Who::B, 2)?;
-    add_port(names, Who::B, 3)?;
-    add_port(names, Who::C, 4)
-}
-
-fn declare(names: &mut Registry) -> Result<(), RegFault>
-    requires { length names.old.participants ≡ 0 }
-    ensures { OnOk result (length names.new.participants ≡ 3) }
-{
-    add_participants(names)?;
-    add_ports(names)
-}
-
-fn three(alloc: Global) -> Result<Registry, RegFault>
+fn three(alloc: Global) -> Result<Registry, Wrong>
     ensures { IfOk result (λ names. length names.participants ≡ 3) }
 {
     let mut names = Registry::new(alloc);
     declare(&mut names)?;
+    if names.participants().len() != 3 {
+        return Err(Wrong::Row);
+    }
     Ok(names)
 }
 
@@ -97,7 +58,7 @@ fn run(
     names: &Registry,
     from: Who,
     said: Said,
-) -> Result<String, Fail>
+) -> Result<String, Wrong>
     requires known { length names.now.participants ≡ 3 }
     requires declared { AreDeclared names.now server.old.routes }
     ensures declared { AreDeclared names.now server.new.routes }
@@ -114,8 +75,13 @@ fn run(
     Ok(touched)
 }
 
-/// A server after one update.
-fn server_after(alloc: Global, names: &Registry, from: Who, said: Said) -> Result<RouteServer, Fail>
+/// A server after one update, of a participant.
+fn server_after(
+    alloc: Global,
+    names: &Registry,
+    from: Who,
+    said: Said,
+) -> Result<RouteServer, Wrong>
     requires { length names.now.participants ≡ 3 }
     ensures rules { IfOk result (λ server. length server.rules ≡ 3) }
     ensures declared { IfOk result (λ server. AreDeclared names.now server.routes) }
@@ -131,7 +97,7 @@ fn with_signature(
     server: &RouteServer,
     names: &Registry,
     told: String,
-) -> Result<String, Fail>
+) -> Result<String, Wrong>
     requires { AreDeclared names.now server.now.routes }
 {
     let mut told = told;
@@ -145,7 +111,7 @@ fn second(
     names: &Registry,
     from: Who,
     said: Said,
-) -> Result<String, Fail>
+) -> Result<String, Wrong>
     requires known { length names.now.participants ≡ 3 }
     requires declared { AreDeclared names.now server.old.routes }
 {
@@ -158,7 +124,7 @@ fn after_in(
     names: &Registry,
     first: (Who, Said),
     then: (Who, Said),
-) -> Result<String, Fail>
+) -> Result<String, Wrong>
     requires { length names.now.participants ≡ 3 }
 {
     let mut server = server_after(alloc, names, first.0, first.1)?;
@@ -166,59 +132,56 @@ fn after_in(
 }
 
 /// What the second of two updates touches, and then the signature of 10.0.0.0/8.
-pub fn after(alloc: Global, first: (Who, Said), then: (Who, Said)) -> Result<String, Fail> {
+pub fn after(alloc: Global, first: (Who, Said), then: (Who, Said)) -> Result<String, Wrong> {
     let names = three(alloc)?;
     after_in(alloc, &names, first, then)
 }
 
-fn bests_in(alloc: Global, names: &Registry, of_b: Route, who: Who) -> Result<String, Fail>
+fn bests_in(alloc: Global, names: &Registry, first: (Who, Said), who: Who) -> Result<String, Wrong>
     requires { length names.now.participants ≡ 3 }
 {
-    let server = server_after(alloc, names, Who::B, Said::Here(of_b, 10))?;
+    let server = server_after(alloc, names, first.0, first.1)?;
     bests(alloc, &server, names, who.pid())
 }
 
-/// A participant's best routes after B's for 10.0.0.0/8.
-pub fn bests_after(alloc: Global, of_b: Route, who: Who) -> Result<String, Fail> {
+/// A participant's best routes after an update.
+pub fn bests_after(alloc: Global, first: (Who, Said), who: Who) -> Result<String, Wrong> {
     let names = three(alloc)?;
-    bests_in(alloc, &names, of_b, who)
+    bests_in(alloc, &names, first, who)
 }
 
-fn down_in(alloc: Global, names: &Registry, of_b: Route) -> Result<String, Fail>
+fn down_in(alloc: Global, names: &Registry, first: (Who, Said)) -> Result<String, Wrong>
     requires { length names.now.participants ≡ 3 }
 {
-    let server = server_after(alloc, names, Who::B, Said::Here(of_b, 10))?;
+    let server = server_after(alloc, names, first.0, first.1)?;
     let proposal = server.propose_down(names, Pid(1))?;
     Ok(proposed(alloc, &proposal)?)
 }
 
-/// What is touched where B, with a route for 10.0.0.0/8, is down, and the signature then.
-pub fn down(alloc: Global, of_b: Route) -> Result<String, Fail> {
+/// What is touched where B is down after an update, and the first signature then.
+pub fn down(alloc: Global, first: (Who, Said)) -> Result<String, Wrong> {
     let names = three(alloc)?;
-    down_in(alloc, &names, of_b)
+    down_in(alloc, &names, first)
 }
 
 /// Rules that give nothing to anybody.
-fn nothing(alloc: Global, names: &Registry) -> Result<Bound, Fail> {
+fn nothing(alloc: Global, names: &Registry) -> Result<Bound, Wrong> {
     let Ok(rules) = parse_rules(alloc, "deny * *") else {
-        return Err(Fail::new("the rules are refused"));
+        return Err(Wrong::Row);
     };
-    match rules.bind(names) {
-        Ok(bound) => Ok(bound),
-        Err(_) => Err(Fail::new("a name is not declared")),
-    }
+    rules.bind(names).map_err(|_| Wrong::Row)
 }
 
-fn closed_in(alloc: Global, names: &Registry, of_b: Route) -> Result<String, Fail>
+fn closed_in(alloc: Global, names: &Registry, first: (Who, Said)) -> Result<String, Wrong>
     requires { length names.now.participants ≡ 3 }
 {
-    let server = server_after(alloc, names, Who::B, Said::Here(of_b, 10))?;
+    let server = server_after(alloc, names, first.0, first.1)?;
     let proposal = server.propose_rules(names, Pid(1), nothing(alloc, names)?)?;
     Ok(proposed(alloc, &proposal)?)
 }
 
-/// What is touched where B, with a route for 10.0.0.0/8, gives nothing to anybody, and the signature then.
-pub fn closed(alloc: Global, of_b: Route) -> Result<String, Fail> {
+/// What is touched where B gives nothing to anybody after an update, and the first signature then.
+pub fn closed(alloc: Global, first: (Who, Said)) -> Result<String, Wrong> {
     let names = three(alloc)?;
-    closed_in(alloc, &names, of_b)
+    closed_in(alloc, &names, first)
 }

@@ -5,11 +5,30 @@ ghost use Rattle.net_types.specs.Paths.{hops_of};
 ghost use Rattle.net_types.specs.SoundUpdates.{AreSoundAttrs, Each, IsSoundSegment, IsSoundNextHop, IsSoundUpdate};
 ghost use Rattle.net_types.specs.UpdateSpelling.{is_before};
 
+use crate::wrong::Wrong;
 use net_types::{
-    Asns, Attrs, Ip, Items, Memory, Numbers, Prefix, Prefixes, Segment, Segments, Update,
+    Asns, Attrs, Ip, Items, Memory, Numbers, Pid, Prefix, Prefixes, Segment, Segments, Update,
 };
 use std::alloc::Global;
-use std::test::Fail;
+
+#[derive(Clone, Copy)]
+pub enum Who {
+    A,
+    B,
+    C,
+}
+
+impl Who {
+    pub fn pid(self) -> Pid
+        ensures { result.0 < 3 }
+    {
+        match self {
+            Who::A => Pid(0),
+            Who::B => Pid(1),
+            Who::C => Pid(2),
+        }
+    }
+}
 
 /// A path, by its AS numbers.
 #[derive(Clone, Copy)]
@@ -205,7 +224,7 @@ fn moving(alloc: Global, route: Route, gone: Prefix, here: Prefix) -> Result<Upd
 }
 
 /// The update. Of two prefixes the first has to be the lower one.
-pub fn update(alloc: Global, said: Said) -> Result<Update, Fail>
+pub fn update(alloc: Global, said: Said) -> Result<Update, Wrong>
     ensures sound { IfOk result (λ update. IsSoundUpdate update) }
     ensures short { IfOk result (λ update. IfSome update.attrs (λ a. sum_by hops_of a.path < 2 ^ 32)) }
 {
@@ -215,14 +234,14 @@ pub fn update(alloc: Global, said: Said) -> Result<Update, Fail>
         Said::Two(route, first, second) => {
             let (first, second) = (prefix(first)?, prefix(second)?);
             if first.address.0 >= second.address.0 {
-                return Err(Fail::new("the first one is not lower"));
+                return Err(Wrong::Row);
             }
             Ok(announcing_two(alloc, route, first, second)?)
         }
         Said::Moved(route, gone, here) => {
             let (gone, here) = (prefix(gone)?, prefix(here)?);
             if gone.address.0 >= here.address.0 {
-                return Err(Fail::new("the first one is not lower"));
+                return Err(Wrong::Row);
             }
             Ok(moving(alloc, route, gone, here)?)
         }

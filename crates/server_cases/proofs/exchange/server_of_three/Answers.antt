@@ -3,7 +3,7 @@ use Rattle.std.specs.FinMap.{FinMap, empty, get, get-empty}
 use Rattle.std.specs.Prelude.{IfSome, Option}
 use Rattle.net_types.specs.Keys.{route_cmp}
 use Rattle.net_types.specs.declared.route.Attrs.{Attrs}
-use Rattle.route_tests.proofs.servers.exchange.server_of_three.Goals as goal
+use Rattle.server_cases.proofs.exchange.server_of_three.Goals as goal
 
 pub returns-clause-declared : goal.returns-clause-declared
 returns-clause-declared c = record {

@@ -3,12 +3,12 @@
 ghost use Rattle.std.specs.Prelude.{◌<◌, length};
 ghost use Rattle.route_server.specs.Served.{AreDeclared};
 
-use super::said::prefix;
+use crate::said::prefix;
+use crate::wrong::Wrong;
 use net_types::{Attrs, Memory, Pid, Prefix, Sig};
 use registry::Registry;
 use route_server::{Proposal, RouteFault, RouteServer};
 use std::alloc::{AllocError, Global};
-use std::test::Fail;
 
 fn letter(who: Pid) -> &'static str {
     match who.0 {
@@ -80,7 +80,7 @@ pub fn bests(
     server: &RouteServer,
     names: &Registry,
     who: Pid,
-) -> Result<String, Fail>
+) -> Result<String, Wrong>
     requires { AreDeclared names.now server.now.routes }
 {
     let all = server.bests(names, who)?.len();
@@ -90,10 +90,10 @@ pub fn bests(
     }
 }
 
-pub fn fault(alloc: Global, why: RouteFault) -> Result<String, Fail> {
+pub fn fault(alloc: Global, why: RouteFault) -> Result<String, Wrong> {
     match why {
         RouteFault::FirstAs => Ok(String::from_str(alloc, "first AS")?),
         RouteFault::NextHop => Ok(String::from_str(alloc, "next hop")?),
-        RouteFault::Memory => Err(Fail::new("want of memory")),
+        RouteFault::Memory => Err(Wrong::Memory),
     }
 }
