@@ -10,6 +10,7 @@ use Rattle.net_types.specs.declared.attribute.Attribute.{Attribute}
 use Rattle.net_types.specs.declared.prefix.Prefix.{Prefix}
 use Rattle.net_types.specs.declared.route.Attrs.{Attrs}
 use Rattle.net_types.specs.declared.update.Update.{Update}
+use Rattle.bgp_update.proofs.PathLists.{path_there}
 use Rattle.bgp_update.proofs.UnknownLists.{moved_members, rising_moved}
 use Rattle.bgp_update.specs.declared.fault.UpdateFault.{UpdateFault}
 use Rattle.bgp_update.specs.declared.fault.UpdateFault.TheVariants.{Bad, Memory}
@@ -42,7 +43,7 @@ made withdrawn attrs announced = record { withdrawn = withdrawn; attrs = attrs; 
 
 complete_of : (s : Said) (ps : List Prefix) (a : Attrs) → AreSorted s a → is_complete s ps ≡ true
 complete_of s [] a h = refl
-complete_of s (p ∷ ps) a h = rw (h.origin, h.path, h.next_hop) refl
+complete_of s (p ∷ ps) a h = rw (h.origin, h.next_hop, sym (path_there s), h.path) refl
 
 attrs_of : (s : Said) (ps : List Prefix) (a : Attrs) → (ps ≡ [] → ⊥) → AreSaid s a → AreAttrs s ps (Some a)
 attrs_of s [] a some h = absurd (some refl)

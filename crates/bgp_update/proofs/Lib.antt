@@ -7,6 +7,7 @@ mod PrefixLists
 mod UnknownLists
 mod Finished
 mod OneUpdate
+mod PathLists
 mod Decoded
 mod LengthSums
 mod SpelledAttributes

@@ -1,15 +1,16 @@
 -- The attributes of a message have types of their own.
-use Rattle.std.proofs.Common.{◌≡◌, ℕ, Bool, true, false, cond, eqb, List, [], ◌∷◌, length, Result, Ok, refl, sym, ap, ◌∙◌, subst, arith}
+use Rattle.std.proofs.Common.{◌≡◌, ℕ, Bool, true, false, cond, eqb, List, [], ◌∷◌, length, Result, Ok, refl, sym, ap, ◌∙◌, subst, inl, inr, arith}
 use Rattle.std.specs.Prelude.{Option, Some, None}
 use Rattle.std.proofs.lemmas.Bool.{eqb-true, not-true}
 use Rattle.grammar.specs.Formats.{AllSpell, ◌>>=◌}
 use Rattle.grammar.proofs.Blocks.{AllHold, all_hold}
 use Rattle.grammar.proofs.FormatExact.{octet_first}
 use Rattle.net_types.specs.AttributeTypes.{type_number, type_of}
-use Rattle.net_types.specs.UpdateFormat.{attribute, known_value, no_types, number_of, unknown_value, value, with_type}
+use Rattle.net_types.specs.UpdateFormat.{IsWide, attribute, known_value, no_types, number_of, unknown_value, value, wide_value, with_type}
 use Rattle.net_types.specs.declared.attribute.Attribute.{Attribute}
 use Rattle.net_types.specs.declared.attribute.AttributeType.{AttributeType}
 use Rattle.net_types.specs.declared.attribute.AttributeType.TheVariants as types
+use Rattle.net_types.specs.declared.route.Segment.{Segment}
 use Rattle.net_types.specs.declared.update.Fault.{Fault}
 use Rattle.bgp_update.proofs.UpdateExact.{attribute_exact}
 use Rattle.bgp_update.specs.Answers.{AreNew}
@@ -26,7 +27,17 @@ none_is n u e = cc
 pub type_number_of : (n : ℕ) (u : AttributeType) → type_of n ≡ Some u → type_number u ≡ n
 type_number_of n u h =
     pick n 1 types.Origin u _ _ refl refl (pick n 2 types.AsPath u _ _ refl refl (pick n 3 types.NextHop u _ _ refl refl (pick n 4 types.MultiExitDisc u _ _ refl refl
-    (pick n 5 types.LocalPref u _ _ refl refl (pick n 6 types.AtomicAggregate u _ _ refl refl (pick n 7 types.Aggregator u _ _ refl refl (pick n 8 types.Communities u None _ refl refl (none_is n u)))))))) h
+    (pick n 5 types.LocalPref u _ _ refl refl (pick n 6 types.AtomicAggregate u _ _ refl refl (pick n 7 types.Aggregator u _ _ refl refl (pick n 8 types.Communities u _ _ refl refl
+    (pick n 17 types.As4Path u None _ refl refl (none_is n u))))))))) h
+
+value_17 : (segments : List Segment) → number_of (wide_value segments) ≡ 17
+value_17 [] = refl
+value_17 (s ∷ segments) = refl
+
+-- an AS4_PATH has its type, whether it is a path or ignored
+wide_number : (inner : List ℕ) (x : Attribute) → IsWide inner x → number_of x ≡ 17
+wide_number inner x (inl w) = ap number_of w.2 ∙ value_17 w.0
+wide_number inner x (inr w) = ap number_of w.2
 
 known_number : (type : AttributeType) (partial : Bool) (inner b : List ℕ) (x : Attribute) → (known_value type partial inner).Spells b x → number_of x ≡ type_number type
 unfolding ◌>>=◌
@@ -38,6 +49,7 @@ known_number types.LocalPref partial inner b x sp = ap number_of sp.1
 known_number types.AtomicAggregate partial inner b x sp = ap number_of sp.1
 known_number types.Aggregator partial inner b x sp = ap number_of sp.1
 known_number types.Communities partial inner b x sp = ap number_of sp.1
+known_number types.As4Path partial inner b x sp = wide_number inner x sp.1
 
 unknown_number : (transitive : Bool) (number : ℕ) (inner : List ℕ) → number_of (unknown_value transitive number inner) ≡ number
 unknown_number true number inner = refl

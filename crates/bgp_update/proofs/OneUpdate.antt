@@ -43,7 +43,7 @@ one_ordered xs ys ps a b = rising_unique is_before before_itself before_trans xs
 one_without : (xs ys ps qs : List Prefix) → IsOrderedWithout xs ps qs → IsOrderedWithout ys ps qs → xs ≡ ys
 one_without xs ys ps qs a b = rising_unique is_before before_itself before_trans xs ys a.rising b.rising (record { onto = λ p m. b.back p (a.onto p m); back = λ p m. a.back p (b.onto p m) })
 
-some_of : {X : Type 0} (x y : X) → Some x ≡ Some y → x ≡ y
+pub some_of : {X : Type 0} (x y : X) → Some x ≡ Some y → x ≡ y
 some_of x y e = cc
 
 one_said : (s : Said) (a b : Attrs) → AreSaid s a → AreSaid s b → a ≡ b

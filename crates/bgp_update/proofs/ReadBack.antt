@@ -16,8 +16,10 @@ use Rattle.net_types.specs.declared.attribute.Attribute.{Attribute}
 use Rattle.net_types.specs.declared.prefix.Prefix.{Prefix}
 use Rattle.net_types.specs.declared.route.Attrs.{Attrs}
 use Rattle.net_types.specs.declared.update.Update.{Update}
+use Rattle.bgp_update.proofs.LengthSums.{message_length}
+use Rattle.bgp_update.proofs.PathLists.{path_there}
 use Rattle.bgp_update.proofs.SpelledAttributes.{IsTaken, all_spell, octets_of, then_spells, two_spells}
-use Rattle.bgp_update.proofs.SpelledMessages.{are_said, attrs_new, attrs_taken, optional_of, optional_written, prefixes_spell}
+use Rattle.bgp_update.proofs.SpelledMessages.{are_said, attributes_of, attrs_new, attrs_taken, optional_of, optional_written, prefixes_spell}
 use Rattle.bgp_update.specs.Answers.{AreNew, head_of, parts_of}
 use Rattle.bgp_update.specs.RoundTrip.{FitOptional}
 
@@ -36,7 +38,7 @@ new (p ∷ ps) (Some a) h = attrs_new a h
 complete : (ps : List Prefix) (at : Option Attrs) → HasSoundAttrs ps at → is_complete (said (optional_of at)) ps ≡ true
 complete [] at h = refl
 complete (p ∷ ps) None h = absurd h
-complete (p ∷ ps) (Some a) h = let s = are_said a h in rw (s.origin, s.path, s.next_hop) refl
+complete (p ∷ ps) (Some a) h = let s = are_said a h in rw (s.origin, s.next_hop, sym (path_there (said (attributes_of a))), s.path) refl
 
 given : (ps : List Prefix) (at : Option Attrs) → HasSoundAttrs ps at → AreAttrs (said (optional_of at)) ps at
 given [] None h = tt
@@ -46,14 +48,8 @@ given (p ∷ ps) (Some a) h = are_said a h
 
 -- ---- the message
 
-seven : (m t k w l a n : List ℕ) → length (m ++ t ++ k ++ w ++ l ++ a ++ n) ≡ length m + length t + length k + length w + length l + length a + length n
-seven m t k w l a n = simp length-append refl
-
 front : (m t k w l a : List ℕ) → m ++ (t ++ (k ++ (w ++ (l ++ (a ++ []))))) ≡ m ++ t ++ k ++ w ++ l ++ a
 front m t k w l a = simp (append_assoc, append-nil) refl
-
-pub message_length : (w a n : List ℕ) → length (update_message w a n) ≡ 23 + length w + length a + length n
-message_length w a n = seven marker (word (23 + length w + length a + length n)) (2 ∷ word (length w)) w (word (length a)) a n ∙ omega arith
 
 head_spells : (n : ℕ) (w a : List ℕ) (ps : List Prefix) (xs : List Attribute) → n ≤ 4096 → 23 + length w + length a ≤ n → ItemsSpell prefix w ps → AllSpell attribute with_type no_types a xs
     → (head n).Spells (marker ++ (word n ++ ((2 ∷ word (length w)) ++ (w ++ (word (length a) ++ (a ++ [])))))) (head_of ps xs)

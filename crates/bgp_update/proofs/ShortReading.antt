@@ -1,19 +1,22 @@
--- The canonical message of what octets spell is no longer than they are.
-use Rattle.std.proofs.Common.{◌≡◌, ℕ, ◌+◌, ◌*◌, ◌/◌, ◌<◌, ◌≤◌, Bool, true, false, not, cond, leb, eqb, List, [], ◌∷◌, ◌++◌, length, take, drop, flat_map, refl, sym, ap, subst, ◌∙◌, inl, inr, arith}
-use Rattle.std.specs.Prelude.{Option, Some, None, Result, Ok, Err, IfOk, ◌&&◌}
+-- The canonical message of what octets spell is no longer than they are, where no AS number of the path is wide.
+use Rattle.std.proofs.Common.{◌≡◌, ℕ, ◌+◌, ◌-◌, ◌*◌, ◌/◌, ◌<◌, ◌≤◌, Bool, true, false, not, cond, leb, ltb, eqb, List, [], ◌∷◌, ◌++◌, length, take, drop, flat_map, refl, sym, ap, subst, ◌∙◌, inl, inr, arith}
+use Rattle.std.specs.Prelude.{Option, Some, None, Result, Ok, Err, IfOk, IfSome, ◌&&◌}
 use Rattle.std.specs.List.{fold}
+use Rattle.std.specs.Option.{option_map}
 use Rattle.std.proofs.lemmas.Bool.{and_parts, cond_both, eqb-true, ne_eqb, leb-true, leb-false}
 use Rattle.std.proofs.lemmas.List.{length-append, length-take}
+use Rattle.std.proofs.lemmas.List.Sums.{sum_by-cons}
 use Rattle.grammar.specs.Formats.{AllSpell, ItemsSpell, ◌>>=◌}
 use Rattle.net_types.specs.AttributeTypes.{has_length, type_length}
 use Rattle.net_types.specs.Octets.{address_octets, word}
+use Rattle.net_types.specs.Paths.{has_wide, hops, hops_of, joined, leading, merged_sequence, whole_path}
 use Rattle.net_types.specs.Sets.{IsRising, Member}
-use Rattle.net_types.specs.UpdateFormat.{address, Head, Parts, attribute, head, known_value, longs, message, prefix, segment, segment_of, unknown_value, value, value_length, with_type, words}
+use Rattle.net_types.specs.UpdateFormat.{address, Head, IsWide, Parts, attribute, head, known_value, longs, message, prefix, segment, segment_by, segment_of, unknown_value, value, value_length, wide_segment, wide_value, with_type, words}
 use Rattle.grammar.specs.Numbers.{big_endian, two_octets}
 use Rattle.net_types.specs.UpdateSpelling.{AreAttrs, AreSaid, IsUpdateOf, is_before, is_type_before}
 use Rattle.net_types.specs.UpdateValue.{Said, nothing_said, said, with_attribute}
 use Rattle.net_types.specs.Updates as written
-use Rattle.net_types.specs.Updates.{aggregator_octets, atomic_octets, attrs_octets, canonical, communities_octets, long, med_octets, optional_attrs_octets, passed_on, prefix_octets, prefixes_octets, segment_octets, unknown_octets}
+use Rattle.net_types.specs.Updates.{aggregator_octets, atomic_octets, attrs_octets, canonical, communities_octets, long, med_octets, optional_attrs_octets, passed_on, prefix_octets, prefixes_octets, segment_octets, unknown_octets, wide_octets, wide_segment_octets}
 use Rattle.net_types.specs.declared.address.Ip.{Ip}
 use Rattle.net_types.specs.declared.attribute.Attribute.{Attribute}
 use Rattle.net_types.specs.declared.attribute.Attribute.TheVariants as attributes
@@ -27,10 +30,10 @@ use Rattle.net_types.specs.declared.route.Unknown.{Unknown}
 use Rattle.net_types.specs.declared.update.Fault.TheVariants as faults
 use Rattle.net_types.specs.declared.update.Update.{Update}
 use Rattle.bgp_update.proofs.Decoded.{spells_said}
-use Rattle.bgp_update.proofs.LengthSums.{attribute_length, attrs_length, longs_len, words_len}
-use Rattle.bgp_update.proofs.OneUpdate.{before_itself, type_itself}
-use Rattle.bgp_update.proofs.ReadBack.{message_length}
-use Rattle.bgp_update.proofs.SoundReading.{AreOctets, behind, front, words_count}
+use Rattle.bgp_update.proofs.LengthSums.{attribute_length, attrs_length, longs_len, message_length, shorts_len}
+use Rattle.bgp_update.proofs.OneUpdate.{before_itself, some_of, type_itself}
+use Rattle.bgp_update.proofs.PathLists.{joined_more}
+use Rattle.bgp_update.proofs.SoundReading.{AreOctets, behind, front, longs_count, words_count}
 use Rattle.bgp_update.proofs.SpelledAttributes.{octets_of}
 use Rattle.bgp_update.specs.Answers.{IsDecoded}
 use Rattle.bgp_update.specs.declared.fault.UpdateFault.{UpdateFault}
@@ -91,28 +94,35 @@ prefixes_size s (p ∷ ps) sp =
 
 -- ---- values
 
-segment_len : (kind : ℕ) (ns : List ℕ) → length (segment_octets (segment_of kind ns)) ≡ 2 + 2 * length ns
+segment_len : (kind : ℕ) (ns : List ℕ) → length (segment_octets (segment_of kind ns)) ≡ 2 + length ns * 2
 segment_len kind ns = go (eqb kind 1)
   where
-    go : (b : Bool) → length (segment_octets (cond b (Set ns) (Sequence ns))) ≡ 2 + 2 * length ns
-    go true = omega (arith, words_len ns)
-    go false = omega (arith, words_len ns)
+    go : (b : Bool) → length (segment_octets (cond b (Set ns) (Sequence ns))) ≡ 2 + length ns * 2
+    go true = omega (arith, shorts_len ns)
+    go false = omega (arith, shorts_len ns)
 
-segment_size : (s : List ℕ) (x : Segment) → segment.Spells s x → length (segment_octets x) ≤ length s
+wide_segment_len : (kind : ℕ) (ns : List ℕ) → length (wide_segment_octets (segment_of kind ns)) ≡ 2 + length ns * 4
+wide_segment_len kind ns = go (eqb kind 1)
+  where
+    go : (b : Bool) → length (wide_segment_octets (cond b (Set ns) (Sequence ns))) ≡ 2 + length ns * 4
+    go true = omega (arith, longs_len ns)
+    go false = omega (arith, longs_len ns)
+
+segment_size : (width : ℕ) (numbers : List ℕ → List ℕ) (octets : Segment → List ℕ) → ((kind : ℕ) (ns : List ℕ) → length (octets (segment_of kind ns)) ≡ 2 + length ns * width)
+    → ((n : ℕ) (t : List ℕ) → length t ≡ n * width → length (numbers t) ≡ n) → (s : List ℕ) (x : Segment) → (segment_by width numbers).Spells s x → length (octets x) ≤ length s
 unfolding ◌>>=◌
-segment_size s x sp =
+segment_size width numbers octets octets_len numbers_count s x sp =
     let sp1 = sp.5 in
     let sp2 = sp1.5 in
     let sp3 = sp2.5 in
     let sp4 = sp3.5 in
-    let len : length (words sp4.0) ≡ sp2.2 = words_count sp2.2 sp4.0 sp4.4.0 in
-    let is : x ≡ segment_of sp.2 (words sp4.0) = sp4.5.1 ∙ ap (λ (t : List ℕ). segment_of sp.2 (words t)) sp4.4.1 in
-    let size : length (segment_octets x) ≡ 2 + 2 * length (words sp4.0) = ap (λ (y : Segment). length (segment_octets y)) is ∙ segment_len sp.2 (words sp4.0) in
+    let len : length (numbers sp4.0) ≡ sp2.2 = numbers_count sp2.2 sp4.0 sp4.4.0 in
+    let is : x ≡ segment_of sp.2 (numbers sp4.0) = sp4.5.1 ∙ ap (λ (t : List ℕ). segment_of sp.2 (numbers t)) sp4.4.1 in
+    let same : length (octets x) ≡ 2 + length sp4.0 =
+    ap (λ (y : Segment). length (octets y)) is ∙ octets_len sp.2 (numbers sp4.0) ∙ ap (λ (n : ℕ). 2 + n * width) len ∙ ap (λ (n : ℕ). 2 + n) (sym sp4.4.0) in
     omega (
       arith,
-      size,
-      len,
-      sp4.4.0,
+      same,
       ap length sp.4,
       ap length sp2.4,
       ap length sp.3 ∙ length-append sp.0 sp.1,
@@ -126,7 +136,13 @@ path_size : (s : List ℕ) (xs : List Segment) → ItemsSpell segment s xs → s
 path_size s [] sp = omega arith
 path_size s (x ∷ xs) sp =
     let later = path_size sp.1 xs sp.4 in
-    omega (arith, later, segment_size sp.0 x sp.3, ap length sp.2 ∙ length-append sp.0 sp.1, length-append (segment_octets x) (flat_map segment_octets xs))
+    omega (arith, later, segment_size 2 words segment_octets segment_len words_count sp.0 x sp.3, ap length sp.2 ∙ length-append sp.0 sp.1, length-append (segment_octets x) (flat_map segment_octets xs))
+
+wide_path_size : (s : List ℕ) (xs : List Segment) → ItemsSpell wide_segment s xs → size wide_segment_octets xs ≤ length s
+wide_path_size s [] sp = omega arith
+wide_path_size s (x ∷ xs) sp =
+    let later = wide_path_size sp.1 xs sp.4 in
+    omega (arith, later, segment_size 4 longs wide_segment_octets wide_segment_len longs_count sp.0 x sp.3, ap length sp.2 ∙ length-append sp.0 sp.1, length-append (wide_segment_octets x) (flat_map wide_segment_octets xs))
 
 longs_size : (s : List ℕ) → 4 * length (longs s) ≤ length s
 longs_size [] = omega arith
@@ -148,6 +164,14 @@ framed_more m n le =
 written_size : (flags number n : ℕ) (inner : List ℕ) → length inner ≤ n → length (written.attribute flags number inner) ≤ framed n
 written_size flags number n inner le = subst (λ (k : ℕ). k ≤ framed n) (sym (attribute_length flags number inner)) (framed_more (length inner) n le)
 
+wide_value_size : (ss : List Segment) (n : ℕ) → size wide_segment_octets ss ≤ n → length (octets_of (wide_value ss)) ≤ framed n
+wide_value_size [] n le = omega arith
+wide_value_size (s ∷ ss) n le = written_size 192 17 n (flat_map wide_segment_octets (s ∷ ss)) le
+
+is_wide_size : (inner : List ℕ) (x : Attribute) → IsWide inner x → length (octets_of x) ≤ framed (length inner)
+is_wide_size inner x (inl w) = subst (λ (y : Attribute). length (octets_of y) ≤ framed (length inner)) (sym w.2) (wide_value_size w.0 (length inner) (wide_path_size inner w.0 w.1))
+is_wide_size inner x (inr w) = subst (λ (y : Attribute). length (octets_of y) ≤ framed (length inner)) (sym w.2) (omega arith)
+
 known_size : (type : AttributeType) (partial : Bool) (inner b : List ℕ) (x : Attribute) → has_length (type_length type) (length inner) ≡ true → (known_value type partial inner).Spells b x → length (octets_of x) ≤ framed (length inner)
 unfolding ◌>>=◌
 known_size types.Origin partial inner b x len sp = let n : length inner ≡ 1 = eqb-true _ _ len in subst (λ (y : Attribute). length (octets_of y) ≤ framed (length inner)) (sym sp.5.1) (written_size 64 1 (length inner) (big_endian inner ∷ []) (omega (arith, n)))
@@ -161,6 +185,7 @@ known_size types.Aggregator partial inner b x len sp =
     subst (λ (y : Attribute). length (octets_of y) ≤ framed (length inner)) (sym sp.1) (written_size (passed_on partial) 7 (length inner) (word (big_endian (take 2 inner)) ++ address_octets (address (drop 2 inner))) (omega (arith, n)))
 known_size types.Communities partial inner b x len sp =
     subst (λ (y : Attribute). length (octets_of y) ≤ framed (length inner)) (sym sp.1) (written_size (passed_on partial) 8 (length inner) (flat_map long (longs inner)) (omega (arith, longs_len (longs inner), longs_size inner)))
+known_size types.As4Path partial inner b x len sp = is_wide_size inner x sp.1
 
 unknown_size : (transitive : Bool) (number : ℕ) (inner : List ℕ) → length (octets_of (unknown_value transitive number inner)) ≤ framed (length inner)
 unknown_size true number inner = written_size 224 number (length inner) inner (omega arith)
@@ -227,12 +252,16 @@ abbrev path_octets : Option (List Segment) → List ℕ
 path_octets None = []
 path_octets (Some ss) = written.attribute 64 2 (flat_map segment_octets ss)
 
+abbrev wide_size : Option (List Segment) → ℕ
+wide_size None = 0
+wide_size (Some ss) = length (written.attribute 192 17 (flat_map wide_segment_octets ss))
+
 abbrev next_hop_size : Option Ip → ℕ
 next_hop_size None = 0
 next_hop_size (Some ip) = 7
 
 abbrev said_size : Said → ℕ
-said_size s = length (unknown_octets s.unknown) + length (path_octets s.path) + origin_size s.origin + next_hop_size s.next_hop
+said_size s = length (unknown_octets s.unknown) + length (path_octets s.path) + wide_size s.wide + origin_size s.origin + next_hop_size s.next_hop
     + length (med_octets s.med) + length (atomic_octets s.atomic) + length (aggregator_octets s.aggregator) + length (communities_octets s.communities_partial s.communities)
 
 and_true : (b : Bool) → (b && true) ≡ b
@@ -260,6 +289,7 @@ more_size s attributes.LocalPref = omega arith
 more_size s attributes.AtomicAggregate = omega arith
 more_size s (attributes.Aggregator a) = omega arith
 more_size s (attributes.Communities partial cs) = omega (arith, communities_size partial cs)
+more_size s (attributes.As4Path ss) = omega arith
 more_size s (attributes.Unknown u) = omega (arith, unknown_more s.unknown u)
 more_size s (attributes.Ignored n) = omega arith
 
@@ -269,23 +299,123 @@ all_size s (a ∷ all) =
     let later = all_size (with_attribute s a) all in
     omega (arith, later, more_size s a, length-append (octets_of a) (flat_map octets_of all))
 
-attrs_size : (s : Said) (a : Attrs) → AreSaid s a → length (attrs_octets a) ≤ said_size s
-attrs_size s a k =
-    let unknown : length (unknown_octets a.unknown) ≤ length (unknown_octets s.unknown) = fewer is_type_before type_itself (λ (u : Unknown). written.attribute 224 u.kind u.value) a.unknown s.unknown k.rising (λ u m. k.same.onto u m) in
-    let origin : origin_size s.origin ≡ 4 = ap origin_size k.origin in
-    let path : length (path_octets s.path) ≡ length (written.attribute 64 2 (flat_map segment_octets a.path)) = ap (λ (o : Option (List Segment)). length (path_octets o)) k.path in
-    let next_hop : next_hop_size s.next_hop ≡ 7 = ap next_hop_size k.next_hop in
-    let med : length (med_octets a.med) ≡ length (med_octets s.med) = ap (λ (o : Option ℕ). length (med_octets o)) k.med in
-    let atomic : length (atomic_octets a.atomic) ≡ length (atomic_octets s.atomic) = ap (λ (b : Bool). length (atomic_octets b)) k.atomic in
-    let aggregator : length (aggregator_octets a.aggregator) ≡ length (aggregator_octets s.aggregator) = ap (λ o. length (aggregator_octets o)) k.aggregator in
-    let communities : length (communities_octets a.communities_partial a.communities) ≡ length (communities_octets s.communities_partial s.communities) =
-    ap (λ (b : Bool). length (communities_octets b a.communities)) k.communities_partial ∙ ap (λ (cs : List ℕ). length (communities_octets s.communities_partial cs)) k.communities in
-    omega (arith, attrs_length a, unknown, origin, path, next_hop, med, atomic, aggregator, communities)
+-- ---- a path put together
 
-optional_size : (s : Said) (ps : List Prefix) (a : Option Attrs) → AreAttrs s ps a → length (optional_attrs_octets a) ≤ said_size s
-optional_size s ps None k = omega arith
-optional_size s [] (Some a) k = absurd k
-optional_size s (p ∷ ps) (Some a) k = attrs_size s a k
+cond_size : (f : Segment → List ℕ) (xs ys : List Segment) (b : Bool) (n : ℕ) → size f xs ≤ n → size f ys ≤ n → size f (cond b xs ys) ≤ n
+cond_size f xs ys true n h k = h
+cond_size f xs ys false n h k = k
+
+sequence_size : (ns : List ℕ) → length (segment_octets (Sequence ns)) ≡ 2 + 2 * length ns
+sequence_size ns = omega (arith, shorts_len ns)
+
+leading_size : (k : ℕ) (path : List Segment) → size segment_octets (leading k path) ≤ size segment_octets path
+leading_size k [] = omega arith
+leading_size k (Set ns ∷ path) =
+    let later = leading_size (k - 1) path in
+    let one = length-append (segment_octets (Set ns)) (flat_map segment_octets path) in
+    cond_size segment_octets (Set ns ∷ leading (k - 1) path) [] (leb 1 k) (size segment_octets (Set ns ∷ path)) (omega (arith, later, one, length-append (segment_octets (Set ns)) (flat_map segment_octets (leading (k - 1) path)))) (omega arith)
+leading_size k (Sequence ns ∷ path) =
+    let later = leading_size (k - length ns) path in
+    let one = length-append (segment_octets (Sequence ns)) (flat_map segment_octets path) in
+    let cut = length-append (segment_octets (Sequence (take k ns))) [] in
+    cond_size segment_octets (Sequence ns ∷ leading (k - length ns) path) (cond (leb 1 k) (Sequence (take k ns) ∷ []) []) (leb (length ns) k) (size segment_octets (Sequence ns ∷ path))
+    (omega (arith, later, one, length-append (segment_octets (Sequence ns)) (flat_map segment_octets (leading (k - length ns) path))))
+    (cond_size segment_octets (Sequence (take k ns) ∷ []) [] (leb 1 k) (size segment_octets (Sequence ns ∷ path)) (omega (arith, one, cut, sequence_size ns, sequence_size (take k ns), length-take k ns)) (omega arith))
+
+merged_size : (ms : List ℕ) (path : List Segment) → size segment_octets (merged_sequence ms path) ≤ length (segment_octets (Sequence ms)) + size segment_octets path
+merged_size ms [] = omega (arith, length-append (segment_octets (Sequence ms)) [])
+merged_size ms (Set ns ∷ path) = omega (arith, length-append (segment_octets (Sequence ms)) (flat_map segment_octets (Set ns ∷ path)))
+merged_size ms (Sequence ns ∷ path) =
+    let one = length-append (segment_octets (Sequence ns)) (flat_map segment_octets path) in
+    let both = length-append (segment_octets (Sequence (ms ++ ns))) (flat_map segment_octets path) in
+    cond_size segment_octets (Sequence (ms ++ ns) ∷ path) (Sequence ms ∷ Sequence ns ∷ path) (leb (length ms + length ns) 255) (length (segment_octets (Sequence ms)) + size segment_octets (Sequence ns ∷ path))
+    (omega (arith, one, both, sequence_size ms, sequence_size ns, sequence_size (ms ++ ns), length-append ms ns))
+    (omega (arith, length-append (segment_octets (Sequence ms)) (flat_map segment_octets (Sequence ns ∷ path))))
+
+joined_size : (front back : List Segment) → size segment_octets (joined front back) ≤ size segment_octets front + size segment_octets back
+joined_size [] back = omega arith
+joined_size (Set ns ∷ []) back = omega (arith, length-append (segment_octets (Set ns)) [], length-append (segment_octets (Set ns)) (flat_map segment_octets back))
+joined_size (Sequence ns ∷ []) back = omega (arith, merged_size ns back, length-append (segment_octets (Sequence ns)) [])
+joined_size (s ∷ t ∷ front) back =
+    let later = joined_size (t ∷ front) back in
+    let same : size segment_octets (joined (s ∷ t ∷ front) back) ≡ size segment_octets (s ∷ joined (t ∷ front) back) = ap (λ (ss : List Segment). size segment_octets ss) (joined_more s t front back) in
+    omega (arith, later, same, length-append (segment_octets s) (flat_map segment_octets (joined (t ∷ front) back)), length-append (segment_octets s) (flat_map segment_octets (t ∷ front)))
+
+narrower : (path : List Segment) → size segment_octets path ≤ size wide_segment_octets path
+narrower [] = omega arith
+narrower (Set ns ∷ path) =
+    omega (arith, narrower path, shorts_len ns, longs_len ns, length-append (segment_octets (Set ns)) (flat_map segment_octets path), length-append (wide_segment_octets (Set ns)) (flat_map wide_segment_octets path))
+narrower (Sequence ns ∷ path) =
+    omega (arith, narrower path, shorts_len ns, longs_len ns, length-append (segment_octets (Sequence ns)) (flat_map segment_octets path), length-append (wide_segment_octets (Sequence ns)) (flat_map wide_segment_octets path))
+
+-- one attribute is no longer than two
+framed_sum : (k m n : ℕ) → k ≤ m + n → framed k ≤ framed m + framed n
+framed_sum k m n le =
+    let most : framed k ≤ 4 + k = cond_both (leb k 255) (3 + k) (4 + k) (λ (j : ℕ). j ≤ 4 + k) (λ t. omega arith) (λ t. omega arith) in
+    let one : 3 + m ≤ framed m = cond_both (leb m 255) (3 + m) (4 + m) (λ (j : ℕ). 3 + m ≤ j) (λ t. omega arith) (λ t. omega arith) in
+    let two : 3 + n ≤ framed n = cond_both (leb n 255) (3 + n) (4 + n) (λ (j : ℕ). 3 + n ≤ j) (λ t. omega arith) (λ t. omega arith) in
+    omega (arith, le, most, one, two)
+
+together_size : (path wide : List Segment) (b : Bool) → size segment_octets (cond b path (joined (leading (hops path - hops wide) path) wide)) ≤ size segment_octets path + size wide_segment_octets wide
+together_size path wide true = omega arith
+together_size path wide false = omega (arith, joined_size (leading (hops path - hops wide) path) wide, leading_size (hops path - hops wide) path, narrower wide)
+
+whole_size : (path : List Segment) (wide : Option (List Segment)) → length (path_octets (Some (whole_path path wide))) ≤ length (path_octets (Some path)) + wide_size wide
+whole_size path None = omega arith
+whole_size path (Some wide) =
+    let sum = framed_sum (size segment_octets (whole_path path (Some wide))) (size segment_octets path) (size wide_segment_octets wide) (together_size path wide (ltb (hops path) (hops wide))) in
+    omega (
+      arith,
+      sum,
+      attribute_length 64 2 (flat_map segment_octets (whole_path path (Some wide))),
+      attribute_length 64 2 (flat_map segment_octets path),
+      attribute_length 192 17 (flat_map wide_segment_octets wide),
+    )
+
+said_path_size : (o wide : Option (List Segment)) (path : List Segment) → option_map (λ ss. whole_path ss wide) o ≡ Some path → length (path_octets (Some path)) ≤ length (path_octets o) + wide_size wide
+said_path_size None wide path e = absurd cc
+said_path_size (Some ss) wide path e = subst (λ (p : List Segment). length (path_octets (Some p)) ≤ length (path_octets (Some ss)) + wide_size wide) (some_of (whole_path ss wide) path e) (whole_size ss wide)
+
+-- a path counts no more numbers than it is written with octets
+hops_size : (path : List Segment) → hops path ≤ size segment_octets path
+hops_size [] = omega arith
+hops_size (Set ns ∷ path) = omega (arith, hops_size path, sum_by-cons hops_of (Set ns) path, length-append (segment_octets (Set ns)) (flat_map segment_octets path))
+hops_size (Sequence ns ∷ path) = omega (arith, hops_size path, sum_by-cons hops_of (Sequence ns) path, shorts_len ns, length-append (segment_octets (Sequence ns)) (flat_map segment_octets path))
+
+-- ---- the attributes of a route
+
+module _ (s : Said) (a : Attrs) (k : AreSaid s a) where
+  path_said : length (written.attribute 64 2 (flat_map segment_octets a.path)) ≤ length (path_octets s.path) + wide_size s.wide
+  path_said = said_path_size s.path s.wide a.path k.path
+
+  hops_said : hops a.path ≤ said_size s
+  hops_said =
+      let whole : size segment_octets a.path ≤ framed (size segment_octets a.path) =
+      cond_both (leb (size segment_octets a.path) 255) (3 + size segment_octets a.path) (4 + size segment_octets a.path) (λ (j : ℕ). size segment_octets a.path ≤ j) (λ t. omega arith) (λ t. omega arith) in
+      omega (arith, path_said, hops_size a.path, whole, attribute_length 64 2 (flat_map segment_octets a.path))
+
+  attrs_size : has_wide a.path ≡ false → length (attrs_octets a) ≤ said_size s
+  attrs_size narrow =
+      let unknown : length (unknown_octets a.unknown) ≤ length (unknown_octets s.unknown) = fewer is_type_before type_itself (λ (u : Unknown). written.attribute 224 u.kind u.value) a.unknown s.unknown k.rising (λ u m. k.same.onto u m) in
+      let origin : origin_size s.origin ≡ 4 = ap origin_size k.origin in
+      let wide : length (wide_octets a.path) ≡ 0 = ap (λ (b : Bool). length (cond b (written.attribute 192 17 (flat_map wide_segment_octets a.path)) [])) narrow in
+      let next_hop : next_hop_size s.next_hop ≡ 7 = ap next_hop_size k.next_hop in
+      let med : length (med_octets a.med) ≡ length (med_octets s.med) = ap (λ (o : Option ℕ). length (med_octets o)) k.med in
+      let atomic : length (atomic_octets a.atomic) ≡ length (atomic_octets s.atomic) = ap (λ (b : Bool). length (atomic_octets b)) k.atomic in
+      let aggregator : length (aggregator_octets a.aggregator) ≡ length (aggregator_octets s.aggregator) = ap (λ o. length (aggregator_octets o)) k.aggregator in
+      let communities : length (communities_octets a.communities_partial a.communities) ≡ length (communities_octets s.communities_partial s.communities) =
+      ap (λ (b : Bool). length (communities_octets b a.communities)) k.communities_partial ∙ ap (λ (cs : List ℕ). length (communities_octets s.communities_partial cs)) k.communities in
+      omega (arith, attrs_length a, unknown, origin, path_said, wide, next_hop, med, atomic, aggregator, communities)
+
+optional_size : (s : Said) (ps : List Prefix) (a : Option Attrs) → AreAttrs s ps a → IfSome a (λ (b : Attrs). has_wide b.path ≡ false) → length (optional_attrs_octets a) ≤ said_size s
+optional_size s ps None k narrow = omega arith
+optional_size s [] (Some a) k narrow = absurd k
+optional_size s (p ∷ ps) (Some a) k narrow = attrs_size s a k narrow
+
+optional_hops : (s : Said) (ps : List Prefix) (a : Option Attrs) (most : ℕ) → AreAttrs s ps a → said_size s ≤ most → IfSome a (λ (b : Attrs). hops b.path ≤ most)
+optional_hops s ps None most k le = tt
+optional_hops s [] (Some a) most k le = absurd k
+optional_hops s (p ∷ ps) (Some a) most k le = omega (arith, hops_said s a k, le)
 
 -- ---- the message
 
@@ -356,24 +486,35 @@ head_blocks n s h octets sp =
     let lower : length sp6.1 ≡ 4 + length sp9.2 + length sp13.2 + length sp13.1 = omega (arith, c7, c8, c9, c10, c11, c12, c13) in
     subst (λ (x : Head). AreBlocks n s x) (sym last.5.1) (record { most = omega (arith, is, most); parts = omega (arith, upper, lower, withdrawn, attributes) })
 
-update_short : (b : List ℕ) (parts : Parts) (u : Update) → AreOctets b → (message (length b)).Spells b parts → IsUpdateOf parts u → length (canonical u) ≤ 4096
-update_short b parts u octets sp k =
-    let blocks : AreBlocks (length b) sp.0 sp.2 = head_blocks (length b) sp.0 sp.2 (front b sp.0 sp.1 sp.4 octets) sp.5 in
-    let most = blocks.most in
-    let held = blocks.parts in
-    let last : size prefix_octets sp.3 ≤ length sp.1 = prefixes_size sp.1 sp.3 sp.6 in
-    let sum : length b ≡ length sp.0 + length sp.1 = ap length sp.4 ∙ length-append sp.0 sp.1 in
-    let withdrawn : size prefix_octets u.withdrawn ≤ size prefix_octets sp.2.withdrawn =
-    fewer is_before before_itself prefix_octets u.withdrawn sp.2.withdrawn k.withdrawn.rising (λ p m. subst (λ (x : Parts). Member p x.withdrawn) sp.8 (k.withdrawn.onto p m).stands) in
-    let announced : size prefix_octets u.announced ≤ size prefix_octets sp.3 =
-    fewer is_before before_itself prefix_octets u.announced sp.3 k.announced.rising (λ p m. subst (λ (x : Parts). Member p x.announced) sp.8 (k.announced.same.onto p m)) in
-    let attrs : length (optional_attrs_octets u.attrs) ≤ size octets_of sp.2.attributes =
-    let one = optional_size (said parts.attributes) parts.announced u.attrs k.attrs in
-    let all = all_size nothing_said parts.attributes in
-    let same : size octets_of parts.attributes ≡ size octets_of sp.2.attributes = ap (λ (x : Parts). size octets_of x.attributes) sp.8 in
-    omega (arith, one, all, same) in
-    omega (arith, most, held, last, sum, withdrawn, announced, attrs, message_length (prefixes_octets u.withdrawn) (optional_attrs_octets u.attrs) (prefixes_octets u.announced))
+module _ (b : List ℕ) (parts : Parts) (u : Update) (octets : AreOctets b) (sp : (message (length b)).Spells b parts) (k : IsUpdateOf parts u) where
+  -- what is said takes no more than the octets that are left by the prefixes
+  said_fits : 23 + size prefix_octets u.withdrawn + said_size (said parts.attributes) + size prefix_octets u.announced ≤ 4096
+  said_fits =
+      let blocks : AreBlocks (length b) sp.0 sp.2 = head_blocks (length b) sp.0 sp.2 (front b sp.0 sp.1 sp.4 octets) sp.5 in
+      let most = blocks.most in
+      let held = blocks.parts in
+      let last : size prefix_octets sp.3 ≤ length sp.1 = prefixes_size sp.1 sp.3 sp.6 in
+      let sum : length b ≡ length sp.0 + length sp.1 = ap length sp.4 ∙ length-append sp.0 sp.1 in
+      let withdrawn : size prefix_octets u.withdrawn ≤ size prefix_octets sp.2.withdrawn =
+      fewer is_before before_itself prefix_octets u.withdrawn sp.2.withdrawn k.withdrawn.rising (λ p m. subst (λ (x : Parts). Member p x.withdrawn) sp.8 (k.withdrawn.onto p m).stands) in
+      let announced : size prefix_octets u.announced ≤ size prefix_octets sp.3 =
+      fewer is_before before_itself prefix_octets u.announced sp.3 k.announced.rising (λ p m. subst (λ (x : Parts). Member p x.announced) sp.8 (k.announced.same.onto p m)) in
+      let all = all_size nothing_said parts.attributes in
+      let same : size octets_of parts.attributes ≡ size octets_of sp.2.attributes = ap (λ (x : Parts). size octets_of x.attributes) sp.8 in
+      omega (arith, most, held, last, sum, withdrawn, announced, all, same)
 
-pub short_said : (b : List ℕ) (r : Result Update UpdateFault) → AreOctets b → IsDecoded b r → IfOk r (λ u. length (canonical u) ≤ 4096)
-short_said b (Ok u) octets k = let s = spells_said b (Ok u) k in update_short b s.parts u octets s.spells s.value
+  update_short : IfSome u.attrs (λ (a : Attrs). has_wide a.path ≡ false) → length (canonical u) ≤ 4096
+  update_short narrow =
+      let attrs = optional_size (said parts.attributes) parts.announced u.attrs k.attrs narrow in
+      omega (arith, said_fits, attrs, message_length (prefixes_octets u.withdrawn) (optional_attrs_octets u.attrs) (prefixes_octets u.announced))
+
+  update_hops : IfSome u.attrs (λ (a : Attrs). hops a.path ≤ 4096)
+  update_hops = optional_hops (said parts.attributes) parts.announced u.attrs 4096 k.attrs (omega (arith, said_fits))
+
+pub short_said : (b : List ℕ) (r : Result Update UpdateFault) → AreOctets b → IsDecoded b r → IfOk r (λ u. IfSome u.attrs (λ (a : Attrs). has_wide a.path ≡ false) → length (canonical u) ≤ 4096)
+short_said b (Ok u) octets k = let s = spells_said b (Ok u) k in λ narrow. update_short b s.parts u octets s.spells s.value narrow
 short_said b (Err e) octets k = tt
+
+pub hops_counted : (b : List ℕ) (r : Result Update UpdateFault) → AreOctets b → IsDecoded b r → IfOk r (λ u. IfSome u.attrs (λ (a : Attrs). hops a.path ≤ 4096))
+hops_counted b (Ok u) octets k = let s = spells_said b (Ok u) k in update_hops b s.parts u octets s.spells s.value
+hops_counted b (Err e) octets k = tt

@@ -1,9 +1,10 @@
 -- The attributes and prefixes of a sound update, as they are written, spell it.
-use Rattle.std.proofs.Common.{◌≡◌, ℕ, zero, suc, ◌+◌, ◌-◌, ◌*◌, ◌/◌, ◌%◌, ◌^◌, ◌<◌, ◌≤◌, Bool, true, false, not, cond, List, [], ◌∷◌, ◌++◌, length, take, map, filter, flat_map, refl, sym, ap, subst, ◌∙◌, append_assoc, arith, inl, inr}
+use Rattle.std.proofs.Common.{◌≡◌, ℕ, zero, suc, ◌+◌, ◌-◌, ◌*◌, ◌/◌, ◌%◌, ◌^◌, ◌<◌, ◌≤◌, Bool, true, false, not, cond, List, [], ◌∷◌, ◌++◌, length, take, map, filter, flat_map, leb, ltb, refl, sym, ap, subst, ◌∙◌, append_assoc, arith, inl, inr}
 use Rattle.std.specs.Prelude.{Option, Some, None, ◌&&◌, ◌==◌, IsTrue, nat_le, nat_lt}
-use Rattle.std.specs.List.{fold}
-use Rattle.std.proofs.lemmas.Bool.{cases_Bool, cases_lt, le-leb, leb-true, ltb-true, lt-ltb, ne_eqb}
+use Rattle.std.specs.List.{fold, list_any}
+use Rattle.std.proofs.lemmas.Bool.{and_from, and_parts, cases_Bool, cases_eq, cases_lt, false_from_ne_true, le-leb, leb-false, leb-true, ltb-true, lt-ltb, ne_eqb, or_parts}
 use Rattle.std.proofs.lemmas.List.{append-nil, length-take}
+use Rattle.std.proofs.lemmas.List.Sums.{sum_by-cons}
 use Rattle.std.proofs.lemmas.Nat.{pow-add}
 use Rattle.std.proofs.Math.Nat.{div-add-mod, mul-mod_right, mul_assoc}
 use Rattle.grammar.specs.Formats.{ItemsSpell}
@@ -12,13 +13,14 @@ use Rattle.net_types.proofs.SetLemmas.{Member-append_cases, Member-append_left, 
 use Rattle.net_types.specs.AttributeTypes.{type_of}
 use Rattle.net_types.specs.Bits.{same_bits}
 use Rattle.net_types.specs.Octets.{address_octets}
+use Rattle.net_types.specs.Paths.{asns, has_wide, hops, hops_of, leading, whole_path}
 use Rattle.net_types.specs.Sets.{IsRising, Member, SameMembers}
-use Rattle.net_types.specs.SoundUpdates.{AreSoundAttrs, Each, IsSoundAggregator}
+use Rattle.net_types.specs.SoundUpdates.{AreSoundAttrs, Each, IsSoundAggregator, IsSoundSegment}
 use Rattle.net_types.specs.UpdateFormat.{no_types, number_of, padded, prefix, with_type}
 use Rattle.net_types.specs.UpdateSpelling.{AreSaid, is_type_before}
 use Rattle.net_types.specs.UpdateValue.{Said, nothing_said, said, with_attribute}
 use Rattle.net_types.specs.Updates as written
-use Rattle.net_types.specs.Updates.{aggregator_octets, atomic_octets, attrs_octets, canonical, communities_octets, marker, med_octets, optional_attrs_octets, prefix_octets, prefixes_octets, unknown_octets, update_message}
+use Rattle.net_types.specs.Updates.{aggregator_octets, atomic_octets, attrs_octets, canonical, communities_octets, marker, med_octets, optional_attrs_octets, prefix_octets, prefixes_octets, unknown_octets, update_message, wide_octets, wide_segment_octets}
 use Rattle.net_types.specs.declared.address.Ip.{Ip}
 use Rattle.net_types.specs.declared.attribute.Attribute.{Attribute}
 use Rattle.net_types.specs.declared.attribute.Attribute.TheVariants as attributes
@@ -26,8 +28,10 @@ use Rattle.net_types.specs.declared.prefix.Prefix.{Prefix}
 use Rattle.net_types.specs.declared.route.Aggregator.{Aggregator}
 use Rattle.net_types.specs.declared.route.Attrs.{Attrs}
 use Rattle.net_types.specs.declared.route.Segment.{Segment}
+use Rattle.net_types.specs.declared.route.Segment.TheVariants.{Set, Sequence}
 use Rattle.net_types.specs.declared.route.Unknown.{Unknown}
-use Rattle.bgp_update.proofs.SpelledAttributes.{IsTaken, octets_of, then_spells}
+use Rattle.bgp_update.proofs.LengthSums.{is_highest, is_lowest, is_middle}
+use Rattle.bgp_update.proofs.SpelledAttributes.{IsTaken, length_told, octets_of, path_told, then_spells, told, told_same, told_segment}
 use Rattle.bgp_update.specs.Answers.{AreNew}
 use Rattle.bgp_update.specs.RoundTrip.{FitAttrs, FitsAggregator, FitsMed}
 
@@ -70,12 +74,6 @@ prefixes_spell (p ∷ ps) = (prefix_octets p, prefixes_octets ps, refl, prefix_s
 
 -- ---- the attributes in their order
 
-low : Unknown → Bool
-low u = nat_lt u.kind 1
-
-high : Unknown → Bool
-high u = nat_le 1 u.kind
-
 abbrev unknowns : List Unknown → List Attribute
 unknowns us = map (λ u. attributes.Unknown u) us
 
@@ -98,12 +96,22 @@ communities_of partial (c ∷ cs) = attributes.Communities partial (c ∷ cs) �
 abbrev lows : Attrs → List Unknown
 lows a = filter (λ (u : Unknown). nat_lt u.kind 1) a.unknown
 
+abbrev middles : Attrs → List Unknown
+middles a = filter (λ (u : Unknown). nat_le 1 u.kind && nat_lt u.kind 17) a.unknown
+
 abbrev highs : Attrs → List Unknown
-highs a = filter (λ (u : Unknown). nat_le 1 u.kind) a.unknown
+highs a = filter (λ (u : Unknown). nat_le 17 u.kind) a.unknown
+
+abbrev wide_of : List Segment → List Attribute
+wide_of path = cond (has_wide path) (attributes.As4Path path ∷ []) []
+
+-- what stands behind the known ones up to 8
+abbrev rear : Attrs → List Attribute
+rear a = unknowns (middles a) ++ (wide_of a.path ++ unknowns (highs a))
 
 abbrev pub attributes_of : Attrs → List Attribute
-attributes_of a = unknowns (lows a) ++ (attributes.Origin a.origin ∷ attributes.AsPath a.path ∷ attributes.NextHop a.next_hop ∷
-    (med_of a.med ++ (atomic_of a.atomic ++ (aggregator_of a.aggregator ++ (communities_of a.communities_partial a.communities ++ unknowns (highs a))))))
+attributes_of a = unknowns (lows a) ++ (attributes.Origin a.origin ∷ attributes.AsPath (map told_segment a.path) ∷ attributes.NextHop a.next_hop ∷
+    (med_of a.med ++ (atomic_of a.atomic ++ (aggregator_of a.aggregator ++ (communities_of a.communities_partial a.communities ++ rear a)))))
 
 abbrev pub optional_of : Option Attrs → List Attribute
 optional_of None = []
@@ -135,26 +143,40 @@ communities_written : (partial : Bool) (cs : List ℕ) → flat_map octets_of (c
 communities_written partial [] = refl
 communities_written partial (c ∷ cs) = append-nil _
 
-nine : (l o p n m a g c r : List ℕ) → l ++ (o ++ (p ++ (n ++ (m ++ (a ++ (g ++ (c ++ r))))))) ≡ l ++ o ++ p ++ n ++ m ++ a ++ g ++ c ++ r
-nine l o p n m a g c r = simp append_assoc refl
+wide_written : (path : List Segment) → flat_map octets_of (wide_of path) ≡ wide_octets path
+wide_written path = by (has_wide path)
+  where
+    by : (b : Bool) → flat_map octets_of (cond b (attributes.As4Path path ∷ []) []) ≡ cond b (written.attribute 192 17 (flat_map wide_segment_octets path)) []
+    by true = append-nil _
+    by false = refl
+
+rear_written : (a : Attrs) → flat_map octets_of (rear a) ≡ unknown_octets (middles a) ++ (wide_octets a.path ++ unknown_octets (highs a))
+rear_written a =
+    flat_append (unknowns (middles a)) (wide_of a.path ++ unknowns (highs a))
+    ∙ ap (λ (t : List ℕ). flat_map octets_of (unknowns (middles a)) ++ t) (flat_append (wide_of a.path) (unknowns (highs a)))
+    ∙ rw (unknowns_written (middles a), unknowns_written (highs a), wide_written a.path) refl
+
+eleven : (l o p n m a g c k w r : List ℕ) → l ++ (o ++ (p ++ (n ++ (m ++ (a ++ (g ++ (c ++ (k ++ (w ++ r))))))))) ≡ l ++ o ++ p ++ n ++ m ++ a ++ g ++ c ++ k ++ w ++ r
+eleven l o p n m a g c k w r = simp append_assoc refl
 
 attrs_are_written : (a : Attrs) → flat_map octets_of (attributes_of a) ≡ attrs_octets a
 attrs_are_written a =
     rw (
-      flat_append (unknowns (lows a)) (attributes.Origin a.origin ∷ attributes.AsPath a.path ∷ attributes.NextHop a.next_hop ∷ (med_of a.med ++ (atomic_of a.atomic ++ (aggregator_of a.aggregator ++ (communities_of a.communities_partial a.communities ++ unknowns (highs a)))))),
-      flat_append (med_of a.med) (atomic_of a.atomic ++ (aggregator_of a.aggregator ++ (communities_of a.communities_partial a.communities ++ unknowns (highs a)))),
-      flat_append (atomic_of a.atomic) (aggregator_of a.aggregator ++ (communities_of a.communities_partial a.communities ++ unknowns (highs a))),
-      flat_append (aggregator_of a.aggregator) (communities_of a.communities_partial a.communities ++ unknowns (highs a)),
-      flat_append (communities_of a.communities_partial a.communities) (unknowns (highs a)),
+      flat_append (unknowns (lows a)) (attributes.Origin a.origin ∷ attributes.AsPath (map told_segment a.path) ∷ attributes.NextHop a.next_hop ∷ (med_of a.med ++ (atomic_of a.atomic ++ (aggregator_of a.aggregator ++ (communities_of a.communities_partial a.communities ++ rear a))))),
+      flat_append (med_of a.med) (atomic_of a.atomic ++ (aggregator_of a.aggregator ++ (communities_of a.communities_partial a.communities ++ rear a))),
+      flat_append (atomic_of a.atomic) (aggregator_of a.aggregator ++ (communities_of a.communities_partial a.communities ++ rear a)),
+      flat_append (aggregator_of a.aggregator) (communities_of a.communities_partial a.communities ++ rear a),
+      flat_append (communities_of a.communities_partial a.communities) (rear a),
       unknowns_written (lows a),
-      unknowns_written (highs a),
+      rear_written a,
+      path_told a.path,
       med_written a.med,
       atomic_written a.atomic,
       aggregator_written a.aggregator,
       communities_written a.communities_partial a.communities,
     )
-    (nine (unknown_octets (lows a)) (written.attribute 64 1 (a.origin ∷ [])) (written.attribute 64 2 (flat_map written.segment_octets a.path)) (written.attribute 64 3 (address_octets a.next_hop))
-    (med_octets a.med) (atomic_octets a.atomic) (aggregator_octets a.aggregator) (communities_octets a.communities_partial a.communities) (unknown_octets (highs a)))
+    (eleven (unknown_octets (lows a)) (written.attribute 64 1 (a.origin ∷ [])) (written.attribute 64 2 (flat_map written.segment_octets a.path)) (written.attribute 64 3 (address_octets a.next_hop))
+    (med_octets a.med) (atomic_octets a.atomic) (aggregator_octets a.aggregator) (communities_octets a.communities_partial a.communities) (unknown_octets (middles a)) (wide_octets a.path) (unknown_octets (highs a)))
 
 pub optional_written : (a : Option Attrs) → flat_map octets_of (optional_of a) ≡ optional_attrs_octets a
 optional_written None = refl
@@ -190,19 +212,39 @@ communities_taken : (partial : Bool) (cs : List ℕ) → Each (λ n. n < 4294967
 communities_taken partial [] h = tt
 communities_taken partial (c ∷ cs) h = (h, tt)
 
+no_wide : has_wide [] ≡ true → ⊥
+no_wide e = cc
+
+has_some : (path : List Segment) → has_wide path ≡ true → 1 ≤ length path
+has_some [] e = absurd (no_wide e)
+has_some (s ∷ path) e = omega arith
+
+wide_taken : (path : List Segment) → Each IsSoundSegment path → Each IsTaken (wide_of path)
+wide_taken path h = by (has_wide path) refl
+  where
+    by : (b : Bool) → has_wide path ≡ b → Each IsTaken (cond b (attributes.As4Path path ∷ []) [])
+    by true e = ((h, has_some path e), tt)
+    by false e = tt
+
+rear_taken : (a : Attrs) → AreSoundAttrs a → Each IsTaken (rear a)
+rear_taken a s =
+    each_append IsTaken (unknowns (middles a)) _ (unknowns_taken (λ u. nat_le 1 u.kind && nat_lt u.kind 17) (middles a) (each_filter _ (λ (u : Unknown). nat_le 1 u.kind && nat_lt u.kind 17) a.unknown s.unknown))
+    (each_append IsTaken (wide_of a.path) _ (wide_taken a.path s.path)
+    (unknowns_taken (λ u. nat_le 17 u.kind) (highs a) (each_filter _ (λ (u : Unknown). nat_le 17 u.kind) a.unknown s.unknown)))
+
 pub attrs_taken : (a : Attrs) → AreSoundAttrs a → FitAttrs a → Each IsTaken (attributes_of a)
 attrs_taken a s f =
     each_append IsTaken (unknowns (lows a)) _ (unknowns_taken (λ u. nat_lt u.kind 1) (lows a) (each_filter _ (λ (u : Unknown). nat_lt u.kind 1) a.unknown s.unknown)) (
       s.origin,
       (
-        s.path,
+        (a.path, s.path, refl),
         (
           s.next_hop,
           each_append IsTaken (med_of a.med) _ (med_taken a.med f.med)
               (each_append IsTaken (atomic_of a.atomic) _ (atomic_taken a.atomic)
               (each_append IsTaken (aggregator_of a.aggregator) _ (aggregator_taken a.aggregator s.aggregator f.aggregator)
               (each_append IsTaken (communities_of a.communities_partial a.communities) _ (communities_taken a.communities_partial a.communities f.communities)
-              (unknowns_taken (λ u. nat_le 1 u.kind) (highs a) (each_filter _ (λ (u : Unknown). nat_le 1 u.kind) a.unknown s.unknown))))),
+              (rear_taken a s)))),
         ),
       ),
     )
@@ -264,17 +306,34 @@ above_known (suc (suc (suc (suc (suc (suc (suc zero))))))) e le = absurd cc
 above_known (suc (suc (suc (suc (suc (suc (suc (suc zero)))))))) e le = absurd cc
 above_known (suc (suc (suc (suc (suc (suc (suc (suc (suc k))))))))) e le = omega arith
 
-high_each : (us : List Unknown) → Each (λ (u : Unknown). (type_of u.kind ≡ None) × (nat_le 1 u.kind ≡ true)) us → Each (λ (u : Unknown). 9 ≤ u.kind) us
+-- nor is one from 17 on that of AS4_PATH
+above_wide : (k : ℕ) → type_of k ≡ None → 17 ≤ k → 18 ≤ k
+above_wide k none le = elim (cases_eq k 17) [
+  | inl same ↦ absurd (is_known (sym (ap type_of same) ∙ none))
+  | inr other ↦ omega (arith, le, other)
+]
+  where
+    is_known : type_of 17 ≡ None → ⊥
+    is_known e = cc
+
+middle_each : (us : List Unknown) → Each (λ (u : Unknown). (type_of u.kind ≡ None) × ((nat_le 1 u.kind && nat_lt u.kind 17) ≡ true)) us → Each (λ (u : Unknown). 9 ≤ u.kind) us × Each (λ x. number_of x < 17) (unknowns us)
+middle_each [] h = (tt, tt)
+middle_each (u ∷ us) h =
+    let later = middle_each us h.1 in
+    let bounds = and_parts (nat_le 1 u.kind) (nat_lt u.kind 17) h.0.1 in
+    ((above_known u.kind h.0.0 (leb-true 1 u.kind bounds.0), later.0), (ltb-true u.kind 17 bounds.1, later.1))
+
+high_each : (us : List Unknown) → Each (λ (u : Unknown). (type_of u.kind ≡ None) × (nat_le 17 u.kind ≡ true)) us → Each (λ (u : Unknown). 18 ≤ u.kind) us
 high_each [] h = tt
-high_each (u ∷ us) h = (above_known u.kind h.0.0 (leb-true 1 u.kind h.0.1), high_each us h.1)
+high_each (u ∷ us) h = (above_wide u.kind h.0.0 (leb-true 17 u.kind h.0.1), high_each us h.1)
 
 low_each : (us : List Unknown) → Each (λ (u : Unknown). (type_of u.kind ≡ None) × (nat_lt u.kind 1 ≡ true)) us → Each (λ x. number_of x < 1) (unknowns us)
 low_each [] h = tt
 low_each (u ∷ us) h = (ltb-true u.kind 1 h.0.1, low_each us h.1)
 
-weaker : (b : ℕ) (us : List Unknown) → b ≤ 9 → Each (λ (u : Unknown). 9 ≤ u.kind) us → Each (λ (u : Unknown). b ≤ u.kind) us
-weaker b [] le h = tt
-weaker b (u ∷ us) le h = let here = h.0 in (omega (arith, le, here), weaker b us le h.1)
+weaker : (b c : ℕ) (us : List Unknown) → b ≤ c → Each (λ (u : Unknown). c ≤ u.kind) us → Each (λ (u : Unknown). b ≤ u.kind) us
+weaker b c [] le h = tt
+weaker b c (u ∷ us) le h = let here : c ≤ u.kind = h.0 in (omega (arith, le, here), weaker b c us le h.1)
 
 from_zero : (us : List Unknown) → Each (λ (u : Unknown). 0 ≤ u.kind) us
 from_zero [] = tt
@@ -300,18 +359,34 @@ unfolding Ascends
 communities_ascend k partial [] le = (tt, tt)
 communities_ascend k partial (c ∷ cs) le = ((le, tt), (omega arith, tt))
 
+wide_ascends : (k : ℕ) (path : List Segment) → k ≤ 17 → Ascends k (wide_of path) × Each (λ x. number_of x < 18) (wide_of path)
+unfolding Ascends
+wide_ascends k path le = by (has_wide path)
+  where
+    by : (b : Bool) → Ascends k (cond b (attributes.As4Path path ∷ []) []) × Each (λ x. number_of x < 18) (cond b (attributes.As4Path path ∷ []) [])
+    by true = ((le, tt), (omega arith, tt))
+    by false = (tt, tt)
+
+rear_ascends : (a : Attrs) → AreSoundAttrs a → (k : ℕ) → k ≤ 9 → Ascends k (rear a)
+rear_ascends a s k le =
+    let middle = middle_each (middles a) (each_filter _ (λ (u : Unknown). nat_le 1 u.kind && nat_lt u.kind 17) a.unknown s.unknown) in
+    let highest = high_each (highs a) (each_filter _ (λ (u : Unknown). nat_le 17 u.kind) a.unknown s.unknown) in
+    let last : (j : ℕ) → j ≤ 18 → Ascends j (unknowns (highs a)) = λ j le. unknowns_ascend j (highs a) (rising_filter (λ (u : Unknown). nat_le 17 u.kind) a.unknown s.rising) (weaker j 18 (highs a) le highest) in
+    let wide : (j : ℕ) → j ≤ 17 → Ascends j (wide_of a.path ++ unknowns (highs a)) = λ j le. ascends_append j 18 _ _ (wide_ascends j a.path le).0 (wide_ascends j a.path le).1 (omega (arith, le)) last in
+    ascends_append k 17 (unknowns (middles a)) _ (unknowns_ascend k (middles a) (rising_filter (λ (u : Unknown). nat_le 1 u.kind && nat_lt u.kind 17) a.unknown s.rising) (weaker k 9 (middles a) le middle.0))
+    middle.1 (omega (arith, le)) wide
+
 attrs_ascend : (a : Attrs) → AreSoundAttrs a → Ascends 0 (attributes_of a)
 unfolding Ascends
 attrs_ascend a s =
-    let highest = high_each (highs a) (each_filter _ (λ (u : Unknown). nat_le 1 u.kind) a.unknown s.unknown) in
-    let last : (k : ℕ) → k ≤ 9 → Ascends k (unknowns (highs a)) = λ k le. unknowns_ascend k (highs a) (rising_filter (λ (u : Unknown). nat_le 1 u.kind) a.unknown s.rising) (weaker k (highs a) le highest) in
-    let fourth : (k : ℕ) → k ≤ 8 → Ascends k (communities_of a.communities_partial a.communities ++ unknowns (highs a)) =
+    let last : (k : ℕ) → k ≤ 9 → Ascends k (rear a) = λ k le. rear_ascends a s k le in
+    let fourth : (k : ℕ) → k ≤ 8 → Ascends k (communities_of a.communities_partial a.communities ++ rear a) =
     λ k le. ascends_append k 9 _ _ (communities_ascend k a.communities_partial a.communities le).0 (communities_ascend k a.communities_partial a.communities le).1 (omega (arith, le)) last in
-    let third : (k : ℕ) → k ≤ 7 → Ascends k (aggregator_of a.aggregator ++ (communities_of a.communities_partial a.communities ++ unknowns (highs a))) =
+    let third : (k : ℕ) → k ≤ 7 → Ascends k (aggregator_of a.aggregator ++ (communities_of a.communities_partial a.communities ++ rear a)) =
     λ k le. ascends_append k 8 _ _ (aggregator_ascends k a.aggregator le).0 (aggregator_ascends k a.aggregator le).1 (omega (arith, le)) fourth in
-    let second : (k : ℕ) → k ≤ 5 → Ascends k (atomic_of a.atomic ++ (aggregator_of a.aggregator ++ (communities_of a.communities_partial a.communities ++ unknowns (highs a)))) =
+    let second : (k : ℕ) → k ≤ 5 → Ascends k (atomic_of a.atomic ++ (aggregator_of a.aggregator ++ (communities_of a.communities_partial a.communities ++ rear a))) =
     λ k le. ascends_append k 7 _ _ (atomic_ascends k a.atomic le).0 (atomic_ascends k a.atomic le).1 (omega (arith, le)) third in
-    let first : Ascends 4 (med_of a.med ++ (atomic_of a.atomic ++ (aggregator_of a.aggregator ++ (communities_of a.communities_partial a.communities ++ unknowns (highs a))))) =
+    let first : Ascends 4 (med_of a.med ++ (atomic_of a.atomic ++ (aggregator_of a.aggregator ++ (communities_of a.communities_partial a.communities ++ rear a)))) =
     ascends_append 4 5 _ _ (med_ascends 4 a.med (omega arith)).0 (med_ascends 4 a.med (omega arith)).1 (omega arith) second in
     ascends_append 0 1 (unknowns (lows a)) _ (unknowns_ascend 0 (lows a) (rising_filter (λ (u : Unknown). nat_lt u.kind 1) a.unknown s.rising) (from_zero (lows a)))
     (low_each (lows a) (each_filter _ (λ (u : Unknown). nat_lt u.kind 1) a.unknown s.unknown)) (omega arith)
@@ -326,66 +401,138 @@ fold_append : (s : Said) (xs ys : List Attribute) → fold with_attribute s (xs 
 fold_append s [] ys = refl
 fold_append s (x ∷ xs) ys = fold_append (with_attribute s x) xs ys
 
-abbrev made : Option ℕ → Option (List Segment) → Option Ip → Option ℕ → Bool → Option Aggregator → List ℕ → Bool → List Unknown → Said
-made o p n m at g cs cp us = record { origin = o; path = p; next_hop = n; med = m; atomic = at; aggregator = g; communities = cs; communities_partial = cp; unknown = us }
+abbrev made : Option ℕ → Option (List Segment) → Option (List Segment) → Option Ip → Option ℕ → Bool → Option Aggregator → List ℕ → Bool → List Unknown → Said
+made o p w n m at g cs cp us = record { origin = o; path = p; wide = w; next_hop = n; med = m; atomic = at; aggregator = g; communities = cs; communities_partial = cp; unknown = us }
 
-unknowns_said : (o : Option ℕ) (p : Option (List Segment)) (n : Option Ip) (m : Option ℕ) (at : Bool) (g : Option Aggregator) (cs : List ℕ) (cp : Bool) (us vs : List Unknown)
-    → fold with_attribute (made o p n m at g cs cp us) (unknowns vs) ≡ made o p n m at g cs cp (us ++ vs)
-unknowns_said o p n m at g cs cp us [] = ap (made o p n m at g cs cp) (sym (append-nil us))
-unknowns_said o p n m at g cs cp us (v ∷ vs) = unknowns_said o p n m at g cs cp (us ++ v ∷ []) vs ∙ ap (made o p n m at g cs cp) (append_assoc us (v ∷ []) vs)
+unknowns_said : (o : Option ℕ) (p w : Option (List Segment)) (n : Option Ip) (m : Option ℕ) (at : Bool) (g : Option Aggregator) (cs : List ℕ) (cp : Bool) (us vs : List Unknown)
+    → fold with_attribute (made o p w n m at g cs cp us) (unknowns vs) ≡ made o p w n m at g cs cp (us ++ vs)
+unknowns_said o p w n m at g cs cp us [] = ap (made o p w n m at g cs cp) (sym (append-nil us))
+unknowns_said o p w n m at g cs cp us (v ∷ vs) = unknowns_said o p w n m at g cs cp (us ++ v ∷ []) vs ∙ ap (made o p w n m at g cs cp) (append_assoc us (v ∷ []) vs)
 
-med_said : (o : Option ℕ) (p : Option (List Segment)) (n : Option Ip) (us : List Unknown) (m : Option ℕ) → fold with_attribute (made o p n None false None [] false us) (med_of m) ≡ made o p n m false None [] false us
-med_said o p n us None = refl
-med_said o p n us (Some k) = refl
+med_said : (o : Option ℕ) (p w : Option (List Segment)) (n : Option Ip) (us : List Unknown) (m : Option ℕ) → fold with_attribute (made o p w n None false None [] false us) (med_of m) ≡ made o p w n m false None [] false us
+med_said o p w n us None = refl
+med_said o p w n us (Some k) = refl
 
-atomic_said : (o : Option ℕ) (p : Option (List Segment)) (n : Option Ip) (us : List Unknown) (m : Option ℕ) (b : Bool) → fold with_attribute (made o p n m false None [] false us) (atomic_of b) ≡ made o p n m b None [] false us
-atomic_said o p n us m true = refl
-atomic_said o p n us m false = refl
+atomic_said : (o : Option ℕ) (p w : Option (List Segment)) (n : Option Ip) (us : List Unknown) (m : Option ℕ) (b : Bool) → fold with_attribute (made o p w n m false None [] false us) (atomic_of b) ≡ made o p w n m b None [] false us
+atomic_said o p w n us m true = refl
+atomic_said o p w n us m false = refl
 
-aggregator_said : (o : Option ℕ) (p : Option (List Segment)) (n : Option Ip) (us : List Unknown) (m : Option ℕ) (b : Bool) (g : Option Aggregator) → fold with_attribute (made o p n m b None [] false us) (aggregator_of g) ≡ made o p n m b g [] false us
-aggregator_said o p n us m b None = refl
-aggregator_said o p n us m b (Some g) = refl
+aggregator_said : (o : Option ℕ) (p w : Option (List Segment)) (n : Option Ip) (us : List Unknown) (m : Option ℕ) (b : Bool) (g : Option Aggregator) → fold with_attribute (made o p w n m b None [] false us) (aggregator_of g) ≡ made o p w n m b g [] false us
+aggregator_said o p w n us m b None = refl
+aggregator_said o p w n us m b (Some g) = refl
 
 some_length : (c : ℕ) (cs : List ℕ) (partial : Bool) → (partial && not (length (c ∷ cs) == 0)) ≡ partial
 some_length c cs true = ap not (ne_eqb (length (c ∷ cs)) 0 (λ e. omega (arith, e)))
 some_length c cs false = refl
 
-communities_said : (o : Option ℕ) (p : Option (List Segment)) (n : Option Ip) (us : List Unknown) (m : Option ℕ) (b : Bool) (g : Option Aggregator) (partial : Bool) (cs : List ℕ) → (cs ≡ [] → partial ≡ false)
-    → fold with_attribute (made o p n m b g [] false us) (communities_of partial cs) ≡ made o p n m b g cs partial us
-communities_said o p n us m b g partial [] none = ap (λ (x : Bool). made o p n m b g [] x us) (sym (none refl))
-communities_said o p n us m b g partial (c ∷ cs) none = ap (λ (x : Bool). made o p n m b g (c ∷ cs) x us) (some_length c cs partial)
+communities_said : (o : Option ℕ) (p w : Option (List Segment)) (n : Option Ip) (us : List Unknown) (m : Option ℕ) (b : Bool) (g : Option Aggregator) (partial : Bool) (cs : List ℕ) → (cs ≡ [] → partial ≡ false)
+    → fold with_attribute (made o p w n m b g [] false us) (communities_of partial cs) ≡ made o p w n m b g cs partial us
+communities_said o p w n us m b g partial [] none = ap (λ (x : Bool). made o p w n m b g [] x us) (sym (none refl))
+communities_said o p w n us m b g partial (c ∷ cs) none = ap (λ (x : Bool). made o p w n m b g (c ∷ cs) x us) (some_length c cs partial)
+
+-- AS4_PATH where it is written
+abbrev wide_told : List Segment → Option (List Segment)
+wide_told path = cond (has_wide path) (Some path) None
+
+wide_said : (o : Option ℕ) (p : Option (List Segment)) (n : Option Ip) (m : Option ℕ) (at : Bool) (g : Option Aggregator) (cs : List ℕ) (cp : Bool) (us : List Unknown) (path : List Segment)
+    → fold with_attribute (made o p None n m at g cs cp us) (wide_of path) ≡ made o p (wide_told path) n m at g cs cp us
+wide_said o p n m at g cs cp us path = by (has_wide path)
+  where
+    by : (b : Bool) → fold with_attribute (made o p None n m at g cs cp us) (cond b (attributes.As4Path path ∷ []) []) ≡ made o p (cond b (Some path) None) n m at g cs cp us
+    by true = refl
+    by false = refl
+
+rear_said : (a : Attrs) (o : Option ℕ) (p : Option (List Segment)) (n : Option Ip) (m : Option ℕ) (at : Bool) (g : Option Aggregator) (cs : List ℕ) (cp : Bool) (us : List Unknown)
+    → fold with_attribute (made o p None n m at g cs cp us) (rear a) ≡ made o p (wide_told a.path) n m at g cs cp ((us ++ middles a) ++ highs a)
+rear_said a o p n m at g cs cp us =
+    fold_append (made o p None n m at g cs cp us) (unknowns (middles a)) (wide_of a.path ++ unknowns (highs a))
+    ∙ ap (λ (x : Said). fold with_attribute x (wide_of a.path ++ unknowns (highs a))) (unknowns_said o p None n m at g cs cp us (middles a))
+    ∙ fold_append (made o p None n m at g cs cp (us ++ middles a)) (wide_of a.path) (unknowns (highs a))
+    ∙ ap (λ (x : Said). fold with_attribute x (unknowns (highs a))) (wide_said o p n m at g cs cp (us ++ middles a) a.path)
+    ∙ unknowns_said o p (wide_told a.path) n m at g cs cp (us ++ middles a) (highs a)
 
 attrs_said : (a : Attrs) → AreSoundAttrs a
-    → said (attributes_of a) ≡ made (Some a.origin) (Some a.path) (Some a.next_hop) a.med a.atomic a.aggregator a.communities a.communities_partial (lows a ++ highs a)
+    → said (attributes_of a) ≡ made (Some a.origin) (Some (map told_segment a.path)) (wide_told a.path) (Some a.next_hop) a.med a.atomic a.aggregator a.communities a.communities_partial ((lows a ++ middles a) ++ highs a)
 attrs_said a s =
-    let W : Said → List Attribute → Said = λ x y. fold with_attribute x y in
     fold_append nothing_said (unknowns (lows a)) _
-    ∙ ap (λ (x : Said). fold with_attribute x (attributes.Origin a.origin ∷ attributes.AsPath a.path ∷ attributes.NextHop a.next_hop ∷ (med_of a.med ++ (atomic_of a.atomic ++ (aggregator_of a.aggregator ++ (communities_of a.communities_partial a.communities ++ unknowns (highs a)))))))
-    (unknowns_said None None None None false None [] false [] (lows a))
-    ∙ fold_append (made (Some a.origin) (Some a.path) (Some a.next_hop) None false None [] false (lows a)) (med_of a.med) _
-    ∙ ap (λ (x : Said). fold with_attribute x (atomic_of a.atomic ++ (aggregator_of a.aggregator ++ (communities_of a.communities_partial a.communities ++ unknowns (highs a))))) (med_said (Some a.origin) (Some a.path) (Some a.next_hop) (lows a) a.med)
-    ∙ fold_append (made (Some a.origin) (Some a.path) (Some a.next_hop) a.med false None [] false (lows a)) (atomic_of a.atomic) _
-    ∙ ap (λ (x : Said). fold with_attribute x (aggregator_of a.aggregator ++ (communities_of a.communities_partial a.communities ++ unknowns (highs a)))) (atomic_said (Some a.origin) (Some a.path) (Some a.next_hop) (lows a) a.med a.atomic)
-    ∙ fold_append (made (Some a.origin) (Some a.path) (Some a.next_hop) a.med a.atomic None [] false (lows a)) (aggregator_of a.aggregator) _
-    ∙ ap (λ (x : Said). fold with_attribute x (communities_of a.communities_partial a.communities ++ unknowns (highs a))) (aggregator_said (Some a.origin) (Some a.path) (Some a.next_hop) (lows a) a.med a.atomic a.aggregator)
-    ∙ fold_append (made (Some a.origin) (Some a.path) (Some a.next_hop) a.med a.atomic a.aggregator [] false (lows a)) (communities_of a.communities_partial a.communities) _
-    ∙ ap (λ (x : Said). fold with_attribute x (unknowns (highs a))) (communities_said (Some a.origin) (Some a.path) (Some a.next_hop) (lows a) a.med a.atomic a.aggregator a.communities_partial a.communities s.partial)
-    ∙ unknowns_said (Some a.origin) (Some a.path) (Some a.next_hop) a.med a.atomic a.aggregator a.communities a.communities_partial (lows a) (highs a)
+    ∙ ap (λ (x : Said). fold with_attribute x (attributes.Origin a.origin ∷ attributes.AsPath (map told_segment a.path) ∷ attributes.NextHop a.next_hop ∷ (med_of a.med ++ (atomic_of a.atomic ++ (aggregator_of a.aggregator ++ (communities_of a.communities_partial a.communities ++ rear a))))))
+    (unknowns_said None None None None None false None [] false [] (lows a))
+    ∙ fold_append (made (Some a.origin) (Some (map told_segment a.path)) None (Some a.next_hop) None false None [] false (lows a)) (med_of a.med) _
+    ∙ ap (λ (x : Said). fold with_attribute x (atomic_of a.atomic ++ (aggregator_of a.aggregator ++ (communities_of a.communities_partial a.communities ++ rear a)))) (med_said (Some a.origin) (Some (map told_segment a.path)) None (Some a.next_hop) (lows a) a.med)
+    ∙ fold_append (made (Some a.origin) (Some (map told_segment a.path)) None (Some a.next_hop) a.med false None [] false (lows a)) (atomic_of a.atomic) _
+    ∙ ap (λ (x : Said). fold with_attribute x (aggregator_of a.aggregator ++ (communities_of a.communities_partial a.communities ++ rear a))) (atomic_said (Some a.origin) (Some (map told_segment a.path)) None (Some a.next_hop) (lows a) a.med a.atomic)
+    ∙ fold_append (made (Some a.origin) (Some (map told_segment a.path)) None (Some a.next_hop) a.med a.atomic None [] false (lows a)) (aggregator_of a.aggregator) _
+    ∙ ap (λ (x : Said). fold with_attribute x (communities_of a.communities_partial a.communities ++ rear a)) (aggregator_said (Some a.origin) (Some (map told_segment a.path)) None (Some a.next_hop) (lows a) a.med a.atomic a.aggregator)
+    ∙ fold_append (made (Some a.origin) (Some (map told_segment a.path)) None (Some a.next_hop) a.med a.atomic a.aggregator [] false (lows a)) (communities_of a.communities_partial a.communities) _
+    ∙ ap (λ (x : Said). fold with_attribute x (rear a)) (communities_said (Some a.origin) (Some (map told_segment a.path)) None (Some a.next_hop) (lows a) a.med a.atomic a.aggregator a.communities_partial a.communities s.partial)
+    ∙ rear_said a (Some a.origin) (Some (map told_segment a.path)) (Some a.next_hop) a.med a.atomic a.aggregator a.communities a.communities_partial (lows a)
 
-low_or_high : (us : List Unknown) → SameMembers us (filter (λ (u : Unknown). nat_lt u.kind 1) us ++ filter (λ (u : Unknown). nat_le 1 u.kind) us)
-low_or_high us = record {
+in_some_band : (us : List Unknown) → SameMembers us ((filter is_lowest us ++ filter is_middle us) ++ filter is_highest us)
+in_some_band us = record {
   onto = λ u m. elim (cases_lt u.kind 1) [
-    | inl less ↦ Member-append_left (filter (λ (v : Unknown). nat_lt v.kind 1) us) _ u (filter_keeps (λ (v : Unknown). nat_lt v.kind 1) us u m (lt-ltb u.kind 1 less))
-    | inr more ↦ Member-append_right (filter (λ (v : Unknown). nat_lt v.kind 1) us) _ u (filter_keeps (λ (v : Unknown). nat_le 1 v.kind) us u m (le-leb 1 u.kind more))
+    | inl less ↦ Member-append_left (filter is_lowest us ++ filter is_middle us) _ u (Member-append_left (filter is_lowest us) _ u (filter_keeps is_lowest us u m (lt-ltb u.kind 1 less)))
+    | inr some ↦ elim (cases_lt u.kind 17) [
+      | inl less ↦ Member-append_left (filter is_lowest us ++ filter is_middle us) _ u (Member-append_right (filter is_lowest us) _ u (filter_keeps is_middle us u m (and_from _ _ (le-leb 1 u.kind some) (lt-ltb u.kind 17 less))))
+      | inr more ↦ Member-append_right (filter is_lowest us ++ filter is_middle us) _ u (filter_keeps is_highest us u m (le-leb 17 u.kind more))
+    ]
   ];
-  back = λ u m. elim (Member-append_cases (filter (λ (v : Unknown). nat_lt v.kind 1) us) _ u m) [ inl n ↦ filter_from _ us u n | inr n ↦ filter_from _ us u n ];
+  back = λ u m. elim (Member-append_cases (filter is_lowest us ++ filter is_middle us) _ u m) [
+    | inl n ↦ elim (Member-append_cases (filter is_lowest us) _ u n) [ inl k ↦ filter_from _ us u k | inr k ↦ filter_from _ us u k ]
+    | inr n ↦ filter_from _ us u n
+  ];
 }
+
+-- ---- the path
+
+hops_told : (path : List Segment) → hops (map told_segment path) ≡ hops path
+hops_told [] = refl
+hops_told (Set ns ∷ path) = omega (arith, hops_told path, sum_by-cons hops_of (Set (map told ns)) (map told_segment path), sum_by-cons hops_of (Set ns) path)
+hops_told (Sequence ns ∷ path) = omega (arith, hops_told path, length_told ns, sum_by-cons hops_of (Sequence (map told ns)) (map told_segment path), sum_by-cons hops_of (Sequence ns) path)
+
+-- nothing is taken of a path without empty segments
+none_leading : (path : List Segment) → Each IsSoundSegment path → leading 0 (map told_segment path) ≡ []
+none_leading [] h = refl
+none_leading (Set ns ∷ path) h = refl
+none_leading (Sequence ns ∷ path) h =
+    let some : 1 ≤ length ns = h.0.some in
+    let high : leb (length (map told ns)) 0 ≡ false = false_from_ne_true (leb (length (map told ns)) 0) (λ t. let le : length (map told ns) ≤ 0 = leb-true (length (map told ns)) 0 t in omega (arith, le, some, length_told ns)) in
+    rw high refl
+
+narrow_numbers : (ns : List ℕ) → list_any (nat_le 65536) ns ≡ false → map told ns ≡ ns
+narrow_numbers [] e = refl
+narrow_numbers (n ∷ ns) e =
+    let parts = or_parts (nat_le 65536 n) (list_any (nat_le 65536) ns) e in
+    let less : n < 65536 = leb-false 65536 n parts.0 in
+    ap (λ (m : ℕ). m ∷ map told ns) (told_same n less) ∙ ap (λ (ms : List ℕ). n ∷ ms) (narrow_numbers ns parts.1)
+
+narrow_segment : (s : Segment) → list_any (nat_le 65536) (asns s) ≡ false → told_segment s ≡ s
+narrow_segment (Set ns) e = ap (λ (ms : List ℕ). Set ms) (narrow_numbers ns e)
+narrow_segment (Sequence ns) e = ap (λ (ms : List ℕ). Sequence ms) (narrow_numbers ns e)
+
+narrow_path : (path : List Segment) → has_wide path ≡ false → map told_segment path ≡ path
+narrow_path [] e = refl
+narrow_path (s ∷ path) e =
+    let parts = or_parts (list_any (nat_le 65536) (asns s)) (has_wide path) e in
+    ap (λ (t : Segment). t ∷ map told_segment path) (narrow_segment s parts.0) ∙ ap (λ (ss : List Segment). s ∷ ss) (narrow_path path parts.1)
+
+whole_back : (path : List Segment) → Each IsSoundSegment path → whole_path (map told_segment path) (wide_told path) ≡ path
+whole_back path h = by (has_wide path) refl
+  where
+    even : (n : ℕ) → ltb n n ≡ false
+    even n = false_from_ne_true (ltb n n) (λ t. let less : n < n = ltb-true n n t in omega (arith, less))
+
+    none : (n : ℕ) → n - n ≡ 0
+    none n = omega arith
+
+    by : (b : Bool) → has_wide path ≡ b → whole_path (map told_segment path) (cond b (Some path) None) ≡ path
+    by true e = rw (hops_told path, even (hops path), none (hops path), none_leading path h) refl
+    by false e = narrow_path path e
 
 pub are_said : (a : Attrs) → AreSoundAttrs a → AreSaid (said (attributes_of a)) a
 are_said a s =
     subst (λ (x : Said). AreSaid x a) (sym (attrs_said a s)) (record {
       origin = refl;
-      path = refl;
+      path = ap (λ (ss : List Segment). Some ss) (whole_back a.path s.path);
       next_hop = refl;
       med = refl;
       atomic = refl;
@@ -393,5 +540,5 @@ are_said a s =
       communities = refl;
       communities_partial = refl;
       rising = s.rising;
-      same = low_or_high a.unknown;
+      same = in_some_band a.unknown;
     })

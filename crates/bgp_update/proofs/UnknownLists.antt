@@ -27,6 +27,7 @@ unknown_in attributes.LocalPref = []
 unknown_in attributes.AtomicAggregate = []
 unknown_in (attributes.Aggregator a) = []
 unknown_in (attributes.Communities partial ns) = []
+unknown_in (attributes.As4Path segments) = []
 unknown_in (attributes.Unknown u) = u ∷ []
 unknown_in (attributes.Ignored number) = []
 
@@ -42,6 +43,7 @@ said_more s attributes.LocalPref = sym (append-nil s.unknown)
 said_more s attributes.AtomicAggregate = sym (append-nil s.unknown)
 said_more s (attributes.Aggregator a) = sym (append-nil s.unknown)
 said_more s (attributes.Communities partial ns) = sym (append-nil s.unknown)
+said_more s (attributes.As4Path segments) = sym (append-nil s.unknown)
 said_more s (attributes.Unknown u) = refl
 said_more s (attributes.Ignored number) = sym (append-nil s.unknown)
 
@@ -65,6 +67,7 @@ one_in q attributes.LocalPref = inl refl
 one_in q attributes.AtomicAggregate = inl refl
 one_in q (attributes.Aggregator a) = inl refl
 one_in q (attributes.Communities partial ns) = inl refl
+one_in q (attributes.As4Path segments) = inl refl
 one_in q (attributes.Unknown u) = elim (cases_eq q u.kind) [
   | inl same ↦ let here : cond (eqb q u.kind) 1 0 ≡ 1 = ap (λ (b : Bool). let n : ℕ = cond b 1 0 in n) (eq-eqb q u.kind same) in inr (omega (arith, here), same)
   | inr other ↦ let here : cond (eqb q u.kind) 1 0 ≡ 0 = ap (λ (b : Bool). let n : ℕ = cond b 1 0 in n) (ne_eqb q u.kind other) in inl (omega (arith, here))

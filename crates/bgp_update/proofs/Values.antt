@@ -17,12 +17,13 @@ use Rattle.net_types.specs.Sets.{IsRising, Member}
 use Rattle.net_types.specs.UpdateFormat.{Parts, is_complete, no_types}
 use Rattle.net_types.specs.UpdateReading.{attrs_for, by_type, insert_unknown, update_of}
 use Rattle.net_types.specs.UpdateSpelling.{AreAttrs, IsOrdered, IsUpdateOf, is_type_before}
-use Rattle.net_types.specs.UpdateValue.{Said, said}
+use Rattle.net_types.specs.UpdateValue.{Said, said, said_path}
 use Rattle.net_types.specs.declared.address.Ip.{Ip}
 use Rattle.net_types.specs.declared.prefix.Prefix.{Prefix}
 use Rattle.net_types.specs.declared.route.Attrs.{Attrs}
 use Rattle.net_types.specs.declared.route.Segment.{Segment}
 use Rattle.net_types.specs.declared.route.Unknown.{Unknown}
+use Rattle.bgp_update.proofs.PathLists.{path_there}
 use Rattle.bgp_update.proofs.PrefixLists.{among_member, member_among, ordered_without}
 use Rattle.bgp_update.proofs.UnknownLists.{count, counted, one_each, said_unknowns, unknowns_of}
 use Rattle.bgp_update.specs.Answers.{AreNew}
@@ -116,7 +117,7 @@ by_type_rising (u ∷ us) once =
 
 -- ---- attributes
 
-whole : (s : Said) (p : Prefix) (ps : List Prefix) (o : Option ℕ) (path : Option (List Segment)) (ip : Option Ip) → s.origin ≡ o → s.path ≡ path → s.next_hop ≡ ip
+whole : (s : Said) (p : Prefix) (ps : List Prefix) (o : Option ℕ) (path : Option (List Segment)) (ip : Option Ip) → s.origin ≡ o → said_path s ≡ path → s.next_hop ≡ ip
     → (is_some o && (is_some path && is_some ip)) ≡ true → IsRising is_type_before (by_type s.unknown)
     → AreAttrs s (p ∷ ps) (option_and_then (λ (origin : ℕ). option_and_then (λ (path : List Segment). option_map (λ (next_hop : Ip). let a : Attrs = record {
       origin = origin;
@@ -147,7 +148,9 @@ whole s p ps (Some o) (Some path) (Some ip) e f g t r = record {
 
 given : (s : Said) (ps : List Prefix) → is_complete s ps ≡ true → IsRising is_type_before (by_type s.unknown) → AreAttrs s ps (attrs_for s ps)
 given s [] t r = tt
-given s (p ∷ ps) t r = whole s p ps s.origin s.path s.next_hop refl refl refl t r
+given s (p ∷ ps) t r =
+    let same : (is_some s.origin && (is_some (said_path s) && is_some s.next_hop)) ≡ (is_some s.origin && (is_some s.path && is_some s.next_hop)) = ap (λ (b : Bool). is_some s.origin && (b && is_some s.next_hop)) (path_there s) in
+    whole s p ps s.origin (said_path s) s.next_hop refl refl refl (same ∙ t) r
 
 -- ---- the whole
 

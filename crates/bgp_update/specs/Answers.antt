@@ -1,5 +1,5 @@
 -- What a function of the program answered, beside what reading gives.
-use Rattle.std.specs.Prelude.{◌≡◌, ℕ, Bool, true, false, List, [], ◌∷◌, Result, Ok, Err, slice_index_or, ◌&&◌, Option, Some, None, is_some}
+use Rattle.std.specs.Prelude.{◌≡◌, ℕ, Bool, true, false, List, [], ◌∷◌, Result, Ok, Err, slice_index_or, ◌&&◌, ◌==◌, Option, Some, None, is_some, if◌then◌else◌}
 use Rattle.std.specs.List.{list_any}
 use Rattle.std.specs.Ordering.{eq_by_cmp}
 use Rattle.net_types.specs.Keys.{prefix_cmp}
@@ -10,9 +10,10 @@ use Rattle.net_types.specs.UpdateReading.{read_message}
 use Rattle.bgp_update.specs.declared.fault.UpdateFault.{UpdateFault}
 use Rattle.bgp_update.specs.declared.fault.UpdateFault.TheVariants.{Bad, Memory}
 use Rattle.bgp_update.specs.declared.said.Said as said
-use Rattle.net_types.specs.UpdateFormat.{Head, Parts, is_complete, number_of, with_type}
+use Rattle.net_types.specs.UpdateFormat.{Head, Parts, is_complete, longs, number_of, with_type, words}
 use Rattle.net_types.specs.UpdateSpelling.{IsUpdateOf}
 use Rattle.net_types.specs.UpdateValue as value
+use Rattle.net_types.specs.UpdateValue.{said_path}
 use Rattle.net_types.specs.declared.attribute.Attribute.{Attribute}
 use Rattle.net_types.specs.declared.prefix.Prefix.{Prefix}
 use Rattle.net_types.specs.declared.route.Attrs.{Attrs}
@@ -34,6 +35,10 @@ Gives view result read = reading.Gives cause_of view result read
 abbrev pub marked : List Bool → ℕ → Bool
 marked seen number = slice_index_or seen number false
 
+-- the numbers of so many octets each, 2 or 4
+abbrev pub numbers_of : ℕ → List ℕ → List ℕ
+numbers_of size = if size == 2 then words else longs
+
 -- the list has the prefix
 abbrev pub is_among : Prefix → List Prefix → Bool
 is_among p ps = list_any (eq_by_cmp prefix_cmp p) ps
@@ -52,6 +57,7 @@ abbrev pub said_view : said.Said → value.Said
 said_view s = record {
   origin = s.origin;
   path = s.path;
+  wide = s.wide;
   next_hop = s.next_hop;
   med = s.med;
   atomic = s.atomic;
@@ -68,7 +74,7 @@ parts_of withdrawn all announced = record { withdrawn = withdrawn; attributes = 
 -- the attributes are what was said, but for the order of the unknown ones, which ascend
 pub record AreSorted (s : value.Said) (a : Attrs) : Type 0 where
   pub origin : s.origin ≡ Some a.origin
-  pub path : s.path ≡ Some a.path
+  pub path : said_path s ≡ Some a.path
   pub next_hop : s.next_hop ≡ Some a.next_hop
   pub med : a.med ≡ s.med
   pub atomic : a.atomic ≡ s.atomic
@@ -82,14 +88,14 @@ pub record AreSorted (s : value.Said) (a : Attrs) : Type 0 where
 abbrev pub IsWhole : value.Said → Result Attrs UpdateFault → Type 0
 IsWhole s (Ok a) = AreSorted s a
 IsWhole s (Err (Bad f)) = ((is_some s.origin && (is_some s.path && is_some s.next_hop)) ≡ false) × (f ≡ MissingWellKnown)
-IsWhole s (Err Memory) = ⊥
+IsWhole s (Err Memory) = Unit {0}
 
 -- the attributes where something is announced
 abbrev pub AreGiven : value.Said → List Prefix → Result (Option Attrs) UpdateFault → Type 0
 AreGiven s announced (Ok None) = announced ≡ []
 AreGiven s announced (Ok (Some a)) = (announced ≡ [] → ⊥) × AreSorted s a
 AreGiven s announced (Err (Bad f)) = (announced ≡ [] → ⊥) × ((is_some s.origin && (is_some s.path && is_some s.next_hop)) ≡ false) × (f ≡ MissingWellKnown)
-AreGiven s announced (Err Memory) = ⊥
+AreGiven s announced (Err Memory) = Unit {0}
 
 -- the update of the parts, or that an attribute is missing
 abbrev pub IsFinished : Parts → Result Update UpdateFault → Type 0

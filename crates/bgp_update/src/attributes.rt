@@ -1,38 +1,42 @@
-//! Attributes of a message, one after the other (RFC 4271 4.3, 5, 6.3; RFC 1997).
+//! Attributes of a message, one after the other (RFC 4271 4.3, 5, 6.3; RFC 1997; RFC 6793 3).
 
 ghost use Rattle.std.specs.Prelude.{◌≡◌, ◌<◌, ◌≤◌, take, drop, length, IfOk, IsTrue, false};
 ghost use Rattle.net_types.specs.AttributeTypes.{has_length, type_length, type_of};
-ghost use Rattle.net_types.specs.UpdateFormat.{address, is_long, is_partial, no_types, segment_of, unknown_value, words};
+ghost use Rattle.net_types.specs.UpdateFormat.{address, is_long, is_partial, no_types, segment_of, unknown_value, wide_value};
 ghost use Rattle.grammar.specs.Numbers.{big_endian};
-ghost use Rattle.bgp_update.specs.Answers.{AreNew, Gives, marked};
-ghost use Rattle.net_types.specs.UpdateReading.{read_attribute, read_attributes, read_known_value, read_segment, read_segments, read_value, read_value_length};
+ghost use Rattle.grammar.specs.FormatReading.{read_items};
+ghost use Rattle.bgp_update.specs.Answers.{AreNew, Gives, marked, numbers_of};
+ghost use Rattle.net_types.specs.UpdateReading.{read_attribute, read_attributes, read_known_value, read_segment_by, read_value, read_value_length, read_wide_segments, wide_read};
 
 use crate::fault::UpdateFault;
 use crate::octets::{ensure, longs, number, octet, octets, two_octets, words};
 use net_types::{
-    Aggregator, Attribute, AttributeType, Fault, Ip, Items, Memory, Segment, Segments, Unknown,
+    Aggregator, Attribute, AttributeType, Fault, Ip, Items, Memory, Numbers, Segment, Segments,
+    Unknown,
 };
 use std::alloc::Global;
 
-#[tactic(auto, unfolding(net_types::specs::UpdateReading::read_segment))]
-fn segment(alloc: Global, rest: &[u8]) -> Result<(Segment, &[u8]), UpdateFault>
-    ensures reads { Gives (λ x. (x.0, x.1.now)) result (read_segment rest.now) }
+/// A segment whose numbers have so many octets each, 2 or 4.
+#[tactic(auto, unfolding(net_types::specs::UpdateReading::read_segment_by))]
+fn segment(alloc: Global, size: usize, rest: &[u8]) -> Result<(Segment, &[u8]), UpdateFault>
+    requires { size ≤ 4 }
+    ensures reads { Gives (λ x. (x.0, x.1.now)) result (read_segment_by size (numbers_of size) rest.now) }
     ensures left { IfOk result (λ x. length x.1.now < length rest.now) }
 {
     let (kind, rest) = octet(rest, Fault::AsPath)?;
     ensure(kind == 1 || kind == 2, Fault::AsPath)?;
     let (count, rest) = octet(rest, Fault::AsPath)?;
     ensure(1 <= count, Fault::AsPath)?;
-    let (asns, rest) = octets(count as usize * 2, rest, Fault::AsPath)?;
-    let segment = segment_of(alloc, kind, asns)?;
+    let (asns, rest) = octets(count as usize * size, rest, Fault::AsPath)?;
+    let segment = segment_of(alloc, kind, size, asns)?;
     Ok((segment, rest))
 }
 
 /// AS_SET and AS_SEQUENCE are told by their numbers, 1 and 2.
-fn segment_of(alloc: Global, kind: u8, asns: &[u8]) -> Result<Segment, Memory>
-    ensures { IfOk result (λ s. s ≡ segment_of kind (words asns.now)) }
+fn segment_of(alloc: Global, kind: u8, size: usize, asns: &[u8]) -> Result<Segment, Memory>
+    ensures { IfOk result (λ s. s ≡ segment_of kind (numbers_of size asns.now)) }
 {
-    let asns = words(alloc, asns)?;
+    let asns = numbers(alloc, size, asns)?;
     if kind == 1 {
         Ok(Segment::Set(asns))
     } else {
@@ -40,17 +44,51 @@ fn segment_of(alloc: Global, kind: u8, asns: &[u8]) -> Result<Segment, Memory>
     }
 }
 
-fn segments(alloc: Global, block: &[u8]) -> Result<Segments, UpdateFault>
-    ensures { Gives (λ v. v) result (read_segments block.now) }
+/// The numbers of two octets each, or of four.
+fn numbers(alloc: Global, size: usize, octets: &[u8]) -> Result<Numbers, Memory>
+    ensures { IfOk result (λ ns. ns ≡ numbers_of size octets.now) }
+{
+    if size == 2 {
+        words(alloc, octets)
+    } else {
+        longs(alloc, octets)
+    }
+}
+
+fn segments(alloc: Global, size: usize, block: &[u8]) -> Result<Segments, UpdateFault>
+    requires { size ≤ 4 }
+    ensures { Gives (λ v. v) result (read_items (read_segment_by size (numbers_of size)) block.now) }
 {
     let mut all = Items::new(alloc);
     let mut left = block;
     while !left.is_empty() {
-        let (item, after) = segment(alloc, left)?;
+        let (item, after) = segment(alloc, size, left)?;
         all.push(item)?;
         left = after;
     }
     Ok(all)
+}
+
+/// AS4_PATH; a value of another form says nothing, and is no fault.
+#[tactic(auto, unfolding(net_types::specs::UpdateReading::read_wide_segments))]
+fn wide_path(alloc: Global, inner: &[u8]) -> Result<Attribute, Memory>
+    ensures { IfOk result (λ a. a ≡ wide_read (read_wide_segments inner.now)) }
+{
+    match segments(alloc, 4, inner) {
+        Ok(path) => Ok(wide_value(path)),
+        Err(UpdateFault::Bad(_)) => Ok(Attribute::Ignored(17)),
+        Err(UpdateFault::Memory) => Err(Memory),
+    }
+}
+
+fn wide_value(path: Segments) -> Attribute
+    ensures { result ≡ wide_value path }
+{
+    if path.is_empty() {
+        Attribute::Ignored(17)
+    } else {
+        Attribute::As4Path(path)
+    }
 }
 
 /// A length has two octets where the flag 0x10 is set.
@@ -68,7 +106,7 @@ fn value_length(flags: u8, rest: &[u8]) -> Result<(usize, &[u8]), UpdateFault>
 }
 
 /// A value of a type in the table, whose length is right.
-#[tactic(auto, unfolding(net_types::specs::UpdateReading::read_known_value))]
+#[tactic(auto, unfolding(net_types::specs::UpdateReading::read_known_value, net_types::specs::UpdateReading::read_segments))]
 fn known_value<'a>(
     alloc: Global,
     kind: AttributeType,
@@ -86,7 +124,7 @@ fn known_value<'a>(
             ensure(origin <= 2, Fault::Origin)?;
             Ok((Attribute::Origin(origin as u8), rest))
         }
-        AttributeType::AsPath => Ok((Attribute::AsPath(segments(alloc, inner)?), rest)),
+        AttributeType::AsPath => Ok((Attribute::AsPath(segments(alloc, 2, inner)?), rest)),
         AttributeType::NextHop => {
             ensure(1 <= inner[0] && inner[0] < 224, Fault::NextHopSyntax)?;
             Ok((Attribute::NextHop(Ip(number(inner))), rest))
@@ -102,6 +140,7 @@ fn known_value<'a>(
             let communities = longs(alloc, inner)?;
             Ok((Attribute::Communities(partial, communities), rest))
         }
+        AttributeType::As4Path => Ok((wide_path(alloc, inner)?, rest)),
     }
 }
 

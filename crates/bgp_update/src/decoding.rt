@@ -1,7 +1,8 @@
 //! Reading a whole message.
 
-ghost use Rattle.std.specs.Prelude.{◌≡◌, ◌≤◌, ◌==◌, ◌⊎◌, length, Ok, Err, IfOk, MatchResult};
+ghost use Rattle.std.specs.Prelude.{◌≡◌, ◌≤◌, ◌==◌, ◌⊎◌, length, false, Ok, Err, IfOk, IfSome, MatchResult};
 ghost use Rattle.std.specs.List.{list_all};
+ghost use Rattle.net_types.specs.Paths.{has_wide, hops};
 ghost use Rattle.net_types.specs.UpdateFormat.{no_types};
 ghost use Rattle.net_types.specs.SoundUpdates.{IsSoundUpdate};
 ghost use Rattle.net_types.specs.UpdateSpelling.{IsFault, Spells};
@@ -72,8 +73,11 @@ pub fn decode(alloc: Global, bytes: &[u8]) -> Result<Update, UpdateFault>
     ensures only { IfOk result (λ u. (v : Value) → Spells bytes.now v → v ≡ u) }
     // It has the form of what messages say, as writing asks for.
     ensures form { IfOk result IsSoundUpdate }
-    // Its canonical message is no longer than a message may be, so it can be written again.
-    ensures short { IfOk result (λ u. length (canonical u) ≤ 4096) }
+    // Its canonical message is no longer than a message may be, where no AS number is wide: a path with such a number is
+    // written twice.
+    ensures short { IfOk result (λ u. IfSome u.attrs (λ a. has_wide a.path ≡ false) → length (canonical u) ≤ 4096) }
+    // Its path counts no more AS numbers than a message has octets.
+    ensures hops { IfOk result (λ u. IfSome u.attrs (λ a. hops a.path ≤ 4096)) }
     // No check fails.
     ensures sound { IfOk result (λ u. (f : Cause) → IsFault bytes.now f → ⊥) }
     // A fault is that of the first check that fails, and of no other.

@@ -1,12 +1,13 @@
 //! Writing the parts of a message: prefixes and attributes.
 
-ghost use Rattle.std.specs.Prelude.{◌≡◌, ◌<◌, ◌++◌, [], ◌∷◌, if◌then◌else◌, OnOk, nat_lt, nat_le};
+ghost use Rattle.std.specs.Prelude.{◌≡◌, ◌<◌, ◌++◌, [], ◌∷◌, ◌&&◌, if◌then◌else◌, OnOk, nat_lt, nat_le};
 ghost use Rattle.std.specs.List.{flat_map};
 ghost use Rattle.net_types.specs.Octets.{address_octets, word};
 ghost use Rattle.net_types.specs.AttributeTypes.{type_flags, type_number};
-ghost use Rattle.net_types.specs.Updates.{aggregator_octets, atomic_octets, attribute, attrs_octets, communities_octets, long, med_octets, optional_attrs_octets, passed_on, prefix_octets, prefixes_octets, segment_octets};
+ghost use Rattle.net_types.specs.Updates.{aggregator_octets, atomic_octets, attribute, attrs_octets, communities_octets, long, med_octets, optional_attrs_octets, passed_on, prefix_octets, prefixes_octets, segment_octets, short, wide_octets, wide_segment_octets};
 ghost use Rattle.net_types.specs.declared.route.Unknown.{Unknown as Foreign};
 
+use crate::paths::has_wide;
 use net_types::{Aggregator, AttributeType, Attrs, Ip, Memory, Prefix, Segment, Unknown};
 use std::alloc::Global;
 
@@ -29,11 +30,19 @@ fn long(n: u32) -> [u8; 4]
     [first, second, third, fourth]
 }
 
-fn push_words(out: &mut Vec<u8>, numbers: &[u32]) -> Result<(), Memory>
-    ensures { OnOk result (out.new.items ≡ out.old.items ++ flat_map word numbers.now) }
+/// An AS number in two octets: AS_TRANS stands for one that takes more (RFC 6793 9).
+fn short(asn: u32) -> [u8; 2]
+    ensures { result ≡ short asn }
 {
-    for number in numbers {
-        out.extend_from_slice(word(*number as usize).as_slice())?;
+    let told = if asn < 65536 { asn } else { 23456 };
+    word(told as usize)
+}
+
+fn push_shorts(out: &mut Vec<u8>, asns: &[u32]) -> Result<(), Memory>
+    ensures { OnOk result (out.new.items ≡ out.old.items ++ flat_map short asns.now) }
+{
+    for asn in asns {
+        out.extend_from_slice(short(*asn).as_slice())?;
     }
     Ok(())
 }
@@ -84,14 +93,41 @@ fn push_segment(out: &mut Vec<u8>, segment: &Segment) -> Result<(), Memory>
         Segment::Set(asns) => {
             out.push(1)?;
             out.push((asns.len() % 256) as u8)?;
-            push_words(out, asns.items())
+            push_shorts(out, asns.items())
         }
         Segment::Sequence(asns) => {
             out.push(2)?;
             out.push((asns.len() % 256) as u8)?;
-            push_words(out, asns.items())
+            push_shorts(out, asns.items())
         }
     }
+}
+
+/// A segment of AS4_PATH.
+fn push_wide_segment(out: &mut Vec<u8>, segment: &Segment) -> Result<(), Memory>
+    ensures { OnOk result (out.new.items ≡ out.old.items ++ wide_segment_octets segment.now) }
+{
+    match segment {
+        Segment::Set(asns) => {
+            out.push(1)?;
+            out.push((asns.len() % 256) as u8)?;
+            push_longs(out, asns.items())
+        }
+        Segment::Sequence(asns) => {
+            out.push(2)?;
+            out.push((asns.len() % 256) as u8)?;
+            push_longs(out, asns.items())
+        }
+    }
+}
+
+fn push_wide_path(out: &mut Vec<u8>, path: &[Segment]) -> Result<(), Memory>
+    ensures { OnOk result (out.new.items ≡ out.old.items ++ flat_map wide_segment_octets path.now) }
+{
+    for segment in path {
+        push_wide_segment(out, segment)?;
+    }
+    Ok(())
 }
 
 /// An attribute; its length takes two octets, which the flag 0x10 says, only where one doesn't hold it.
@@ -138,6 +174,18 @@ fn push_as_path(alloc: Global, out: &mut Vec<u8>, path: &[Segment]) -> Result<()
     let mut value = Vec::new(alloc);
     push_path(&mut value, path)?;
     push_known(out, AttributeType::AsPath, value.as_slice())
+}
+
+/// AS4_PATH has the whole path, where AS_PATH doesn't tell some number of it.
+fn push_as4_path(alloc: Global, out: &mut Vec<u8>, path: &[Segment]) -> Result<(), Memory>
+    ensures { OnOk result (out.new.items ≡ out.old.items ++ wide_octets path.now) }
+{
+    if !has_wide(path) {
+        return Ok(());
+    }
+    let mut value = Vec::new(alloc);
+    push_wide_path(&mut value, path)?;
+    push_known(out, AttributeType::As4Path, value.as_slice())
 }
 
 fn push_med(out: &mut Vec<u8>, med: Option<u32>) -> Result<(), Memory>
@@ -215,12 +263,22 @@ fn push_lowest(out: &mut Vec<u8>, list: &[Unknown]) -> Result<(), Memory>
     Ok(())
 }
 
-/// The unknown attributes whose types are above all that are known.
-fn push_others(out: &mut Vec<u8>, list: &[Unknown]) -> Result<(), Memory>
-    ensures { OnOk result (out.new.items ≡ out.old.items ++ flat_map (λ (u : Foreign). if nat_le 1 u.kind then attribute 224 u.kind u.value else []) list.now) }
+/// The unknown attributes whose types are between those that are known.
+fn push_middle(out: &mut Vec<u8>, list: &[Unknown]) -> Result<(), Memory>
+    ensures { OnOk result (out.new.items ≡ out.old.items ++ flat_map (λ (u : Foreign). if nat_le 1 u.kind && nat_lt u.kind 17 then attribute 224 u.kind u.value else []) list.now) }
 {
     for unknown in list {
-        push_unknown(out, unknown, 1 <= unknown.kind)?;
+        push_unknown(out, unknown, 1 <= unknown.kind && unknown.kind < 17)?;
+    }
+    Ok(())
+}
+
+/// The unknown attributes whose types are above all that are known.
+fn push_highest(out: &mut Vec<u8>, list: &[Unknown]) -> Result<(), Memory>
+    ensures { OnOk result (out.new.items ≡ out.old.items ++ flat_map (λ (u : Foreign). if nat_le 17 u.kind then attribute 224 u.kind u.value else []) list.now) }
+{
+    for unknown in list {
+        push_unknown(out, unknown, 17 <= unknown.kind)?;
     }
     Ok(())
 }
@@ -264,7 +322,9 @@ pub fn push_attrs(
     push_lowest(out, attrs.unknown.items())?;
     push_needed(alloc, out, attrs, next_hop)?;
     push_optional(alloc, out, attrs)?;
-    push_others(out, attrs.unknown.items())?;
+    push_middle(out, attrs.unknown.items())?;
+    push_as4_path(alloc, out, attrs.path.items())?;
+    push_highest(out, attrs.unknown.items())?;
     Ok(())
 }
 

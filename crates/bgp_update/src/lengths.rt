@@ -1,10 +1,10 @@
 //! How long a message is that an update is written as, without writing it; lengths over 65535 are told as 65535.
 
-ghost use Rattle.std.specs.Prelude.{◌≡◌, ◌+◌, ◌*◌, ◌^◌, nat_le, min, length, if◌then◌else◌};
-ghost use Rattle.std.specs.List.{flat_map};
-ghost use Rattle.net_types.specs.Updates.{aggregator_octets, atomic_octets, attrs_octets, communities_octets, med_octets, canonical, optional_attrs_octets, prefixes_octets, segment_octets, unknown_octets};
-ghost use Rattle.net_types.specs.SoundUpdates.{IsSoundUpdate};
+ghost use Rattle.std.specs.Prelude.{◌≡◌, ◌+◌, ◌*◌, nat_le, nat_lt, min, length, Some, if◌then◌else◌};
+ghost use Rattle.std.specs.List.{flat_map, list_any};
+ghost use Rattle.net_types.specs.Updates.{aggregator_octets, atomic_octets, attrs_octets, canonical, communities_octets, is_oversize, is_oversize_with, med_octets, prefix_octets, prefixes_octets, segment_octets, unknown_octets, wide_octets, wide_segment_octets};
 
+use crate::paths::has_wide;
 use net_types::{Aggregator, Attrs, Prefix, Segment, Unknown, Update};
 
 /// The sum, or 65535.
@@ -15,6 +15,13 @@ fn add(a: usize, b: usize) -> usize
     if sum < 65535 { sum } else { 65535 }
 }
 
+fn four_times(n: usize) -> usize
+    ensures { result ≡ min 65535 (4 * n) }
+{
+    let two = add(n, n);
+    add(two, two)
+}
+
 /// The length of an attribute whose value has so many octets.
 fn attribute_len(len: usize) -> usize
     ensures { result ≡ min 65535 (if nat_le len 255 then 3 + len else 4 + len) }
@@ -22,17 +29,23 @@ fn attribute_len(len: usize) -> usize
     if len <= 255 { add(3, len) } else { add(4, len) }
 }
 
+fn prefix_len(prefix: Prefix) -> usize
+    ensures { result ≡ length (prefix_octets prefix) }
+{
+    1 + (prefix.len as usize + 7) / 8
+}
+
 fn prefixes_len(prefixes: &[Prefix]) -> usize
     ensures { result ≡ min 65535 (length (prefixes_octets prefixes.now)) }
 {
     let mut total = 0;
     for prefix in prefixes {
-        total = add(total, 1 + (prefix.len as usize + 7) / 8);
+        total = add(total, prefix_len(*prefix));
     }
     total
 }
 
-#[tactic(auto, using(crate::proofs::LengthSums::words_len))]
+#[tactic(auto, using(crate::proofs::LengthSums::shorts_len))]
 fn segment_len(segment: &Segment) -> usize
     ensures { result ≡ min 65535 (length (segment_octets segment.now)) }
 {
@@ -50,6 +63,36 @@ fn path_len(path: &[Segment]) -> usize
         total = add(total, segment_len(segment));
     }
     total
+}
+
+#[tactic(auto, using(crate::proofs::LengthSums::longs_len))]
+fn wide_segment_len(segment: &Segment) -> usize
+    ensures { result ≡ min 65535 (length (wide_segment_octets segment.now)) }
+{
+    match segment {
+        Segment::Set(asns) => add(2, four_times(asns.len())),
+        Segment::Sequence(asns) => add(2, four_times(asns.len())),
+    }
+}
+
+fn wide_path_len(path: &[Segment]) -> usize
+    ensures { result ≡ min 65535 (length (flat_map wide_segment_octets path.now)) }
+{
+    let mut total = 0;
+    for segment in path {
+        total = add(total, wide_segment_len(segment));
+    }
+    total
+}
+
+fn as4_path_len(path: &[Segment]) -> usize
+    ensures { result ≡ min 65535 (length (wide_octets path.now)) }
+{
+    if has_wide(path) {
+        attribute_len(wide_path_len(path))
+    } else {
+        0
+    }
 }
 
 fn unknown_len(unknown: &[Unknown]) -> usize
@@ -92,8 +135,7 @@ fn communities_len(partial: bool, communities: &[u32]) -> usize
     match communities {
         [] => 0,
         [_, ..] => {
-            let two = add(communities.len(), communities.len());
-            attribute_len(add(two, two))
+            attribute_len(four_times(communities.len()))
         }
     }
 }
@@ -108,7 +150,8 @@ fn attrs_len(attrs: &Attrs) -> usize
         + med_len(attrs.med)
         + atomic_len(attrs.atomic)
         + aggregator_len(attrs.aggregator);
-    add(add(unknown, path), add(small, communities))
+    let wide = as4_path_len(attrs.path.items());
+    add(add(add(unknown, path), add(small, communities)), wide)
 }
 
 /// How many octets the canonical message of an update has, or 65535 where it has more. No memory is taken.
@@ -121,5 +164,36 @@ pub fn encoded_len(update: &Update) -> usize
     match &update.attrs {
         None => prefixes,
         Some(attrs) => add(prefixes, attrs_len(attrs)),
+    }
+}
+
+/// Whether a message with so many octets in front of the prefix has more than 4096.
+fn exceeds(front: usize, prefix: Prefix) -> bool
+    ensures { result ≡ nat_lt 4096 (min 65535 (front + length (prefix_octets prefix))) }
+{
+    4096 < add(front, prefix_len(prefix))
+}
+
+fn some_exceeds(front: usize, announced: &[Prefix]) -> bool
+    ensures { result ≡ list_any (λ p. nat_lt 4096 (min 65535 (front + length (prefix_octets p)))) announced.now }
+{
+    announced.iter().any(|prefix| exceeds(front, *prefix))
+}
+
+/// Whether the announcement of some prefix with these attributes takes more than 4096 octets.
+fn is_oversize_with(attrs: &Attrs, announced: &[Prefix]) -> bool
+    ensures { result ≡ is_oversize_with (Some attrs.now) announced.now }
+{
+    some_exceeds(add(23, attrs_len(attrs)), announced)
+}
+
+/// Whether some announced prefix couldn't be told, since a message with it alone has more than 4096 octets. No memory is
+/// taken.
+pub fn is_oversize(update: &Update) -> bool
+    ensures { result ≡ is_oversize update.now }
+{
+    match &update.attrs {
+        None => false,
+        Some(attrs) => is_oversize_with(attrs, update.announced.items()),
     }
 }

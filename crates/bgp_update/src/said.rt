@@ -9,6 +9,7 @@ ghost use Rattle.net_types.specs.declared.route.Unknown.{Unknown as Foreign};
 ghost use Rattle.bgp_update.specs.Answers.{AreGiven, AreNew, IsFinished, IsWhole, parts_of, said_view};
 
 use crate::fault::UpdateFault;
+use crate::paths::whole_path;
 use crate::prefixes::{ascending, without};
 use net_types::{
     Aggregator, Attribute, Attrs, Fault, Ip, Items, Memory, Numbers, Prefix, Segments, Unknown,
@@ -21,6 +22,7 @@ use std::alloc::Global;
 pub struct Said {
     origin: Option<u8>,
     path: Option<Segments>,
+    wide: Option<Segments>,
     next_hop: Option<Ip>,
     med: Option<u32>,
     atomic: bool,
@@ -37,6 +39,7 @@ impl Said {
         Said {
             origin: None,
             path: None,
+            wide: None,
             next_hop: None,
             med: None,
             atomic: false,
@@ -63,6 +66,7 @@ impl Said {
                 self.communities_partial = partial && !communities.is_empty();
                 self.communities = communities;
             }
+            Attribute::As4Path(path) => self.wide = Some(path),
             Attribute::Unknown(unknown) => self.unknown.push(unknown)?,
         }
         Ok(())
@@ -91,12 +95,13 @@ fn by_type(list: Vec<Unknown>) -> Vec<Unknown>
 }
 
 /// The attributes of a route, of which three may not be missing.
-fn whole(said: Said) -> Result<Attrs, UpdateFault>
+fn whole(alloc: Global, said: Said) -> Result<Attrs, UpdateFault>
     ensures { IsWhole (said_view said) result }
 {
     let (Some(origin), Some(path), Some(next_hop)) = (said.origin, said.path, said.next_hop) else {
         return Err(UpdateFault::Bad(Fault::MissingWellKnown));
     };
+    let path = whole_path(alloc, path, said.wide)?;
     Ok(Attrs {
         origin,
         path,
@@ -111,13 +116,17 @@ fn whole(said: Said) -> Result<Attrs, UpdateFault>
 }
 
 /// The attributes, where something is announced.
-fn attrs(announced: &[Prefix], said: Said) -> Result<Option<Attrs>, UpdateFault>
+fn attrs(
+    alloc: Global,
+    announced: &[Prefix],
+    said: Said,
+) -> Result<Option<Attrs>, UpdateFault>
     ensures { AreGiven (said_view said) announced.now result }
 {
     if announced.is_empty() {
         return Ok(None);
     }
-    match whole(said) {
+    match whole(alloc, said) {
         Ok(attrs) => Ok(Some(attrs)),
         Err(fault) => Err(fault),
     }
@@ -136,7 +145,7 @@ pub fn update(
     let announced = ascending(announced);
     let withdrawn = Items::from_vec(without(withdrawn, announced.as_slice()));
     let said = collected(alloc, attributes)?;
-    match attrs(announced.as_slice(), said) {
+    match attrs(alloc, announced.as_slice(), said) {
         Ok(attrs) => Ok(Update {
             withdrawn,
             attrs,

@@ -1,11 +1,11 @@
 -- The canonical message of a sound update is that of one whose numbers fit their types, and says the same news.
 use Rattle.std.proofs.Common.{◌≡◌, Bool, ℕ, suc, ◌+◌, ◌/◌, ◌%◌, ◌<◌, ◌≤◌, List, [], ◌∷◌, ◌++◌, length, get_or, map, filter, flat_map, refl, sym, ap, subst, ◌∙◌, arith}
-use Rattle.std.specs.Prelude.{Option, Some, None, nat_le, nat_lt}
+use Rattle.std.specs.Prelude.{Option, Some, None, nat_le, nat_lt, ◌&&◌}
 use Rattle.std.specs.Option.{option_map}
 use Rattle.net_types.specs.Octets.{address_octets, word}
 use Rattle.net_types.specs.SoundUpdates.{Each, HasSoundAttrs, IsSoundUpdate}
 use Rattle.net_types.specs.UpdateSpelling.{Spells}
-use Rattle.net_types.specs.Updates.{aggregator_octets, atomic_octets, attribute, attrs_octets, canonical, communities_octets, long, marker, med_octets, optional_attrs_octets, passed_on, prefixes_octets, segment_octets, unknown_octets, update_message}
+use Rattle.net_types.specs.Updates.{aggregator_octets, atomic_octets, attribute, attrs_octets, canonical, communities_octets, long, marker, med_octets, optional_attrs_octets, passed_on, prefixes_octets, segment_octets, unknown_octets, update_message, wide_octets}
 use Rattle.net_types.specs.declared.prefix.Prefix.{Prefix}
 use Rattle.net_types.specs.declared.route.Aggregator.{Aggregator}
 use Rattle.net_types.specs.declared.route.Attrs.{Attrs}
@@ -53,11 +53,14 @@ front a med =
     ++ attribute 64 1 (a.origin ∷ []) ++ attribute 64 2 (flat_map segment_octets a.path) ++ attribute 64 3 (address_octets a.next_hop)
     ++ med ++ atomic_octets a.atomic
 
-abbrev rest : Attrs → List ℕ
-rest a = unknown_octets (filter (λ (u : Unknown). nat_le 1 u.kind) a.unknown)
+abbrev middle : Attrs → List ℕ
+middle a = unknown_octets (filter (λ (u : Unknown). nat_le 1 u.kind && nat_lt u.kind 17) a.unknown)
+
+abbrev highest : Attrs → List ℕ
+highest a = unknown_octets (filter (λ (u : Unknown). nat_le 17 u.kind) a.unknown)
 
 same_attrs : (a : Attrs) → attrs_octets (fit_attrs a) ≡ attrs_octets a
-same_attrs a = λ i. front a (same_med a.med i) ++ aggregator_octets a.aggregator ++ same_communities a.communities_partial a.communities i ++ rest a
+same_attrs a = λ i. front a (same_med a.med i) ++ aggregator_octets a.aggregator ++ same_communities a.communities_partial a.communities i ++ middle a ++ wide_octets a.path ++ highest a
 
 same_optional : (at : Option Attrs) → optional_attrs_octets (option_map fit_attrs at) ≡ optional_attrs_octets at
 same_optional None = refl

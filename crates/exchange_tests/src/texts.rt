@@ -1,3 +1,2 @@
-//! What no clause says of lines and replies.
-mod lines;
+//! What no clause says of replies.
 mod replies;

@@ -8,6 +8,7 @@ mod header;
 mod order;
 mod single;
 mod values;
+mod wide;
 
 use bgp_update::{UpdateFault, decode, encode, encoded_len};
 use net_types::Memory;

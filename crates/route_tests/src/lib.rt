@@ -1,20 +1,13 @@
-//! Tests of routes: participants, decisions, export rules, prefixes, tags and adverts.
+//! Tests of routes: prefixes, tags and adverts. Those of names, export rules, decisions and the route server are rows of
+//! `route_cases` and `server_cases`.
 #![tactic(auto)]
 
 #[cfg(test)]
 mod adverts;
 #[cfg(test)]
-mod best_routes;
-#[cfg(test)]
 mod classes;
 #[cfg(test)]
-mod declared;
-#[cfg(test)]
 mod prefixes;
-#[cfg(test)]
-mod rules;
-#[cfg(test)]
-mod servers;
 #[cfg(test)]
 mod sorted_lists;
 #[cfg(test)]

@@ -19,36 +19,29 @@ pub fn ten() -> Result<Prefix, Memory> {
     Prefix::new(Ip(0x0A000000), 8).map_err(|_| Memory)
 }
 
-/// The participants, without ports.
-fn participants(alloc: Global) -> Result<Registry, RegFault>
+/// Participants with their AS numbers and identifiers, and ports whose addresses end in their numbers.
+fn declare(names: &mut Registry) -> Result<(), RegFault> {
+    for (name, asn) in [("A", 65001), ("B", 65002), ("C", 65003)] {
+        names.add_participant(name, asn, Ip(asn))?;
+    }
+    for (owner, number) in [(0, 1), (1, 2), (1, 3), (2, 4)] {
+        if (owner as usize) < names.participants().len() {
+            let ip = Ip(0xAC100100 + number as u32);
+            let mac = Mac([2, 0, 0, 0, 0, number]);
+            names.add_port(Pid(owner), PortNo(number as u16), ip, mac)?;
+        }
+    }
+    Ok(())
+}
+
+pub fn three(alloc: Global) -> Result<Registry, Fail>
     ensures { IfOk result (λ names. length names.participants ≡ 3) }
 {
     let mut names = Registry::new(alloc);
-    names.add_participant("A", 65001, Ip(0x01000001))?;
-    names.add_participant("B", 65002, Ip(0x01000002))?;
-    names.add_participant("C", 65003, Ip(0x01000003))?;
-    Ok(names)
-}
-
-/// Declares the port of this number, whose addresses end in it.
-fn add_port(names: &mut Registry, owner: u32, number: u8) -> Result<(), RegFault>
-    requires three { length names.old.participants ≡ 3 }
-    requires owner { owner < 3 }
-    ensures { length names.new.participants ≡ 3 }
-{
-    let ip = Ip(0xAC100100 + number as u32);
-    let mac = Mac([2, 0, 0, 0, 0, number]);
-    names.add_port(Pid(owner), PortNo(number as u16), ip, mac)
-}
-
-pub fn three(alloc: Global) -> Result<Registry, RegFault>
-    ensures { IfOk result (λ names. length names.participants ≡ 3) }
-{
-    let mut names = participants(alloc)?;
-    add_port(&mut names, 0, 1)?;
-    add_port(&mut names, 1, 2)?;
-    add_port(&mut names, 1, 3)?;
-    add_port(&mut names, 2, 4)?;
+    declare(&mut names)?;
+    if names.participants().len() != 3 {
+        return Err(Fail::new("three are not declared"));
+    }
     Ok(names)
 }
 

@@ -60,6 +60,18 @@ fn malformed_attributes_have_their_word(rt: HostRuntime) -> Result<(), Fail> {
             "malformed",
             "M 0025 02 0000 000e c00804fdea0001 c02004fdea0001",
         ),
+        // AS4_PATH twice
+        (
+            "M 0029 02 0000 0012 c0110602010003000a c0110602010003000a",
+            "malformed",
+            "M 0029 02 0000 0012 c0110602010003000a c0120602010003000a",
+        ),
+        // AS4_PATH twice, though the first is ignored
+        (
+            "M 0023 02 0000 000c c01100 c0110602010003000a",
+            "malformed",
+            "M 0023 02 0000 000c c01000 c0110602010003000a",
+        ),
         // an unknown type twice
         (
             "M 001f 02 0000 0008 c02001aa c02001aa",

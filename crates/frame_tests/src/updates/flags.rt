@@ -38,6 +38,8 @@ fn only_the_upper_two_flags_count(rt: HostRuntime) -> Result<(), Fail> {
         (6, "", 1, "flags"),
         (7, "fdea01000002", 3, "flags"),
         (8, "fdea0001", 3, "flags"),
+        (17, "02010003000a", 3, "flags"),
+        (17, "0300", 3, "flags"),
         (32, "aa", 2, "unknown-attribute"),
     ];
     for (number, value, upper, word) in rows {

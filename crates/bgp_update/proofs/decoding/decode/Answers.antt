@@ -2,7 +2,7 @@
 use Rattle.std.proofs.Common.{arith}
 use Rattle.bgp_update.proofs.Decoded.{fault_said, found_said, only_said, refused_said, sound_said, spells_said}
 use Rattle.bgp_update.proofs.ReadAsSpelled.{answer_said, cause_said}
-use Rattle.bgp_update.proofs.ShortReading.{short_said}
+use Rattle.bgp_update.proofs.ShortReading.{hops_counted, short_said}
 use Rattle.bgp_update.proofs.SoundReading.{by_places, form_said}
 use Rattle.bgp_update.proofs.decoding.decode.Goals as goal
 
@@ -35,3 +35,6 @@ returns-clause-form c = form_said c.args.bytes.now c.read.result (by_places c.ar
 
 pub returns-clause-short : goal.returns-clause-short
 returns-clause-short c = short_said c.args.bytes.now c.read.result (by_places c.args.bytes.now (λ k. omega (arith, c.type_inv.bytes k))) c.read.ensures
+
+pub returns-clause-hops : goal.returns-clause-hops
+returns-clause-hops c = hops_counted c.args.bytes.now c.read.result (by_places c.args.bytes.now (λ k. omega (arith, c.type_inv.bytes k))) c.read.ensures

@@ -6,5 +6,4 @@ use Rattle.bgp_update.proofs.lengths.communities_len.Goals as goal
 pub returns-in-len1-up : goal.returns-in-len1-up
 returns-in-len1-up c =
     let some : 1 ≤ length c.args.communities.now = omega (arith, c.in-len1-up.len_at_least) in
-    let four : c.add.result ≡ min 65535 (4 * length c.args.communities.now) = omega (arith, c.add.ensures, c.add-two.ensures) in
-    c.attribute_len.ensures ∙ attribute_capped c.add.result (4 * length c.args.communities.now) four ∙ ap (λ (n : ℕ). min 65535 n) (sym (communities_length c.args.partial c.args.communities.now some))
+    c.attribute_len.ensures ∙ attribute_capped c.four_times.result (4 * length c.args.communities.now) c.four_times.ensures ∙ ap (λ (n : ℕ). min 65535 n) (sym (communities_length c.args.partial c.args.communities.now some))

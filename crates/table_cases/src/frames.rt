@@ -1,0 +1,79 @@
+//! What the table makes of frames.
+
+use match_switch::Switch;
+use net_types::{Ip, Mac, Memory, Pid, PortInfo, PortNo};
+use std::alloc::Global;
+
+const PORTS: [PortInfo; 2] = [
+    PortInfo {
+        owner: Pid(0),
+        number: PortNo(2),
+        ip: Ip(1),
+        mac: Mac([2, 0, 0, 0, 0, 2]),
+    },
+    PortInfo {
+        owner: Pid(1),
+        number: PortNo(3),
+        ip: Ip(2),
+        mac: Mac([2, 0, 0, 0, 0, 3]),
+    },
+];
+
+/// The port, and the octets of the digits behind it; none where they aren't digits.
+fn frame(alloc: Global, text: &str) -> (PortNo, Option<Vec<u8>>) {
+    let (port, digits) = text.split_once(' ').unwrap_or((text, ""));
+    let octets = hex::decode(alloc, digits.as_bytes()).ok();
+    (PortNo(port.parse().unwrap_or(0)), octets)
+}
+
+/// The ports of the actions for a frame that comes in at the port.
+fn push_decided(
+    text: &mut String,
+    switch: &Switch,
+    port: PortNo,
+    frame: &[u8],
+) -> Result<(), Memory> {
+    text.push_str("to")?;
+    for action in switch.decide(port, frame) {
+        let port = action.port.0;
+        write!(text, " {port}")?;
+    }
+    Ok(())
+}
+
+/// The frames that leave.
+fn push_forwarded(
+    alloc: Global,
+    text: &mut String,
+    switch: &Switch,
+    port: PortNo,
+    frame: &[u8],
+) -> Result<(), Memory> {
+    for frame in switch.forward(alloc, &PORTS, port, frame)?.items() {
+        let port = frame.port.0;
+        write!(text, "\n  out {port} ")?;
+        for octet in frame.bytes.items() {
+            write!(text, "{octet:02x}")?;
+        }
+    }
+    Ok(())
+}
+
+/// The ports of the actions.
+pub fn decided(alloc: Global, switch: &Switch, text: &str) -> Result<String, Memory> {
+    let mut told = String::new(alloc);
+    match frame(alloc, text) {
+        (port, Some(octets)) => push_decided(&mut told, switch, port, octets.as_slice())?,
+        _ => told.push_str("no frame")?,
+    }
+    Ok(told)
+}
+
+/// The ports of the actions, and the frames that leave.
+pub fn forwarded(alloc: Global, switch: &Switch, text: &str) -> Result<String, Memory> {
+    let mut told = decided(alloc, switch, text)?;
+    if let (port, Some(octets)) = frame(alloc, text) {
+        push_forwarded(alloc, &mut told, switch, port, octets.as_slice())?;
+    }
+    Ok(told)
+}
