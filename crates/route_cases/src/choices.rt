@@ -1,6 +1,6 @@
 //! Choices by the standard's steps.
 
-use crate::words::numbers;
+use crate::words::{numbers, octet};
 use decision::{Candidate, best};
 use net_types::{Ip, Memory};
 use std::alloc::Global;
@@ -10,7 +10,7 @@ fn candidate(numbers: &[u32]) -> Option<Candidate> {
     match numbers {
         [hops, origin, asn, id, peer, rest @ ..] => Some(Candidate {
             hops: *hops,
-            origin: *origin as u8,
+            origin: octet(*origin),
             asn: *asn,
             med: rest.first().copied(),
             id: Ip(*id),

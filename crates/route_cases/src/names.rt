@@ -1,18 +1,17 @@
 //! Questions to the registry.
 
-use crate::words::{first_word, no_question, numbers, yes_or_no};
+use crate::words::{address, first_word, no_question, numbers, octet, yes_or_no};
 use net_types::{Ip, Mac, Memory, Pid, PortNo};
 use registry::{RegFault, Registry};
 use std::alloc::Global;
 
-/// The address of four numbers.
-fn address(a: u32, b: u32, c: u32, d: u32) -> Ip {
-    Ip(u32::from_be_bytes([a as u8, b as u8, c as u8, d as u8]))
-}
-
 /// The hardware address that ends in this octet.
 fn mac(last: u32) -> Mac {
-    Mac([2, 0, 0, 0, 0, last as u8])
+    Mac([2, 0, 0, 0, 0, octet(last)])
+}
+
+fn port_number(number: u32) -> PortNo {
+    PortNo((number % 65536) as u16)
 }
 
 fn fault(alloc: Global, fault: RegFault) -> Result<String, Memory> {
@@ -53,7 +52,7 @@ pub fn participant(alloc: Global, names: &mut Registry, text: &str) -> Result<St
 /// A participant whose name is this octet is declared.
 pub fn octets(alloc: Global, names: &mut Registry, text: &str) -> Result<String, Memory> {
     match numbers(alloc, text)?.as_slice() {
-        [octet] => added(alloc, names.add_octets(&[*octet as u8], 65001, Ip(1))),
+        [name] => added(alloc, names.add_octets(&[octet(*name)], 65001, Ip(1))),
         _ => no_question(alloc),
     }
 }
@@ -69,7 +68,7 @@ fn declared(
     if owner as usize >= names.participants().len() {
         return no_question(alloc);
     }
-    match names.add_port(Pid(owner), PortNo(number as u16), ip, mac(last)) {
+    match names.add_port(Pid(owner), port_number(number), ip, mac(last)) {
         Ok(()) => Ok(String::from_str(alloc, "declared")?),
         Err(why) => fault(alloc, why),
     }
@@ -97,10 +96,7 @@ pub fn taken(alloc: Global, names: &Registry, text: &str) -> Result<String, Memo
     match numbers(alloc, text)?.as_slice() {
         [number, a, b, c, d, last] => {
             let ip = address(*a, *b, *c, *d);
-            yes_or_no(
-                alloc,
-                names.is_taken(PortNo(*number as u16), ip, mac(*last)),
-            )
+            yes_or_no(alloc, names.is_taken(port_number(*number), ip, mac(*last)))
         }
         _ => no_question(alloc),
     }

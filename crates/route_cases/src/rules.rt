@@ -1,6 +1,6 @@
 //! Export rules: whether a text is read, and what its rules allow.
 
-use crate::words::{no_question, numbers, yes_or_no};
+use crate::words::{address, no_question, numbers, octet, yes_or_no};
 use export_rules::{BindFault, Bound, RulesFault, parse_rules};
 use net_types::{Ip, Memory, Pid, Prefix};
 use registry::Registry;
@@ -40,7 +40,7 @@ pub fn bound(alloc: Global, names: &Registry, text: &str) -> Result<String, Memo
 }
 
 fn allowed_by(alloc: Global, rules: &Bound, who: u32, ip: Ip, len: u32) -> Result<String, Memory> {
-    match Prefix::new(ip, len as u8) {
+    match Prefix::new(ip, octet(len)) {
         Ok(prefix) => yes_or_no(alloc, rules.allows(Pid(who), prefix)),
         Err(_) => no_question(alloc),
     }
@@ -54,7 +54,7 @@ pub fn allowed(alloc: Global, names: &Registry, text: &str) -> Result<String, Me
     };
     match numbers(alloc, asked)?.as_slice() {
         [who, a, b, c, d, len] => {
-            let ip = Ip(u32::from_be_bytes([*a as u8, *b as u8, *c as u8, *d as u8]));
+            let ip = address(*a, *b, *c, *d);
             allowed_by(alloc, &rules, *who, ip, *len)
         }
         _ => no_question(alloc),

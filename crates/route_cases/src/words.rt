@@ -1,6 +1,6 @@
 //! Words and numbers of a question.
 
-use net_types::Memory;
+use net_types::{Ip, Memory};
 use std::alloc::Global;
 
 /// The first word, and what stands behind it.
@@ -17,6 +17,16 @@ pub fn numbers(alloc: Global, text: &str) -> Result<Vec<u32>, Memory> {
         }
     }
     Ok(numbers)
+}
+
+/// The last octet of a number.
+pub fn octet(number: u32) -> u8 {
+    (number % 256) as u8
+}
+
+/// The address of four numbers.
+pub fn address(a: u32, b: u32, c: u32, d: u32) -> Ip {
+    Ip(u32::from_be_bytes([octet(a), octet(b), octet(c), octet(d)]))
 }
 
 /// A yes or a no.

@@ -161,33 +161,64 @@ fn pending_of(
     Ok(Some(prefixes))
 }
 
-#[test]
-fn what_was_told_is_found(rt: HostRuntime) -> Result<(), Fail> {
-    let none = Told::new(rt.alloc());
-    assert!(rt; none.tags().is_empty() && !none.tells(Tag(0)));
-    assert!(rt; longest(&none, 0).is_none());
+/// Four prefixes are told, with three tags.
+fn four(alloc: Global) -> Result<Told, Fail> {
     let rows = [
         (TEN, 0, 7),
         (LATER, 0, 3),
         (TWENTY, 1, 7),
         (THIRTY, 2, 65536),
     ];
-    let Some(told) = telling(rt.alloc(), &rows)? else {
-        return Err(Fail::new("the prefixes don't ascend"));
-    };
-    assert!(rt; listed(rt.alloc(), &told)?.as_slice() == [TEN, LATER, TWENTY, THIRTY].as_slice());
+    match telling(alloc, &rows)? {
+        Some(told) => Ok(told),
+        None => Err(Fail::new("the prefixes don't ascend")),
+    }
+}
+
+#[test]
+fn where_nothing_was_told_nothing_is_found(rt: HostRuntime) -> Result<(), Fail> {
+    let none = Told::new(rt.alloc());
+    assert!(rt; none.tags().is_empty() && !none.tells(Tag(0)));
+    assert!(rt; longest(&none, 0).is_none());
+    Ok(())
+}
+
+#[test]
+fn what_was_told_is_listed(rt: HostRuntime) -> Result<(), Fail> {
+    let told = four(rt.alloc())?;
+    let prefixes = listed(rt.alloc(), &told)?;
+    assert!(rt; prefixes.as_slice() == [TEN, LATER, TWENTY, THIRTY].as_slice());
     assert!(rt; told.tags() == [Tag(3), Tag(7), Tag(65536)].as_slice());
+    Ok(())
+}
+
+#[test]
+fn tags_that_were_told_are_found(rt: HostRuntime) -> Result<(), Fail> {
+    let told = four(rt.alloc())?;
     for (tag, is_told) in [(0, false), (3, true), (5, false), (7, true), (65536, true)] {
         assert!(rt; told.tells(Tag(tag)) == is_told, "tag {tag}");
     }
-    for (range, tag) in [
-        (TEN, Some(7)),
-        (INNER, None),
-        (LATER, Some(3)),
-        (THIRTY, Some(65536)),
-    ] {
-        assert!(rt; tag_of(told.get(prefix(range)?)) == tag);
+    Ok(())
+}
+
+#[test]
+fn prefixes_that_were_told_are_found(rt: HostRuntime) -> Result<(), Fail> {
+    let told = four(rt.alloc())?;
+    let rows = [
+        ("10.0.0.0/8", TEN, Some(7)),
+        ("10.0.0.0/16", INNER, None),
+        ("10.1.0.0/16", LATER, Some(3)),
+        ("30.0.0.0/8", THIRTY, Some(65536)),
+    ];
+    for (name, range, tag) in rows {
+        assert!(rt; tag_of(told.get(prefix(range)?)) == tag, "{name}");
     }
+    Ok(())
+}
+
+#[test]
+fn the_longest_prefix_that_was_told_is_found(rt: HostRuntime) -> Result<(), Fail> {
+    let told = four(rt.alloc())?;
     let rows = [
         (0x0a01_0203, Some((LATER, 3))),
         (0x0a02_0000, Some((TEN, 7))),
@@ -254,6 +285,32 @@ const WITHDRAWN: [u8; 25] = [
     0, 0x19, 2, 0, 2, 8, 10, 0, 0,
 ];
 
+/// Whether these are the messages.
+fn are_told(messages: &Messages, expected: &[&[u8]]) -> bool {
+    for (message, octets) in messages.items().iter().zip(expected) {
+        if message.items() != *octets {
+            return false;
+        }
+    }
+    messages.len() == expected.len()
+}
+
+/// Whether one who was told this, where this is present, is told these messages.
+fn tells(
+    alloc: Global,
+    told: &[Telling],
+    present: &[Telling],
+    expected: &[&[u8]],
+) -> Result<bool, Memory> {
+    let Some(told) = telling(alloc, told)? else {
+        return Ok(false);
+    };
+    match adverts_of(alloc, &told, present)? {
+        Some(messages) => Ok(are_told(&messages, expected)),
+        None => Ok(false),
+    }
+}
+
 #[test]
 fn what_is_pending_is_told_by_prefix(rt: HostRuntime) -> Result<(), Fail> {
     let rows = [
@@ -275,16 +332,7 @@ fn what_is_pending_is_told_by_prefix(rt: HostRuntime) -> Result<(), Fail> {
         ),
     ];
     for (name, told, present, expected) in rows {
-        let Some(told) = telling(rt.alloc(), told)? else {
-            return Err(Fail::new("the prefixes don't ascend"));
-        };
-        let Some(messages) = adverts_of(rt.alloc(), &told, present)? else {
-            return Err(Fail::new("a tag is too great"));
-        };
-        assert!(rt; messages.len() == expected.len(), "{name}");
-        for (message, octets) in messages.items().iter().zip(expected) {
-            assert!(rt; message.items() == *octets, "{name}");
-        }
+        assert!(rt; tells(rt.alloc(), told, present, expected)?, "{name}");
     }
     Ok(())
 }

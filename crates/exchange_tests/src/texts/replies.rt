@@ -57,6 +57,13 @@ const ALL_SET: Assign = Assign {
     dport: Some(65535),
 };
 
+const WEB: Assign = Assign {
+    src: None,
+    dst: None,
+    sport: None,
+    dport: Some(80),
+};
+
 fn pair(port: u16, tag: u32) -> Pair {
     Pair {
         port: PortNo(port),
@@ -64,38 +71,36 @@ fn pair(port: u16, tag: u32) -> Pair {
     }
 }
 
+/// Headers leave in three ways.
+fn three_ways(alloc: Global) -> Result<Actions, Memory> {
+    let mut actions = Actions::new(alloc);
+    for (port, set) in [(2, UNCHANGED), (2, ALL_SET), (65279, WEB)] {
+        actions.push(Action {
+            port: PortNo(port),
+            set,
+        })?;
+    }
+    Ok(actions)
+}
+
 /// Everything is dropped, and one kind of packets leaves in three ways.
 fn flows(alloc: Global) -> Result<Flows, Memory> {
     let mut flows = Flows::new(alloc);
+    let dropped = Rule {
+        cube: EVERYTHING,
+        actions: Actions::new(alloc),
+    };
+    let sent = Rule {
+        cube: ALL_FIELDS,
+        actions: three_ways(alloc)?,
+    };
     flows.push(Flow {
         pair: pair(1, 2),
-        rule: Rule {
-            cube: EVERYTHING,
-            actions: Actions::new(alloc),
-        },
-    })?;
-    let mut actions = Actions::new(alloc);
-    actions.push(Action {
-        port: PortNo(2),
-        set: UNCHANGED,
-    })?;
-    actions.push(Action {
-        port: PortNo(2),
-        set: ALL_SET,
-    })?;
-    actions.push(Action {
-        port: PortNo(65279),
-        set: Assign {
-            dport: Some(80),
-            ..UNCHANGED
-        },
+        rule: dropped,
     })?;
     flows.push(Flow {
         pair: pair(65279, 65536),
-        rule: Rule {
-            cube: ALL_FIELDS,
-            actions,
-        },
+        rule: sent,
     })?;
     Ok(flows)
 }
@@ -130,35 +135,50 @@ fn exchanges(alloc: Global) -> Result<Exchanges, Memory> {
     Ok(exchanges)
 }
 
-/// A reply with details of each kind.
-fn full_reply(alloc: Global) -> Result<Reply, Memory> {
+/// 10.0.0.0/8 gets a tag and loses it.
+fn tags(alloc: Global) -> Result<TagChanges, Memory> {
     let prefix = Prefix {
         address: Ip(167772160),
         len: 8,
     };
     let mut tags = TagChanges::new(alloc);
-    tags.push(TagChange {
-        prefix,
-        tag: Some(Tag(1)),
-    })?;
-    tags.push(TagChange { prefix, tag: None })?;
+    for tag in [Some(Tag(1)), None] {
+        tags.push(TagChange { prefix, tag })?;
+    }
+    Ok(tags)
+}
+
+fn drops(alloc: Global) -> Result<Pairs, Memory> {
     let mut drops = Pairs::new(alloc);
     drops.push(pair(4, 1))?;
+    Ok(drops)
+}
+
+fn adverts(alloc: Global) -> Result<Messages, Memory> {
     let mut adverts = Messages::new(alloc);
     adverts.push(octets(alloc, "00090a9fa0ff")?)?;
+    Ok(adverts)
+}
+
+fn frames(alloc: Global) -> Result<Frames, Memory> {
     let mut frames = Frames::new(alloc);
     frames.push(Frame {
         port: PortNo(2),
         bytes: octets(alloc, "00090a9fa0ff")?,
     })?;
+    Ok(frames)
+}
+
+/// A reply with details of each kind.
+fn full_reply(alloc: Global) -> Result<Reply, Memory> {
     Ok(Reply {
         head: Head::Fine,
-        tags,
-        drops,
+        tags: tags(alloc)?,
+        drops: drops(alloc)?,
         adds: flows(alloc)?,
-        adverts,
+        adverts: adverts(alloc)?,
         asks: exchanges(alloc)?,
-        frames,
+        frames: frames(alloc)?,
     })
 }
 
