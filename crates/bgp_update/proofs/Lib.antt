@@ -11,9 +11,11 @@ mod PathLists
 mod Decoded
 mod LengthSums
 mod SpelledAttributes
+mod ToldPaths
 mod SpelledMessages
 mod ReadBack
 mod Values
 mod ReadAsSpelled
 mod SoundReading
+mod PathSizes
 mod ShortReading

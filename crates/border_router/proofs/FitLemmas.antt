@@ -125,11 +125,13 @@ fits : (at : Option Attrs) → AreOctets (optional_attrs_octets at) → FitOptio
 fits None h = tt
 fits (Some a) h =
     let before : List ℕ = front a (med_octets a.med) in
-    let middle : List ℕ = aggregator_octets a.aggregator in
+    let own : List ℕ = aggregator_octets a.aggregator in
     let communities : List ℕ = communities_octets a.communities_partial a.communities in
+    let known : List ℕ = before ++ own ++ communities in
+    let known_octets : AreOctets known = octets_left known (middle a) (octets_left (known ++ middle a) (wide_octets a.path) (octets_left (known ++ middle a ++ wide_octets a.path) (highest a) h)) in
     record {
       med = fits_med a.med;
-      aggregator = fits_aggregator a.aggregator (octets_right before middle (octets_left (before ++ middle) communities (octets_left (before ++ middle ++ communities) (rest a) h)));
+      aggregator = fits_aggregator a.aggregator (octets_right before own (octets_left (before ++ own) communities known_octets));
       communities = fits_each a.communities;
     }
 
