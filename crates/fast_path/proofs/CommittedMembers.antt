@@ -1,20 +1,18 @@
 -- Each fresh tag given to its members, and the tags of prefixes that are to have none taken, the prefixes have the tags of
 -- the changes.
-use Rattle.std.proofs.Common.{◌≡◌, ℕ, suc, ◌+◌, ◌≤◌, ◌⊎◌, Bool, true, false, cond, ◌&&◌, ◌||◌, not, List, [], ◌∷◌, length, map, sym, ap, subst, ◌∙◌, refl, arith, inl, inr}
+use Rattle.std.proofs.Common.{◌≡◌, ℕ, ◌+◌, ◌≤◌, ◌⊎◌, Bool, true, false, cond, ◌&&◌, ◌||◌, List, [], ◌∷◌, length, map, sym, ap, subst, ◌∙◌, refl, arith, inl, inr}
 use Rattle.std.specs.Prelude.{Option, Some, None, is_none, is_some, IfSome}
 use Rattle.std.specs.FinMap.{FinMap, get, get-insert, get-remove, insert, remove, same_map}
 use Rattle.std.specs.List.{list_any}
 use Rattle.std.specs.Ordering.{eq_by_cmp}
 use Rattle.std.proofs.lemmas.Bool.{false_from_ne_true}
-use Rattle.events.specs.Tags.{same_tag}
 use Rattle.events.specs.declared.TagChange.{TagChange}
 use Rattle.exchange_laws.proofs.Lists.{clash, some_of}
 use Rattle.exchange_laws.proofs.Sames.{tags_test}
 use Rattle.net_types.proofs.OrderLemmas.{prefix_tie, prefixes_total, tags_total}
 use Rattle.net_types.proofs.OrderedLemmas.{any_member, member_any}
 use Rattle.net_types.proofs.SetLemmas.{Member-map, map-Member}
-use Rattle.net_types.proofs.TieLemmas.{prefix_cmp-IsAntisymmetric, same_from_tie, tag_cmp-IsAntisymmetric, ties_itself}
-use Rattle.net_types.specs.Attributes.{same_option}
+use Rattle.net_types.proofs.TieLemmas.{prefix_cmp-IsAntisymmetric, ties_itself}
 use Rattle.net_types.specs.Keys.{prefix_cmp, tag_cmp}
 use Rattle.net_types.specs.Sets.{Member}
 use Rattle.net_types.specs.declared.address.Tag.{Tag}
@@ -24,7 +22,7 @@ use Rattle.prefix_classes.proofs.ChangeLemmas.{changed_prefixes_have_new_tags, o
 use Rattle.prefix_classes.specs.Classes.{given}
 use Rattle.prefix_classes.specs.Laws.{AreRising, Change}
 use Rattle.fast_path.proofs.CommittedMaps.{stands_or_not}
-use Rattle.fast_path.specs.Committing.{AreUnkept, HaveTags, Kept, change_of, class_of, classes_of, given_all, gives, member_count, members_of, signed, tags_of, tags_with, untagged, untagged_one}
+use Rattle.fast_path.specs.Committing.{AreUnkept, HaveTags, Kept, change_of, classes_of, given_all, gives, member_count, members_of, signed, tags_of, tags_with, untagged, untagged_one}
 use Rattle.fast_path.specs.declared.planned.Class.{Class}
 
 -- the tags of prefixes
@@ -203,7 +201,7 @@ module _ (m : TagsOf) (cs : List TagChange) (ks : List Kept) (rises : AreRising 
       ∙ ap (λ b. cond b None (get (given_all m (classes_of cs ks)) q)) (false_from_ne_true (list_any (is_untagged q) cs) (λ any. let by = any_untagged cs q any in none by.change by.stands by.at))
       ∙ given_none cs ks m q (λ u stands. let by = member_given cs u q stands in none by.change by.stands by.at)
       ∙ sym (other_prefixes_keep_their_tags m (map change_of cs) q (λ after stands.
-          let image = map-Member change_of cs (q, after) stands in none image.of image.stands (sym (ap (λ (c : Change). c.0) image.is))))
+      let image = map-Member change_of cs (q, after) stands in none image.of image.stands (sym (ap (λ (c : Change). c.0) image.is))))
 
   -- the tags are those with all changes made
   pub given_then_untagged : untagged (given_all m (classes_of cs ks)) cs ≡ tags_with m cs

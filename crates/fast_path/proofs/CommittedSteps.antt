@@ -1,6 +1,6 @@
 -- What each step of committing requires holds of a plan.
-use Rattle.std.proofs.Common.{◌≡◌, ◌<◌, ◌⊎◌, not, true, cond, List, [], ◌∷◌, sym, ap, subst, ◌∙◌, refl, arith, inl, inr}
-use Rattle.std.specs.Prelude.{Option, Some, None, is_some, IfSome}
+use Rattle.std.proofs.Common.{◌≡◌, ◌<◌, ◌⊎◌, not, cond, List, [], ◌∷◌, sym, ap, subst, ◌∙◌, refl, arith, inl, inr}
+use Rattle.std.specs.Prelude.{Option, Some, None, IfSome}
 use Rattle.std.specs.FinMap.{FinMap, get, get-insert, insert}
 use Rattle.std.specs.Ordering.{eq_by_cmp}
 use Rattle.std.proofs.lemmas.Bool.{false_from_ne_true, ltb-true}

@@ -11,7 +11,7 @@ use Rattle.events.specs.Tags.{Group, same_group, same_tag}
 use Rattle.net_types.specs.declared.address.Tag.{Tag}
 use Rattle.net_types.specs.declared.prefix.Prefix.{Prefix}
 use Rattle.net_types.specs.declared.route.Part.{Part}
-use Rattle.fast_path.specs.Committing.{Kept, class_of, classes_of, kept_of}
+use Rattle.fast_path.specs.Committing.{class_of, classes_of, kept_of}
 use Rattle.fast_path.specs.declared.planned.Class.{Class}
 use Rattle.fast_path.specs.Grouping.{Known, group_at, group_before, group_of_class, groups_of, is_moved, more_groups, moved_groups, one_more, same_class, change_before, changes_of, tag_after}
 use Rattle.fast_path.specs.declared.forward.Fresh.{Fresh}

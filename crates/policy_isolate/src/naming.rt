@@ -13,11 +13,7 @@ use policy_syntax::{Node, Target, Tree};
 use std::alloc::Global;
 
 /// Adds the participant that a target names.
-fn add_target<N: Names>(
-    named: &mut Vec<Pid>,
-    names: &N,
-    target: Target<'_>,
-) -> Result<(), Memory>
+fn add_target<N: Names>(named: &mut Vec<Pid>, names: &N, target: Target<'_>) -> Result<(), Memory>
     ensures { OnOk result (named.new.items ≡ named.old.items ++ target_names (N.pid_of names.now) (target_of target.entry)) }
 {
     match target {
