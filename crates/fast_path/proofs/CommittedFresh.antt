@@ -19,7 +19,7 @@ use Rattle.net_types.proofs.RisingLemmas.{filter-IsRising, filter-Member}
 use Rattle.net_types.proofs.SetLemmas.{map-Member}
 use Rattle.net_types.specs.Exports.{Routing}
 use Rattle.net_types.specs.Keys.{prefix_cmp}
-use Rattle.net_types.specs.Maps.{each_once, ordered}
+use Rattle.net_types.specs.Maps.{ordered}
 use Rattle.net_types.specs.Routes.{announced}
 use Rattle.net_types.specs.Sets.{IsRising, Member}
 use Rattle.net_types.specs.Signatures.{signature}

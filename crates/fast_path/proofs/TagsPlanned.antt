@@ -1,5 +1,5 @@
 -- The groups and the tags that are found by what is known of the touched prefixes are those of the state.
-use Rattle.std.proofs.Common.{◌≡◌, ℕ, zero, suc, ◌+◌, ◌<◌, Bool, true, false, cond, ◌&&◌, ◌||◌, not, List, [], ◌∷◌, ◌++◌, map, length, filter, take, sym, ap, subst, ◌∙◌, refl, arith}
+use Rattle.std.proofs.Common.{◌≡◌, ℕ, suc, ◌+◌, ◌<◌, Bool, true, false, cond, ◌&&◌, ◌||◌, not, List, [], ◌∷◌, ◌++◌, map, length, filter, take, sym, ap, subst, ◌∙◌, refl, arith}
 use Rattle.std.specs.Prelude.{Option, Some, None, is_some, slice_get}
 use Rattle.std.specs.FinMap.{get}
 use Rattle.std.specs.List.{list_any, filter_map, cons_option, position_from}

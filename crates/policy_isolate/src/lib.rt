@@ -4,10 +4,12 @@
 mod fault;
 mod inbound;
 mod names;
+mod naming;
 mod outbound;
 mod ports;
 
 pub use inbound::check_in;
 pub use names::Names;
+pub use naming::named;
 pub use net_types::{IsolateFault, Kind};
 pub use outbound::check_out;
