@@ -1,15 +1,13 @@
 -- The canonical message of what octets spell is no longer than they are, where no AS number of the path is wide.
-use Rattle.std.proofs.Common.{◌≡◌, ℕ, ◌+◌, ◌-◌, ◌*◌, ◌/◌, ◌<◌, ◌≤◌, Bool, true, false, not, cond, leb, ltb, eqb, List, [], ◌∷◌, ◌++◌, length, take, drop, flat_map, refl, sym, ap, subst, ◌∙◌, inl, inr, arith}
+use Rattle.std.proofs.Common.{◌≡◌, ℕ, ◌+◌, ◌*◌, ◌/◌, ◌<◌, ◌≤◌, Bool, true, false, not, cond, leb, eqb, List, [], ◌∷◌, ◌++◌, length, take, drop, flat_map, refl, sym, ap, subst, ◌∙◌, inl, inr, arith}
 use Rattle.std.specs.Prelude.{Option, Some, None, Result, Ok, Err, IfOk, IfSome, ◌&&◌}
 use Rattle.std.specs.List.{fold}
-use Rattle.std.specs.Option.{option_map}
 use Rattle.std.proofs.lemmas.Bool.{and_parts, cond_both, eqb-true, ne_eqb, leb-true, leb-false}
 use Rattle.std.proofs.lemmas.List.{length-append, length-take}
-use Rattle.std.proofs.lemmas.List.Sums.{sum_by-cons}
 use Rattle.grammar.specs.Formats.{AllSpell, ItemsSpell, ◌>>=◌}
 use Rattle.net_types.specs.AttributeTypes.{has_length, type_length}
 use Rattle.net_types.specs.Octets.{address_octets, word}
-use Rattle.net_types.specs.Paths.{has_wide, hops, hops_of, joined, leading, merged_sequence, whole_path}
+use Rattle.net_types.specs.Paths.{has_wide, hops}
 use Rattle.net_types.specs.Sets.{IsRising, Member}
 use Rattle.net_types.specs.UpdateFormat.{address, Head, IsWide, Parts, attribute, head, known_value, longs, message, prefix, segment, segment_by, segment_of, unknown_value, value, value_length, wide_segment, wide_value, with_type, words}
 use Rattle.grammar.specs.Numbers.{big_endian, two_octets}

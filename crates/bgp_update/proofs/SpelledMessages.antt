@@ -1,10 +1,9 @@
 -- The attributes and prefixes of a sound update, as they are written, spell it.
-use Rattle.std.proofs.Common.{◌≡◌, ℕ, zero, suc, ◌+◌, ◌-◌, ◌*◌, ◌/◌, ◌%◌, ◌^◌, ◌<◌, ◌≤◌, Bool, true, false, not, cond, List, [], ◌∷◌, ◌++◌, length, take, map, filter, flat_map, leb, ltb, refl, sym, ap, subst, ◌∙◌, append_assoc, arith, inl, inr}
+use Rattle.std.proofs.Common.{◌≡◌, ℕ, zero, suc, ◌+◌, ◌-◌, ◌*◌, ◌/◌, ◌%◌, ◌^◌, ◌<◌, ◌≤◌, Bool, true, false, not, cond, List, [], ◌∷◌, ◌++◌, length, take, map, filter, flat_map, refl, sym, ap, subst, ◌∙◌, append_assoc, arith, inl, inr}
 use Rattle.std.specs.Prelude.{Option, Some, None, ◌&&◌, ◌==◌, IsTrue, nat_le, nat_lt}
-use Rattle.std.specs.List.{fold, list_any}
-use Rattle.std.proofs.lemmas.Bool.{and_from, and_parts, cases_Bool, cases_eq, cases_lt, false_from_ne_true, le-leb, leb-false, leb-true, ltb-true, lt-ltb, ne_eqb, or_parts}
+use Rattle.std.specs.List.{fold}
+use Rattle.std.proofs.lemmas.Bool.{and_from, and_parts, cases_Bool, cases_eq, cases_lt, le-leb, leb-true, ltb-true, lt-ltb, ne_eqb}
 use Rattle.std.proofs.lemmas.List.{append-nil, length-take}
-use Rattle.std.proofs.lemmas.List.Sums.{sum_by-cons}
 use Rattle.std.proofs.lemmas.Nat.{pow-add}
 use Rattle.std.proofs.Math.Nat.{div-add-mod, mul-mod_right, mul_assoc}
 use Rattle.grammar.specs.Formats.{ItemsSpell}
@@ -13,7 +12,7 @@ use Rattle.net_types.proofs.SetLemmas.{Member-append_cases, Member-append_left, 
 use Rattle.net_types.specs.AttributeTypes.{type_of}
 use Rattle.net_types.specs.Bits.{same_bits}
 use Rattle.net_types.specs.Octets.{address_octets}
-use Rattle.net_types.specs.Paths.{asns, has_wide, hops, hops_of, leading, whole_path}
+use Rattle.net_types.specs.Paths.{has_wide}
 use Rattle.net_types.specs.Sets.{IsRising, Member, SameMembers}
 use Rattle.net_types.specs.SoundUpdates.{AreSoundAttrs, Each, IsSoundAggregator, IsSoundSegment}
 use Rattle.net_types.specs.UpdateFormat.{no_types, number_of, padded, prefix, with_type}
@@ -28,10 +27,9 @@ use Rattle.net_types.specs.declared.prefix.Prefix.{Prefix}
 use Rattle.net_types.specs.declared.route.Aggregator.{Aggregator}
 use Rattle.net_types.specs.declared.route.Attrs.{Attrs}
 use Rattle.net_types.specs.declared.route.Segment.{Segment}
-use Rattle.net_types.specs.declared.route.Segment.TheVariants.{Set, Sequence}
 use Rattle.net_types.specs.declared.route.Unknown.{Unknown}
 use Rattle.bgp_update.proofs.LengthSums.{is_highest, is_lowest, is_middle}
-use Rattle.bgp_update.proofs.SpelledAttributes.{IsTaken, length_told, octets_of, path_told, then_spells, told, told_same, told_segment}
+use Rattle.bgp_update.proofs.SpelledAttributes.{IsTaken, octets_of, path_told, then_spells, told_segment}
 use Rattle.bgp_update.proofs.ToldPaths.{whole_back, wide_told}
 use Rattle.bgp_update.specs.Answers.{AreNew}
 use Rattle.bgp_update.specs.RoundTrip.{FitAttrs, FitsAggregator, FitsMed}

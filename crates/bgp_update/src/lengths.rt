@@ -134,9 +134,7 @@ fn communities_len(partial: bool, communities: &[u32]) -> usize
 {
     match communities {
         [] => 0,
-        [_, ..] => {
-            attribute_len(four_times(communities.len()))
-        }
+        [_, ..] => { attribute_len(four_times(communities.len())) }
     }
 }
 

@@ -113,8 +113,7 @@ fn push_merged(out: &mut Vec<Segment>, asns: Asns, path: &[Segment]) -> Result<(
     let mut first = asns;
     match path {
         [Segment::Sequence(others), rest @ ..]
-            if first.len() <= 255 && others.len() <= 255 - first.len() =>
-        {
+            if first.len() <= 255 && others.len() <= 255 - first.len() => {
             push_numbers(&mut first, others.items())?;
             out.push(Segment::Sequence(first))?;
             push_segments(out, rest)
@@ -166,11 +165,7 @@ fn put_together(alloc: Global, path: Segments, wide: Segments) -> Result<Segment
 }
 
 /// The path that AS_PATH and AS4_PATH say together. Without AS4_PATH nothing is copied.
-pub fn whole_path(
-    alloc: Global,
-    path: Segments,
-    wide: Option<Segments>,
-) -> Result<Segments, Memory>
+pub fn whole_path(alloc: Global, path: Segments, wide: Option<Segments>) -> Result<Segments, Memory>
     ensures { IfOk result (λ v. v ≡ whole_path path wide) }
 {
     match wide {

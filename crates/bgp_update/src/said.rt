@@ -116,11 +116,7 @@ fn whole(alloc: Global, said: Said) -> Result<Attrs, UpdateFault>
 }
 
 /// The attributes, where something is announced.
-fn attrs(
-    alloc: Global,
-    announced: &[Prefix],
-    said: Said,
-) -> Result<Option<Attrs>, UpdateFault>
+fn attrs(alloc: Global, announced: &[Prefix], said: Said) -> Result<Option<Attrs>, UpdateFault>
     ensures { AreGiven (said_view said) announced.now result }
 {
     if announced.is_empty() {

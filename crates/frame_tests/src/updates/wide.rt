@@ -21,22 +21,35 @@ fn with_sequences(alloc: Global, counts: &[u8]) -> Result<Vec<u8>, Memory> {
     for count in counts {
         push_sequence(&mut path, *count)?;
     }
-    let block = 24 + path.len() % 65536;
+    let len = path.len() % 4096;
+    let block = 24 + len;
     let total = 25 + block;
+    let front = [
+        (total / 256) as u8,
+        (total % 256) as u8,
+        2,
+        0,
+        0,
+        (block / 256) as u8,
+        (block % 256) as u8,
+        0x40,
+        1,
+        1,
+        0,
+        0x50,
+        2,
+        (len / 256) as u8,
+        (len % 256) as u8,
+    ];
     let mut message = Vec::from_slice(alloc, [255; 16].as_slice())?;
-    message.extend_from_slice([(total / 256 % 256) as u8, (total % 256) as u8].as_slice())?;
-    message.extend_from_slice([2, 0, 0].as_slice())?;
-    message.extend_from_slice([(block / 256 % 256) as u8, (block % 256) as u8].as_slice())?;
-    message.extend_from_slice([0x40, 1, 1, 0].as_slice())?;
-    message.extend_from_slice([0x50, 2].as_slice())?;
-    let len = path.len() % 65536;
-    message.extend_from_slice([(len / 256 % 256) as u8, (len % 256) as u8].as_slice())?;
+    message.extend_from_slice(front.as_slice())?;
     message.extend_from_slice(path.as_slice())?;
-    message.extend_from_slice([0x40, 3, 4, 172, 16, 1, 2].as_slice())?;
-    message.extend_from_slice([0xc0, 17, 6, 2, 1, 0, 3, 0, 10].as_slice())?;
-    message.extend_from_slice([8, 10].as_slice())?;
+    message.extend_from_slice(BEHIND.as_slice())?;
     Ok(message)
 }
+
+/// NEXT_HOP, AS4_PATH and a prefix.
+const BEHIND: [u8; 18] = [0x40, 3, 4, 172, 16, 1, 2, 0xc0, 17, 6, 2, 1, 0, 3, 0, 10, 8, 10];
 
 /// How many numbers a segment has.
 fn count_in(segment: &Segment) -> usize {

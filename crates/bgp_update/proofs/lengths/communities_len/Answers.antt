@@ -1,5 +1,5 @@
 -- Four octets each, in one attribute.
-use Rattle.std.proofs.Common.{◌≡◌, ◌≤◌, ◌*◌, ℕ, length, min, ap, sym, ◌∙◌, arith}
+use Rattle.std.proofs.Common.{◌≤◌, ◌*◌, ℕ, length, min, ap, sym, ◌∙◌, arith}
 use Rattle.bgp_update.proofs.LengthSums.{attribute_capped, communities_length}
 use Rattle.bgp_update.proofs.lengths.communities_len.Goals as goal
 

@@ -1,6 +1,5 @@
 -- Each prefix is told by the lengths alone.
-use Rattle.std.proofs.Common.{◌≡◌, ◌+◌, ℕ, Bool, List, length, min, ap, ◌∙◌}
-use Rattle.std.specs.Prelude.{nat_lt}
+use Rattle.std.proofs.Common.{◌≡◌, ◌+◌, ℕ, Bool, length, min, ap, ◌∙◌}
 use Rattle.std.specs.List.{list_any}
 use Rattle.net_types.specs.Updates.{attrs_octets}
 use Rattle.net_types.specs.declared.prefix.Prefix.{Prefix}
