@@ -5,7 +5,7 @@ use Rattle.std.proofs.lemmas.List.Sums.{sum_by-cons}
 use Rattle.net_types.proofs.OrderedLemmas.{ordered_same}
 use Rattle.events.specs.Fits.{FitsBy, IsAccepted, IsFull, Passes, bare, cells, is_building}
 use Rattle.events.specs.Sound.{owners_part, rule_count}
-use Rattle.events.specs.State.{State}
+use Rattle.events.specs.State.{State, ArePolicies}
 use Rattle.events.specs.Tags.{is_live_pair, live_pairs, pairs, retagged}
 use Rattle.events.specs.declared.Event.{Event}
 use Rattle.events.specs.declared.Event.TheVariants.{Update, Down, Export}
@@ -13,7 +13,7 @@ use Rattle.events.specs.declared.Head.TheVariants.{Refused}
 use Rattle.events.specs.declared.Refusal.TheVariants.{TableFull}
 use Rattle.events.specs.declared.Reply.{Reply}
 use Rattle.exchange_laws.proofs.Counted.{changes_add_one_each, counted_pairs}
-use Rattle.exchange_laws.proofs.RulesAfter.{pairs_live, part_kept}
+use Rattle.exchange_laws.proofs.RulesAfter.{pairs_live, part_kept, same_policies}
 use Rattle.exchange_laws.proofs.TagsAfter.{tags_stay_pooled}
 use Rattle.exchange_laws.specs.Counts.{ChangesAreCounted, HasOneRuleEach}
 use Rattle.exchange_laws.specs.Fitting.{AcceptedLinesFit, FullTablesAreRefused}
@@ -96,10 +96,13 @@ pub full_tables_are_refused : FullTablesAreRefused
 full_tables_are_refused s e r is change one over =
     let count : ℕ = rule_count (with_default_rules s (retagged s r)) in
     let reply : Reply = bare (Refused (TableFull count s.capacity)) in
+    let right = change.sound.right in
+    let read : (ps : Policies) × ArePolicies (retagged s r) ps = (right.0, same_policies s (retagged s r) right.0 change.alike.participants refl refl right.1) in
     let full : IsFull s e reply = record {
       rules = count;
       head = refl;
       over = over;
+      read = subst (λ x. (ps : Policies) × ArePolicies x ps) (sym is.leaves) read;
       few = λ ps are. subst (λ x. count ≤ sum_by (cells ps x) (live_pairs x)) (sym is.leaves) (few_rules s r change one ps);
     } in
     subst (λ o. FitsBy o s e reply) (sym is.passes) (subst (λ b. Passes b s e reply) (sym (rerouting_builds e is.building)) (inr full))

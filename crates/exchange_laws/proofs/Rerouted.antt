@@ -12,7 +12,7 @@ use Rattle.events.specs.Tags.{free_tags, groups, retagged}
 use Rattle.events.specs.declared.Event.{Event}
 use Rattle.events.specs.declared.Event.TheVariants.{Bad, Exchange, Participant, Port, Update, Down, Export, Outbound, Inbound, Take, Drain, Arp, Resolve, Packet, Frame, Recompile, Work, Table}
 use Rattle.events.specs.declared.Refusal.{Refusal}
-use Rattle.events.specs.declared.Refusal.TheVariants.{Misplaced, NextHop, NoNextHop, TextLong}
+use Rattle.events.specs.declared.Refusal.TheVariants.{Misplaced, NextHop, NoNextHop, Oversize, TextLong}
 use Rattle.exchange_laws.proofs.Lists.{some_of}
 use Rattle.exchange_laws.proofs.ToldAnew.{get_retained}
 use Rattle.exchange_laws.specs.Fresh.{HasEnoughTags}
@@ -27,6 +27,7 @@ use Rattle.net_types.specs.ExportTexts.{bound}
 use Rattle.net_types.specs.Exports.{Routing, pid_of, route}
 use Rattle.net_types.specs.Keys.{RouteKey, route_cmp}
 use Rattle.net_types.specs.UpdateReading.{decoded}
+use Rattle.net_types.specs.Updates.{is_oversize}
 use Rattle.net_types.specs.declared.address.Pid.{Pid}
 use Rattle.net_types.specs.declared.export.ExportRule.{ExportRule}
 use Rattle.net_types.specs.declared.named_rule.NamedRule.{NamedRule}
@@ -148,11 +149,11 @@ export_leaves s name text who rules declared read = ap (λ o. with_known s o (λ
 update_case : (s : State) (name bytes : List ℕ) (who : Pid) → pid_of s.routing name ≡ Some who → (o : Result Message Fault) → decoded bytes ≡ o → update_refusal s who o ≡ None → Rerouted s (Update name bytes)
 update_case s name bytes who declared (Err fault) read none = absurd (cc)
 update_case s name bytes who declared (Ok u) read none =
-    let both = neither (attrs_refusal s who u.attrs) (tags_refusal s (with_update s.routing who u)) none in record {
+    let both = neither (attrs_refusal s who u.attrs) (or_else (refused_if (is_oversize u) Oversize) (tags_refusal s (with_update s.routing who u))) none in record {
       routing = with_update s.routing who u;
       leaves = update_leaves s name bytes who u declared read;
       alike = record { participants = refl; ports = refl };
-      enough = enough_tags s (with_update s.routing who u) both.1;
+      enough = enough_tags s (with_update s.routing who u) (neither (refused_if (is_oversize u) Oversize) (tags_refusal s (with_update s.routing who u)) both.1).1;
       rules = refl;
       named = refl;
       each = λ w p a is. elim (updated_from who u s.routing.routes (record { from = w; prefix = p }) a is) [

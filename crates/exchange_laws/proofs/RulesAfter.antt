@@ -64,7 +64,7 @@ default_right s ps drop are part port = by (offered_hole part.offers part.best) 
     by false kept = one_right ps part port (record { port = to; set = no_change } ∷ []) (λ y m. absurd m, tt) (λ h. sym (gives h ∙ ap (λ b. cond b [] (record { headers = h; port = to } ∷ [])) kept))
 
 -- the same texts and the same participants have the same policies
-same_policies : (s s2 : State) (ps : Policies) → s2.routing.participants ≡ s.routing.participants → s2.outbound ≡ s.outbound → s2.inbound ≡ s.inbound → ArePolicies s ps → ArePolicies s2 ps
+pub same_policies : (s s2 : State) (ps : Policies) → s2.routing.participants ≡ s.routing.participants → s2.outbound ≡ s.outbound → s2.inbound ≡ s.inbound → ArePolicies s ps → ArePolicies s2 ps
 same_policies s s2 ps alike outbound inbound are = record {
   names = are.names ∙ (λ i. pid_of (record s2.routing { participants = sym alike i }));
   outbound = subst (λ texts. AreRead texts ps.outbound) (sym outbound) are.outbound;
