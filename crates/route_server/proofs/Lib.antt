@@ -9,3 +9,4 @@ mod ProposalLaws
 mod DownLaws
 mod ExportLaws
 mod BestLaws
+mod ShortPaths

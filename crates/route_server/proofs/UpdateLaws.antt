@@ -21,17 +21,19 @@ use Rattle.net_types.specs.Keys.{RouteKey, prefix_cmp, route_cmp}
 use Rattle.net_types.specs.Sets.{Member, IsRising}
 use Rattle.net_types.specs.SoundUpdates.{IsSoundUpdate, HasSoundAttrs}
 use Rattle.net_types.specs.UpdateSpelling.{is_before}
+use Rattle.net_types.specs.Updates.{is_oversize}
 use Rattle.net_types.specs.declared.address.Pid.{Pid}
 use Rattle.net_types.specs.declared.prefix.Prefix.{Prefix}
 use Rattle.net_types.specs.declared.route.Attrs.{Attrs}
 use Rattle.net_types.specs.declared.update.Update.{Update}
 use Rattle.registry.specs.Registered.{Registered}
-use Rattle.route_server.specs.Admission.{attrs_refusal, begins_with_own, refusal}
+use Rattle.route_server.specs.Admission.{attrs_refusal, begins_with_own, or_oversize, refusal}
 use Rattle.route_server.specs.Edits.{IsEdit, prefixes_of}
 use Rattle.route_server.specs.Effects.{AreRowsOf, routing_after}
 use Rattle.route_server.specs.Rows.{look}
 use Rattle.route_server.specs.Served.{Served, AreDeclared, AreOwned, owns, routing}
 use Rattle.route_server.specs.declared.change.Change.{Change}
+use Rattle.route_server.specs.declared.fault.RouteFault.{RouteFault}
 use Rattle.route_server.specs.declared.fault.RouteFault.TheVariants.{FirstAs, NextHop}
 
 -- ---- one change more
@@ -217,10 +219,15 @@ module _ (fits : RouteKey → Attrs → Type 0) (from : Pid) where
   with_fit None ps m own h = h
   with_fit (Some a) ps m own h = here_fit a (own a refl) ps m h
 
+-- where nothing is refused, the attributes aren't
+not_refused : (oversize : Bool) (o : Option RouteFault) → or_oversize oversize o ≡ None → o ≡ None
+not_refused oversize None e = refl
+not_refused oversize (Some fault) e = absurd (cc)
+
 -- next hops stay owned after an update that is taken
 pub updated_owned : (names : Registered) (from : Pid) (u : Update) (v : Served) → from.0 < length names.participants → refusal names from u ≡ None → AreOwned (routing names v) → AreOwned (routing_after names v.rules v.named (updated from u v.routes))
 updated_owned names from u v within taken are = record {
-  owned = with_fit fits from u.attrs u.announced (withdrawn from u.withdrawn v.routes) (λ a e p. (within, own a (ap (option_and_then (attrs_refusal names from)) (sym e) ∙ taken))) (gone_fit fits from u.withdrawn v.routes are.owned);
+  owned = with_fit fits from u.attrs u.announced (withdrawn from u.withdrawn v.routes) (λ a e p. (within, own a (ap (option_and_then (attrs_refusal names from)) (sym e) ∙ not_refused (is_oversize u) (option_and_then (attrs_refusal names from) u.attrs) taken))) (gone_fit fits from u.withdrawn v.routes are.owned);
 }
   where
     fits : RouteKey → Attrs → Type 0

@@ -7,6 +7,7 @@ ghost use Rattle.route_server.specs.Admission.{first_in, attrs_refusal, refusal}
 
 use crate::fault::RouteFault;
 use crate::rows::asn_of;
+use bgp_update::is_oversize;
 use net_types::{Attrs, Pid, Segment, Update};
 use registry::Registry;
 
@@ -47,14 +48,20 @@ fn attrs_refusal(names: &Registry, from: Pid, attrs: &Attrs) -> Option<RouteFaul
     None
 }
 
-/// Why an update is refused, where it announces.
+/// Why an update is refused, where it announces: its attributes are looked at before its length.
 pub fn refusal(names: &Registry, from: Pid, update: &Update) -> Option<RouteFault>
     ensures { result ≡ refusal names.now from update.now }
 {
-    match &update.attrs {
-        Some(attrs) => attrs_refusal(names, from, attrs),
-        None => None,
+    let Some(attrs) = &update.attrs else {
+        return None;
+    };
+    if let Some(fault) = attrs_refusal(names, from, attrs) {
+        return Some(fault);
     }
+    if is_oversize(update) {
+        return Some(RouteFault::Oversize);
+    }
+    None
 }
 
 fn hops_in(segment: &Segment) -> usize

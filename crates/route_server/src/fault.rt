@@ -7,6 +7,8 @@ pub enum RouteFault {
     FirstAs,
     /// NEXT_HOP is the address of none of the announcer's ports.
     NextHop,
+    /// An announced prefix couldn't be told: with its attributes it takes more than 4096 octets.
+    Oversize,
     /// Memory ran out.
     Memory,
 }

@@ -1,11 +1,10 @@
 //! What lines do to the routes: proposals, and their commit.
 
-ghost use Rattle.std.specs.Prelude.{◌≡◌, ◌<◌, ◌≤◌, ◌^◌, ◌↔◌, length, sum_by, None, Some, IfOk, IfSome, OnOk, unwrap_or};
+ghost use Rattle.std.specs.Prelude.{◌≡◌, ◌<◌, ◌≤◌, ◌↔◌, length, None, Some, IfOk, OnOk, unwrap_or};
 ghost use Rattle.std.specs.FinMap.{FinMap};
 ghost use Rattle.net_types.specs.Changes.{updated};
 ghost use Rattle.net_types.specs.Exports.{Routing};
 ghost use Rattle.net_types.specs.Keys.{route_cmp};
-ghost use Rattle.net_types.specs.Paths.{hops_of};
 ghost use Rattle.net_types.specs.SoundUpdates.{IsSoundUpdate};
 ghost use Rattle.net_types.specs.declared.route.Attrs.{Attrs};
 ghost use Rattle.route_server.specs.Admission.{refusal};
@@ -30,7 +29,6 @@ fn proposed_update(
 ) -> Result<Proposal, Memory>
     requires known { from.0 < length names.now.participants }
     requires sound { IsSoundUpdate update.now }
-    requires short { IfSome update.now.attrs (λ a. sum_by hops_of a.path < 2 ^ 32) }
     requires declared { AreDeclared names.now server.now.routes }
     requires taken { refusal names.now from update.now ≡ None }
     ensures rules { IfOk result (λ p. p.rules ≡ None) }
@@ -45,7 +43,8 @@ fn proposed_update(
 
 impl RouteServer {
     /// What an update of a participant does. Refused is one that announces where its path doesn't begin with the
-    /// participant's AS, and else where its NEXT_HOP is the address of none of the participant's ports.
+    /// participant's AS, else where its NEXT_HOP is the address of none of the participant's ports, and else where an
+    /// announced prefix takes more than 4096 octets with its attributes.
     pub fn propose_update(
         &self,
         names: &Registry,
@@ -54,10 +53,10 @@ impl RouteServer {
     ) -> Result<Proposal, RouteFault>
         requires known { from.0 < length names.now.participants }
         requires sound { IsSoundUpdate update.now }
-        requires short { IfSome update.now.attrs (λ a. sum_by hops_of a.path < 2 ^ 32) }
         requires declared { AreDeclared names.now self.now.routes }
         ensures first_as { (result ≡ Err RouteFault.FirstAs) ↔ (refusal names.now from update.now ≡ Some RouteFault.FirstAs) }
         ensures next_hop { (result ≡ Err RouteFault.NextHop) ↔ (refusal names.now from update.now ≡ Some RouteFault.NextHop) }
+        ensures oversize { (result ≡ Err RouteFault.Oversize) ↔ (refusal names.now from update.now ≡ Some RouteFault.Oversize) }
         ensures rules { IfOk result (λ p. p.rules ≡ None) }
         ensures proposal { IfOk result (λ p. IsProposal (routing names.now self.now) (routing_after names.now self.now.rules self.now.named (updated from update.now self.now.routes)) p) }
         ensures declared { AreDeclared names.now (updated from update.now self.now.routes) }

@@ -1,5 +1,5 @@
 use Rattle.std.proofs.Common.{◌≤◌, length, ap, subst, sym, ◌∙◌, [], ◌∷◌, ◌++◌, ◌-◌, ◌+◌}
-use Rattle.route_server.specs.Rows.{nothings, padded}
+use Rattle.route_server.specs.Rows.{nothings}
 use Rattle.route_server.proofs.ExportLaws.{pad_more, pad_all, padded_long}
 use Rattle.route_server.proofs.export.padded.Goals as goal
 

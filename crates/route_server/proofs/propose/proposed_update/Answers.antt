@@ -1,8 +1,12 @@
 use Rattle.std.proofs.Common.{refl}
 use Rattle.net_types.specs.Changes.{updated}
 use Rattle.route_server.proofs.UpdateLaws.{updated_owned, updated_out, updated_declared}
+use Rattle.route_server.proofs.ShortPaths.{taken_short}
 use Rattle.route_server.proofs.ProposalLaws.{same_routes}
 use Rattle.route_server.proofs.propose.proposed_update.Goals as goal
+
+pub update_changes-requires-clause-short : goal.update_changes-requires-clause-short
+update_changes-requires-clause-short c = taken_short c.args.names.now c.args.from c.args.update.now c.requires.sound c.requires.taken
 
 pub returns-clause-proposal : goal.returns-clause-proposal
 returns-clause-proposal c =
