@@ -1,6 +1,6 @@
 -- The pairs and tags that go where a participant is told what is present.
 use Rattle.std.proofs.Common.{◌≡◌, ℕ, zero, suc, ◌+◌, ◌<◌, Bool, true, false, ◌||◌, not, take, drop, nat_eq, List, [], ◌∷◌, length, map, sym, ap, subst, ◌∙◌, refl, inl, inr, arith}
-use Rattle.std.specs.Prelude.{Some, slice_get, slice_set, unwrap_or}
+use Rattle.std.specs.Prelude.{Some, slice_set}
 use Rattle.std.specs.FinMap.{FinMap, empty}
 use Rattle.std.specs.List.{list_any}
 use Rattle.std.proofs.lemmas.Bool.{eqb-true, false_from_ne_true, or_cases, or_left, or_parts, or_right}

@@ -77,6 +77,7 @@ impl Sdx {
             Ok(proposal) => Ok(Ok(proposal)),
             Err(RouteFault::FirstAs) => Ok(Err(Refusal::FirstAs)),
             Err(RouteFault::NextHop) => Ok(Err(Refusal::NextHop)),
+            Err(RouteFault::Oversize) => Ok(Err(Refusal::Oversize)),
             Err(RouteFault::Memory) => Err(Memory),
         }
     }

@@ -5,14 +5,15 @@ use Rattle.events.specs.After.{with_update}
 use Rattle.events.specs.Refusals.{refusal}
 use Rattle.events.specs.State.{State}
 use Rattle.events.specs.declared.Event.TheVariants.{Update}
-use Rattle.events.specs.declared.Refusal.TheVariants.{FirstAs}
+use Rattle.events.specs.declared.Refusal.TheVariants.{FirstAs, NextHop, Oversize}
 use Rattle.std.specs.Prelude.{Result, Err, Some}
 use Rattle.route_server.specs.Proposed.{Proposed}
 use Rattle.route_server.specs.declared.fault.RouteFault.{RouteFault}
+use Rattle.route_server.specs.declared.fault.RouteFault.TheVariants as faults
 use Rattle.events.proofs.Reached.{declared_pid}
 use Rattle.sdx_core.specs.Changing.{IsSender, Leads, session}
 use Rattle.sdx_core.specs.View.{state_of}
-use Rattle.sdx_core.proofs.Asked.{first_refused, none_refused, short_path, update_faulty, update_leads}
+use Rattle.sdx_core.proofs.Asked.{none_refused, refused_for, update_faulty, update_leads}
 use Rattle.sdx_core.proofs.Senders.{routes_declared, sender_of}
 use Rattle.sdx_core.proofs.sdx.Sdx.update_asked.Goals as goal
 
@@ -22,9 +23,6 @@ propose_update-requires-clause-known c =
     let s : State = state_of a.phase a.base a.size a.registry a.server a.resolved.items a.classes a.told.items a.switch in
     let sender : IsSender s c.args.name.now c.in-Ok.who = sender_of s c.args.name.now c.in-Ok.who (ap (λ (x : State). session x c.args.name.now) c.self.view_is ∙ sym c.session.ensures ∙ c.in-Ok.is) in
     declared_pid s.routing c.args.name.now c.in-Ok.who sender.known
-
-pub propose_update-requires-clause-short : goal.propose_update-requires-clause-short
-propose_update-requires-clause-short c = short_path c.in-Ok-decode.update c.in-Ok-decode.ensures.short
 
 pub propose_update-requires-clause-declared : goal.propose_update-requires-clause-declared
 propose_update-requires-clause-declared c =
@@ -40,7 +38,9 @@ returns-in-Ok-propose_update c =
     let u = c.in-Ok-decode.update in
     let sender : IsSender s c.args.name.now who = sender_of s c.args.name.now who (ap (λ (x : State). session x c.args.name.now) c.self.view_is ∙ sym c.session.ensures ∙ c.in-Ok.is) in
     let read = sym (ap decoded c.items.ensures) ∙ c.in-Ok-decode.ensures.value in
-    let none = none_refused s a.registry who refl (λ ip. refl) u.attrs (λ e. let bad = c.propose_update.ensures.first_as.1 e in let good = c.in-Ok-propose_update.is in cc) (λ e. let bad = c.propose_update.ensures.next_hop.1 e in let good = c.in-Ok-propose_update.is in cc) in
+    let none = none_refused s a.registry who refl (λ ip. refl) u (λ e. let bad = c.propose_update.ensures.first_as.1 e in let good = c.in-Ok-propose_update.is in cc)
+    (λ e. let bad = c.propose_update.ensures.next_hop.1 e in let good = c.in-Ok-propose_update.is in cc)
+    (λ e. let bad = c.propose_update.ensures.oversize.1 e in let good = c.in-Ok-propose_update.is in cc) in
     subst (λ (x : State). (r : Routing) × Leads x (Update c.args.name.now c.args.bytes.now) r c.in-Ok-propose_update.proposal) c.self.view_is
     (with_update s.routing who u, update_leads s c.args.name.now who sender c.args.bytes.now u c.in-Ok-propose_update.proposal read none c.in-Ok-propose_update.ensures.proposal)
 
@@ -57,4 +57,28 @@ returns-in-Err-FirstAs c =
     let read = sym (ap decoded c.items.ensures) ∙ c.in-Ok-decode.ensures.value in
     let why = c.propose_update.ensures.first_as.0 (c.in-Err-FirstAs.is ∙ ap (λ (f : RouteFault). the_fault f) c.in-Err-FirstAs.field-0-is) in
     subst (λ (x : State). refusal x (Update c.args.name.now c.args.bytes.now) ≡ Some FirstAs) c.self.view_is
-    (update_faulty s c.args.name.now who sender c.args.bytes.now u FirstAs read (first_refused s a.registry who refl (λ ip. refl) u.attrs why))
+    (update_faulty s c.args.name.now who sender c.args.bytes.now u FirstAs read (refused_for s a.registry who refl (λ ip. refl) u faults.FirstAs why))
+
+pub returns-in-Err-NextHop : goal.returns-in-Err-NextHop
+returns-in-Err-NextHop c =
+    let a = c.self.inside in
+    let s : State = state_of a.phase a.base a.size a.registry a.server a.resolved.items a.classes a.told.items a.switch in
+    let who = c.in-Ok.who in
+    let u = c.in-Ok-decode.update in
+    let sender : IsSender s c.args.name.now who = sender_of s c.args.name.now who (ap (λ (x : State). session x c.args.name.now) c.self.view_is ∙ sym c.session.ensures ∙ c.in-Ok.is) in
+    let read = sym (ap decoded c.items.ensures) ∙ c.in-Ok-decode.ensures.value in
+    let why = c.propose_update.ensures.next_hop.0 (c.in-Err-NextHop.is ∙ ap (λ (f : RouteFault). the_fault f) c.in-Err-NextHop.field-0-is) in
+    subst (λ (x : State). refusal x (Update c.args.name.now c.args.bytes.now) ≡ Some NextHop) c.self.view_is
+    (update_faulty s c.args.name.now who sender c.args.bytes.now u NextHop read (refused_for s a.registry who refl (λ ip. refl) u faults.NextHop why))
+
+pub returns-in-Err-Oversize : goal.returns-in-Err-Oversize
+returns-in-Err-Oversize c =
+    let a = c.self.inside in
+    let s : State = state_of a.phase a.base a.size a.registry a.server a.resolved.items a.classes a.told.items a.switch in
+    let who = c.in-Ok.who in
+    let u = c.in-Ok-decode.update in
+    let sender : IsSender s c.args.name.now who = sender_of s c.args.name.now who (ap (λ (x : State). session x c.args.name.now) c.self.view_is ∙ sym c.session.ensures ∙ c.in-Ok.is) in
+    let read = sym (ap decoded c.items.ensures) ∙ c.in-Ok-decode.ensures.value in
+    let why = c.propose_update.ensures.oversize.0 (c.in-Err-Oversize.is ∙ ap (λ (f : RouteFault). the_fault f) c.in-Err-Oversize.field-0-is) in
+    subst (λ (x : State). refusal x (Update c.args.name.now c.args.bytes.now) ≡ Some Oversize) c.self.view_is
+    (update_faulty s c.args.name.now who sender c.args.bytes.now u Oversize read (refused_for s a.registry who refl (λ ip. refl) u faults.Oversize why))
