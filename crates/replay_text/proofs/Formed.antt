@@ -45,8 +45,8 @@ name_holds text = kept (λ who. IsTrue (is_name who)) (is_name text) text (λ is
 port_holds : (text : List ℕ) → IfSome (port_number text) (λ n. (1 ≤ n.0) × (n.0 ≤ 65279))
 port_holds text = map_holds (IsWithin 1 65279) (λ (n : PortNo). (1 ≤ n.0) × (n.0 ≤ 65279)) (number_within 1 65279 text) (λ n. record { 0 = n }) (number_holds 1 65279 text) (λ n h. h)
 
-as_holds : (text : List ℕ) → IfSome (as_number text) (IsWithin 1 65535)
-as_holds text = only_holds (IsWithin 1 65535) (IsWithin 1 65535) (λ n. not (nat_eq n 23456)) (number_within 1 65535 text) (number_holds 1 65535 text) (λ n h passes. h)
+as_holds : (text : List ℕ) → IfSome (as_number text) (IsWithin 1 4294967295)
+as_holds text = only_holds (IsWithin 1 4294967295) (IsWithin 1 4294967295) (λ n. not (nat_eq n 23456)) (number_within 1 4294967295 text) (number_holds 1 4294967295 text) (λ n h passes. h)
 
 exchange_holds : (base : Ip) (size capacity : ℕ) → IsWithin 1 65536 size → IsWithin 1 1000000 capacity → IfSome (exchange_event base size capacity) IsWellFormed
 exchange_holds base size capacity s c =
@@ -65,7 +65,7 @@ exchange_formed a b c =
 participant_formed : (a b c : List ℕ) → IfSome (participant_line a b c) IsWellFormed
 participant_formed a b c =
     then_holds (λ who. IsTrue (is_name who)) IsWellFormed (name a) _ (name_holds a)
-    (λ who n. then_holds (IsWithin 1 65535) IsWellFormed (as_number b) _ (as_holds b)
+    (λ who n. then_holds (IsWithin 1 4294967295) IsWellFormed (as_number b) _ (as_holds b)
     (λ asn h. map_holds (λ id. Unit {0}) IsWellFormed (only_if (λ (id : Ip). not (nat_eq id.0 0)) (address c)) (λ id. Participant who asn id)
     (any_holds (only_if (λ (id : Ip). not (nat_eq id.0 0)) (address c))) (λ id any. (n, h.0, h.1))))
 

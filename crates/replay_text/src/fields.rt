@@ -83,11 +83,11 @@ pub fn port_number(text: &[u8]) -> Option<PortNo>
     Some(PortNo(number as u16))
 }
 
-/// The number of an AS, from 1 to 65535 without 23456 (RFC 6793 9).
+/// The number of an AS, from 1 to 4294967295 without 23456 (RFC 6793 9).
 pub fn as_number(text: &[u8]) -> Option<u32>
     ensures { result ≡ as_number text.now }
 {
-    let number = number_within(1, 65535, text)?;
+    let number = number_within(1, 4294967295, text)?;
     if number == 23456 {
         return None;
     }

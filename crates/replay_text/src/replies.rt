@@ -37,6 +37,7 @@ fn push_refusal(text: &mut String, refusal: Refusal) -> Result<(), Memory>
         }
         Refusal::FirstAs => text.push_str("first-as")?,
         Refusal::NextHop => text.push_str("next-hop")?,
+        Refusal::Oversize => text.push_str("oversize")?,
         Refusal::TextLong => text.push_str("too-long")?,
         Refusal::Syntax { at } => write!(text, "syntax {at}")?,
         Refusal::TooDeep { at } => write!(text, "too-deep {at}")?,
