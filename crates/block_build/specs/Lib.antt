@@ -9,4 +9,5 @@ pub mod Given
 pub mod Bounds
 pub mod Rules
 pub mod Tight
+pub mod Installed
 pub mod Laws

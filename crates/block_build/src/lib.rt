@@ -3,6 +3,7 @@
 
 mod actions;
 mod block;
+mod blocks;
 mod building;
 mod laws;
 mod offers;
@@ -13,6 +14,7 @@ mod view;
 mod views;
 
 pub use block::{Block, BuildFault};
+pub use blocks::Blocks;
 pub use building::build;
 pub use laws::{no_inports, no_more_cells, right_for_policies, right_for_views};
 pub use tight::build_tight;

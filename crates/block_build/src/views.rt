@@ -45,11 +45,7 @@ impl<'p> Views<'p> {
     }
 
     /// Adds the classifiers of the participant that was declared next. After want of memory all is unchanged.
-    pub fn push(
-        &mut self,
-        outbound: &'p Classifier,
-        inbound: &'p Classifier,
-    ) -> Result<(), Memory>
+    pub fn push(&mut self, outbound: &'p Classifier, inbound: &'p Classifier) -> Result<(), Memory>
         ensures ok { OnOk result (self.new ≡ self.old ++ (record { outbound = lines_of outbound.now; inbound = lines_of inbound.now }) ∷ []) }
         ensures err { OnErr result (self.new ≡ self.old) }
     {
