@@ -1,5 +1,5 @@
 -- What the table of the switch is seen as, and which entries are kept for it (this exchange's own rule).
-use Rattle.std.specs.Prelude.{◌≡◌, ℕ, ◌+◌, ◌<◌, Bool, true, List, length, map, sum_by, Option, Some, None}
+use Rattle.std.specs.Prelude.{◌≡◌, ℕ, ◌+◌, ◌-◌, ◌^◌, ◌<◌, min, Bool, true, List, length, map, sum_by, Option, Some, None}
 use Rattle.std.specs.FinMap.{FinMap, entries, is_sorted}
 use Rattle.std.specs.Ordering.{is_lt}
 use Rattle.net_types.specs.Keys.{pair_cmp}
@@ -32,11 +32,16 @@ abbrev pub is_past : Option Pair → Pair → Bool
 is_past None pair = true
 is_past (Some after) pair = is_lt (pair_cmp after pair)
 
--- with these rules of a pair there are more rules than the capacity
-abbrev pub IsOver : Installed → Pair → List Rule → Type 0
-IsOver s pair rules = s.capacity + count_at s.table pair < rule_count s.table + length rules
+-- how many rules there are once these are the rules of a pair
+abbrev pub count_with : FinMap pair_cmp (List Rule) → Pair → List Rule → ℕ
+count_with table pair rules = rule_count table - count_at table pair + length rules
 
--- why the rules of a pair aren't put in: there would be too many, and so many; or memory ran out, and there is room
+-- that are more than there is room for
+abbrev pub IsOver : Installed → Pair → List Rule → Type 0
+IsOver s pair rules = s.capacity < count_with s.table pair rules
+
+-- why the rules of a pair aren't put in: there would be too many, with their number, which stands still at the last one of
+-- 64 bits; or memory ran out, and there would be room
 abbrev pub IsPutFault : Installed → Pair → List Rule → PutFault → Type 0
-IsPutFault s pair rules (TableFull count capacity) = IsOver s pair rules × (count + count_at s.table pair ≡ rule_count s.table + length rules) × (capacity ≡ s.capacity)
+IsPutFault s pair rules (TableFull count capacity) = IsOver s pair rules × (count ≡ min (2 ^ 64 - 1) (count_with s.table pair rules)) × (capacity ≡ s.capacity)
 IsPutFault s pair rules Memory = ¬ IsOver s pair rules

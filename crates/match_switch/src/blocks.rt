@@ -19,14 +19,14 @@ use sorted_map::place;
 impl Switch {
     /// The rules of a pair become these, where there is room for them. Else the table is as it was.
     pub fn put_block(&mut self, pair: Pair, block: Block) -> Result<(), PutFault>
-        requires few { rule_count self.old.table + length block < 2 ^ 64 }
         ensures table { OnOk result (self.new.table ≡ map.insert self.old.table pair block) }
         ensures full { IsOver self.old pair block → IsErr result }
         ensures fault { IfErr result (IsPutFault self.old pair block) }
         ensures unchanged { OnErr result (self.new.table ≡ self.old.table) }
         ensures capacity { self.new.capacity ≡ self.old.capacity }
     {
-        let rules = self.rules() - self.count_of(pair) + block.rules().len();
+        let others = self.rules() - self.count_of(pair);
+        let rules = others.saturating_add(block.rules().len());
         let capacity = self.capacity() as usize;
         if rules > capacity {
             return Err(PutFault::TableFull { rules, capacity });
