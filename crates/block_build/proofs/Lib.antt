@@ -8,3 +8,4 @@ pub mod PolicyRight
 pub mod ViewLemmas
 pub mod BoundLemmas
 pub mod InportLemmas
+pub mod TightLemmas

@@ -1,10 +1,13 @@
 pub mod Outcomes
 pub mod Right
 pub mod Views
+pub mod Lent
 pub mod Offers
 pub mod Receivers
 pub mod Spreads
 pub mod Given
 pub mod Bounds
 pub mod Rules
+pub mod Tight
+pub mod Installed
 pub mod Laws

@@ -3,7 +3,7 @@
 ghost use Rattle.std.specs.Prelude.{◌≡◌};
 ghost use Rattle.block_build.specs.declared.block.BuildFault.TheVariants as fault;
 
-use net_types::{Memory, Rule};
+use net_types::{Items, Memory, Rule};
 use std::marker::Model;
 
 /// The rules of a pair. Only building makes one. Contracts see the rules, in their order.
@@ -33,6 +33,13 @@ impl Block {
         ensures { result.now ≡ self.now }
     {
         self.rules.as_slice()
+    }
+
+    /// The rules as a list, in their order.
+    pub fn into_rules(self) -> Items<Rule>
+        ensures { result ≡ self }
+    {
+        Items::from_vec(self.rules)
     }
 }
 

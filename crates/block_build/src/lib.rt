@@ -3,14 +3,20 @@
 
 mod actions;
 mod block;
+mod blocks;
 mod building;
 mod laws;
 mod offers;
 mod receive;
 mod spread;
+mod tight;
 mod view;
+mod views;
 
 pub use block::{Block, BuildFault};
+pub use blocks::Blocks;
 pub use building::build;
 pub use laws::{no_inports, no_more_cells, right_for_policies, right_for_views};
+pub use tight::build_tight;
 pub use view::View;
+pub use views::Views;

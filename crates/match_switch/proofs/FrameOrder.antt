@@ -1,5 +1,5 @@
 -- Frames in the order in which they are printed: a sorted list of them without repeats is the list in order.
-use Rattle.std.proofs.Common.{◌≡◌, List, [], IsPermutation, refl}
+use Rattle.std.proofs.Common.{◌≡◌, List, IsPermutation, refl}
 use Rattle.std.specs.Cmp.{IsTotalOrder, nat_cmp_total}
 use Rattle.std.specs.Cmp.Lexicographic.{slice_cmp, nat_list_cmp_total}
 use Rattle.std.specs.FinMap.{IsAntisymmetric, nat_cmp-IsAntisymmetric, slice_cmp-IsAntisymmetric}

@@ -1,3 +1,4 @@
 pub mod CountLemmas
 pub mod FrameOrder
 pub mod TableLemmas
+pub mod NextLemmas

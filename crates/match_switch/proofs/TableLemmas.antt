@@ -9,7 +9,8 @@ use Rattle.net_types.proofs.TieLemmas.{pair_cmp-IsAntisymmetric}
 use Rattle.net_types.specs.Keys.{pair_cmp}
 use Rattle.net_types.specs.declared.rule.Pair.{Pair}
 use Rattle.net_types.specs.declared.rule.Rule.{Rule}
-use Rattle.match_switch.specs.Installed.{Installed, IsKept, entries_count, rule_count}
+use Rattle.block_build.specs.Installed.{Installed, count_at, rule_count}
+use Rattle.match_switch.specs.Installed.{IsKept, entries_count}
 use Rattle.match_switch.proofs.CountLemmas.{count-put, count-without, sum-values}
 
 -- the rules of entries are those of their table
@@ -24,6 +25,10 @@ module _ (es : List (Pair × List Rule)) (rules room capacity : ℕ) (kept : IsK
 
   pub count_is : rule_count s.table ≡ rules
   count_is = ap (λ (t : Installed). rule_count t.table) (sym is) ∙ table_count es kept.rising ∙ sym kept.counted
+
+  -- what was found of a pair is what the table has
+  pub count_found : (pair : Pair) (before : Option (List Rule)) → before ≡ find pair_cmp pair es → (n : ℕ) → n ≡ length (unwrap_or before []) → n ≡ count_at s.table pair
+  count_found pair before e n len = len ∙ ap (λ (m : Option (List Rule)). length (unwrap_or m [])) (e ∙ sym (get_is pair))
 
   pub entries_are : entries s.table ≡ es
   entries_are = ap (λ (t : Installed). entries t.table) (sym is) ∙ entries_of_sorted pair_cmp es kept.rising
@@ -58,11 +63,12 @@ module _ (es : List (Pair × List Rule)) (rules room capacity : ℕ) (kept : IsK
       let is_n : n ≡ length (unwrap_or (find pair_cmp pair es) []) = len ∙ ap (λ (m : Option (List Rule)). length (unwrap_or m [])) e in
       omega (arith, all, is_n)
 
-  pub kept_put : (pair : Pair) (new : List Rule) (ds : List (Pair × List Rule)) → ds ≡ put pair_cmp pair new es → (before : Option (List Rule)) → before ≡ find pair_cmp pair es → (added n : ℕ) → added ≡ length new → n ≡ length (unwrap_or before []) → IsKept ds (rules + added - n)
+  pub kept_put : (pair : Pair) (new : List Rule) (ds : List (Pair × List Rule)) → ds ≡ put pair_cmp pair new es → (before : Option (List Rule)) → before ≡ find pair_cmp pair es → (added n : ℕ) → added ≡ length new → n ≡ length (unwrap_or before []) → IsKept ds (rules - n + added)
   kept_put pair new ds e before b added n is_added len =
       let is_n : n ≡ length (unwrap_or (find pair_cmp pair es) []) = len ∙ ap (λ (m : Option (List Rule)). length (unwrap_or m [])) b in
       let all = counted_put pair new ds e in
-      record { rising = rising_put pair new ds e; counted = omega (arith, all, is_n, is_added) }
+      let few = few_before pair before b n len in
+      record { rising = rising_put pair new ds e; counted = omega (arith, all, is_n, is_added, few) }
 
   pub kept_without : (pair : Pair) (ds : List (Pair × List Rule)) → ds ≡ without pair_cmp pair es → (before : Option (List Rule)) → before ≡ find pair_cmp pair es → (n : ℕ) → n ≡ length (unwrap_or before []) → IsKept ds (rules - n)
   kept_without pair ds e before b n len =

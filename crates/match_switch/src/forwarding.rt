@@ -11,6 +11,7 @@ use cube::has;
 use events::{Frame, Frames};
 use ip_frame::{headers, rewrite};
 use net_types::{Action, Headers, Items, Mac, Memory, Pair, PortInfo, PortNo, Rule, Tag};
+use registry::Registry;
 use std::alloc::Global;
 
 impl Switch {
@@ -44,6 +45,19 @@ impl Switch {
             push_frames(alloc, ports, frame, &fields, actions, &mut frames)?;
         }
         Ok(Items::from_vec(ascending(frames)))
+    }
+
+    /// The frames that leave where a frame comes in at a port, as `forward` says, with the ports that are declared.
+    pub fn forward_by(
+        &self,
+        alloc: Global,
+        names: &Registry,
+        port: PortNo,
+        frame: &[u8],
+    ) -> Result<Frames, Memory>
+        ensures { IfOk result (λ frames. frames ≡ out names.now.ports frame.now (first_match self.now.table port frame.now)) }
+    {
+        self.forward(alloc, names.ports(), port, frame)
     }
 
     /// What is done with a frame that has these headers.

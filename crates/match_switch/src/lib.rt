@@ -1,10 +1,13 @@
 //! The table of the switch: rules by port and tag, and what they make of a frame.
 #![tactic(auto)]
 
+mod blocks;
+mod fault;
 mod forwarding;
 mod iter;
 mod leaving;
 mod switch;
 
+pub use fault::PutFault;
 pub use iter::Iter;
 pub use switch::Switch;

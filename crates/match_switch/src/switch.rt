@@ -4,7 +4,7 @@ ghost use Rattle.std.specs.Prelude.{◌≡◌, ◌≤◌, ◌<◌, ◌+◌, ◌+
 ghost use Rattle.std.specs.FinMap as map;
 ghost use Rattle.net_types.specs.Sets.{union_over};
 ghost use Rattle.events.specs.Fits.{flows_of};
-ghost use Rattle.match_switch.specs.Installed.{rule_count};
+ghost use Rattle.block_build.specs.Installed.{count_at, rule_count};
 
 use crate::iter::Iter;
 use events::{Flow, Flows};
@@ -17,10 +17,10 @@ use std::marker::Model;
 /// how many new pairs go in without memory, and the capacity.
 #[derive(Drop)]
 pub struct Switch {
-    entries: Vec<(Pair, Items<Rule>)>,
+    pub(crate) entries: Vec<(Pair, Items<Rule>)>,
     /// How many rules there are.
     rules: usize,
-    capacity: u32,
+    pub(crate) capacity: u32,
 }
 
 impl Model for Switch {
@@ -28,7 +28,8 @@ impl Model for Switch {
     ghost use Rattle.std.specs.Vec.{vec_len, vec_capacity};
     ghost use Rattle.std.specs.Coded.{codes};
     ghost use Rattle.std.specs.FinMap as map;
-    ghost use Rattle.match_switch.specs.Installed.{Installed, IsKept};
+    ghost use Rattle.block_build.specs.Installed.{Installed};
+    ghost use Rattle.match_switch.specs.Installed.{IsKept};
 
     ghost Value = { Installed };
 
@@ -104,9 +105,32 @@ impl Switch {
         ensures room { self.old.room ≤ self.new.room + (if is_some (map.get self.old.table pair) then 0 else 1) }
         ensures count { rule_count self.new.table + length (unwrap_or (map.get self.old.table pair) []) ≡ rule_count self.old.table + length rules }
     {
+        self.set(pair, rules);
+    }
+
+    /// The rules of a pair become these, and there are not too many to count.
+    pub(crate) fn set(&mut self, pair: Pair, rules: Items<Rule>)
+        requires room { map.get self.old.table pair ≡ None → 0 < self.old.room }
+        requires few { rule_count self.old.table + length rules < 2 ^ 64 + count_at self.old.table pair }
+        ensures table { self.new.table ≡ map.insert self.old.table pair rules }
+        ensures capacity { self.new.capacity ≡ self.old.capacity }
+        ensures room { self.old.room ≤ self.new.room + (if is_some (map.get self.old.table pair) then 0 else 1) }
+        ensures count { rule_count self.new.table + count_at self.old.table pair ≡ rule_count self.old.table + length rules }
+    {
         let added = rules.len();
         let before = put_reserved(&mut self.entries, pair, rules);
-        self.rules = self.rules + added - count(before);
+        self.rules = self.rules - count(before) + added;
+    }
+
+    /// How many rules a pair has.
+    pub(crate) fn count_of(&self, pair: Pair) -> usize
+        ensures count { result ≡ count_at self.now.table pair }
+        ensures within { result ≤ rule_count self.now.table }
+    {
+        match value_at(&self.entries, &pair) {
+            None => 0,
+            Some(rules) => rules.len(),
+        }
     }
 
     /// The rules of a pair go. There is room for no fewer new pairs than before.

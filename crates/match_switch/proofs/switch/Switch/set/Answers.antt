@@ -1,8 +1,8 @@
 -- The pair's rules are put into its place among the entries.
 use Rattle.std.proofs.Common.{ap, arith, sym, ◌∙◌}
 use Rattle.std.specs.Prelude.{is_some}
-use Rattle.match_switch.proofs.TableLemmas.{get_is, count_is, room_is, table_put, few_before, kept_put, count_put, room_put}
-use Rattle.match_switch.proofs.switch.Switch.put.Goals as goal
+use Rattle.match_switch.proofs.TableLemmas.{get_is, count_is, count_found, room_is, table_put, few_before, kept_put, count_put, room_put}
+use Rattle.match_switch.proofs.switch.Switch.set.Goals as goal
 
 pub put_reserved-before-requires-clause-room : goal.put_reserved-before-requires-clause-room
 put_reserved-before-requires-clause-room c = λ none.
@@ -13,7 +13,10 @@ put_reserved-before-requires-clause-room c = λ none.
 pub overflow_add-self : goal.overflow_add-self
 overflow_add-self c =
     let all = count_is c.self.inside.entries.items c.self.inside.rules _ c.self.inside.capacity c.self.invariant c.args.self.now c.self.view_is in
-    omega (arith, all, c.requires.few, c.len-added.ensures)
+    let before = c.put_reserved-before.result in
+    let found = count_found c.self.inside.entries.items c.self.inside.rules _ c.self.inside.capacity c.self.invariant c.args.self.now c.self.view_is c.args.pair before c.put_reserved-before.ensures.value c.count.result c.count.ensures in
+    let few = few_before c.self.inside.entries.items c.self.inside.rules _ c.self.inside.capacity c.self.invariant c.args.self.now c.self.view_is c.args.pair before c.put_reserved-before.ensures.value c.count.result c.count.ensures in
+    omega (arith, all, found, few, c.requires.few, c.len-added.ensures)
 
 pub overflow_sub-self : goal.overflow_sub-self
 overflow_sub-self c =

@@ -1,0 +1,82 @@
+//! The classifiers of all participants.
+
+ghost use Rattle.std.specs.Prelude.{◌≡◌, ◌<◌, ◌++◌, ◌∷◌, [], length, map, IsTrue, IfOk, OnOk, OnErr};
+ghost use Rattle.classifier.specs.Classifiers.{lines_of};
+ghost use Rattle.net_types.specs.Sets.{Member};
+ghost use Rattle.block_build.specs.Lent.{inbound_at, outbound_at};
+ghost use Rattle.block_build.specs.Views.{has_all, inbound_of};
+
+use crate::view::View;
+use classifier::Classifier;
+use net_types::{Memory, Offer, Part, Pid};
+use std::alloc::Global;
+use std::marker::Model;
+
+/// The two classifiers of a participant.
+#[derive(Drop)]
+pub struct Both<'p> {
+    outbound: &'p Classifier,
+    inbound: &'p Classifier,
+}
+
+/// The classifiers of all participants, in order of declaration, borrowed. Contracts see the rules of each.
+#[derive(Drop)]
+pub struct Views<'p> {
+    all: Vec<Both<'p>>,
+}
+
+impl<'p> Model for Views<'p> {
+    ghost use Rattle.std.specs.Prelude.{List, map};
+    ghost use Rattle.block_build.specs.Lent.{Lent, lent};
+
+    ghost Value = { List Lent };
+
+    ghost view = { λ v. map lent v.all.items };
+}
+
+impl<'p> Views<'p> {
+    /// The classifiers of nobody.
+    pub fn new(alloc: Global) -> Views<'p>
+        ensures { result ≡ [] }
+    {
+        Views {
+            all: Vec::new(alloc),
+        }
+    }
+
+    /// Adds the classifiers of the participant that was declared next. After want of memory all is unchanged.
+    pub fn push(&mut self, outbound: &'p Classifier, inbound: &'p Classifier) -> Result<(), Memory>
+        ensures ok { OnOk result (self.new ≡ self.old ++ (record { outbound = lines_of outbound.now; inbound = lines_of inbound.now }) ∷ []) }
+        ensures err { OnErr result (self.new ≡ self.old) }
+    {
+        self.all.push(Both { outbound, inbound })?;
+        Ok(())
+    }
+
+    /// The view that a part's rules are built from: the outbound classifier of its sender and the inbound ones of the
+    /// participants in its offers. Memory is the only refusal.
+    pub fn view(&self, alloc: Global, part: &Part) -> Result<View<'p>, Memory>
+        requires sender { part.now.sender.0 < length self.now }
+        requires exporters { (offer : Offer) → Member offer part.now.offers → offer.exporter.0 < length self.now }
+        ensures outbound { IfOk result (λ view. view.outbound ≡ outbound_at self.now part.now.sender) }
+        ensures inbound { IfOk result (λ view. view.inbound ≡ map (λ offer. (offer.exporter, inbound_at self.now offer.exporter)) part.now.offers) }
+        ensures has_all { IfOk result (λ view. IsTrue (has_all view part.now.offers)) }
+        ensures receivers { IfOk result (λ view. (offer : Offer) → Member offer part.now.offers → inbound_of view offer.exporter ≡ inbound_at self.now offer.exporter) }
+    {
+        let mut view = View::new(alloc, self.both(part.sender).outbound);
+        for offer in part.offers.items() {
+            let who = offer.exporter;
+            view.add(who, self.both(who).inbound)?;
+        }
+        Ok(view)
+    }
+
+    /// The classifiers of a participant.
+    fn both(&self, who: Pid) -> &Both<'p>
+        requires { who.0 < length self.now }
+        ensures outbound { lines_of result.now.outbound.now ≡ outbound_at self.now who }
+        ensures inbound { lines_of result.now.inbound.now ≡ inbound_at self.now who }
+    {
+        &self.all[who.0 as usize]
+    }
+}
