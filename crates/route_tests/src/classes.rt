@@ -25,16 +25,6 @@ fn give(
     Ok(true)
 }
 
-// Keeps a tag that isn't kept.
-fn keep(classes: &mut ClassMap, alloc: Global, tag: Tag) -> Result<bool, Memory> {
-    if classes.sig_of(tag).is_some() {
-        return Ok(false);
-    }
-    classes.reserve(0, 1)?;
-    classes.keep(tag, Sig::new(alloc));
-    Ok(true)
-}
-
 // Forgets a tag, where it has no members.
 fn forget(classes: &mut ClassMap, tag: Tag) -> bool {
     if classes.members(tag) > 0 {
@@ -42,16 +32,6 @@ fn forget(classes: &mut ClassMap, tag: Tag) -> bool {
     }
     classes.forget(tag);
     true
-}
-
-// Gives a prefix a tag, where the tag is kept.
-fn put(classes: &mut ClassMap, prefix: Prefix, tag: Tag) -> Result<bool, Memory> {
-    if classes.sig_of(tag).is_none() {
-        return Ok(false);
-    }
-    classes.reserve(1, 0)?;
-    classes.put(prefix, tag);
-    Ok(true)
 }
 
 #[test]
@@ -65,27 +45,34 @@ fn members_are_counted(rt: HostRuntime) -> Result<(), Fail> {
         assert!(rt; classes.members(Tag(tag)) == members);
     }
     assert!(rt; classes.tag_of(eleven) == Some(Tag(1)));
-    assert!(rt; put(&mut classes, eleven, Tag(2))?);
-    assert!(rt; !put(&mut classes, eleven, Tag(3))?);
+    assert!(rt; give(&mut classes, rt.alloc(), Tag(3), &[eleven])?);
     assert!(rt; classes.members(Tag(1)) == 1);
     assert!(rt; !forget(&mut classes, Tag(1)));
     classes.drop_prefix(twelve);
     classes.drop_prefix(twelve);
     assert!(rt; classes.tag_of(twelve) == None);
-    assert!(rt; classes.tagged() == 2);
+    assert!(rt; classes.tagged() == 3);
     assert!(rt; forget(&mut classes, Tag(1)));
-    assert!(rt; classes.tagged() == 1);
+    assert!(rt; classes.tagged() == 2);
     assert!(rt; classes.sig_of(Tag(1)).is_none() && classes.sig_of(Tag(2)).is_some());
-    assert!(rt; classes.members(Tag(2)) == 2);
+    assert!(rt; classes.members(Tag(3)) == 1);
     Ok(())
 }
 
 #[test]
-fn a_tag_is_kept_before_it_has_members(rt: HostRuntime) -> Result<(), Fail> {
+fn the_next_tag_has_members(rt: HostRuntime) -> Result<(), Fail> {
     let mut classes = ClassMap::new(rt.alloc());
-    assert!(rt; keep(&mut classes, rt.alloc(), Tag(7))?);
-    assert!(rt; !keep(&mut classes, rt.alloc(), Tag(7))?);
-    assert!(rt; classes.sig_of(Tag(7)).is_some());
-    assert!(rt; classes.members(Tag(7)) == 0);
+    let (ten, eleven) = (prefix(10)?, prefix(11)?);
+    assert!(rt; give(&mut classes, rt.alloc(), Tag(5), &[ten])?);
+    assert!(rt; give(&mut classes, rt.alloc(), Tag(2), &[eleven])?);
+    assert!(rt; give(&mut classes, rt.alloc(), Tag(3), &[])?);
+    for (after, next) in [
+        (None, Some(2)),
+        (Some(1), Some(2)),
+        (Some(2), Some(5)),
+        (Some(5), None),
+    ] {
+        assert!(rt; classes.next_tag(after.map(Tag)) == next.map(Tag));
+    }
     Ok(())
 }
