@@ -1,5 +1,5 @@
 -- A plan can be committed, and what is committed is the state afterwards.
-use Rattle.std.proofs.Common.{true, ◌≡◌, ◌+◌, ◌^◌, ◌≤◌, ◌<◌, ◌||◌, false, List, [], ◌∷◌, length, sym, ap, subst, ◌∙◌, refl, arith}
+use Rattle.std.proofs.Common.{true, ◌≡◌, ◌+◌, ◌^◌, ◌≤◌, ◌<◌, ◌||◌, false, List, [], ◌∷◌, length, map, sym, ap, subst, ◌∙◌, refl, arith}
 use Rattle.std.specs.Prelude.{is_none}
 use Rattle.std.specs.FinMap.{get, keys}
 use Rattle.std.proofs.lemmas.List.{length-map}
@@ -20,14 +20,16 @@ use Rattle.exchange_laws.specs.Steady.{IsSteady}
 use Rattle.net_types.specs.Exports.{Routing}
 use Rattle.fast_path.proofs.CommittedFresh.{tags_kept}
 use Rattle.fast_path.proofs.CommittedMaps.{filter-le}
+use Rattle.fast_path.proofs.CommittedMembers.{signed_back}
 use Rattle.fast_path.proofs.CommittedPool.{dead_in_turn, fresh_in_turn, pool_with_rules}
 use Rattle.fast_path.proofs.CommittedReplies.{drops_are, plan_accepted, rules_then_counted}
 use Rattle.fast_path.proofs.CommittedSignatures.{kept_then}
-use Rattle.fast_path.proofs.CommittedSteps.{changes_kept, dead_unused, fresh_unkept}
+use Rattle.fast_path.proofs.CommittedSteps.{changes_fresh, dead_unused, fresh_unkept}
 use Rattle.fast_path.proofs.CommittedTable.{table_then}
-use Rattle.fast_path.proofs.CommittedTags.{tags_then}
+use Rattle.fast_path.proofs.CommittedTags.{changes_rise, tags_then}
 use Rattle.prefix_classes.specs.Classes.{Classes}
-use Rattle.fast_path.specs.Committing.{Block, AreFree, AreTaken, AreUnkept, AreUnused, CanCommit, HaveKept, HaveOneRule, kept_with, kept_without, marked_all, tags_of, tags_with, with_blocks}
+use Rattle.prefix_classes.specs.Laws.{AreRising}
+use Rattle.fast_path.specs.Committing.{Block, AreFree, AreTaken, AreUnkept, AreUnused, CanCommit, HaveOneRule, HaveTags, change_of, classes_of, kept_with, kept_without, marked_all, signed, tags_of, tags_with, with_blocks}
 use Rattle.next_hop_pool.specs.Free.{Tags}
 use Rattle.match_switch.specs.Installed.{Installed}
 use Rattle.fast_path.specs.LiveOnly.{group_tags}
@@ -51,9 +53,13 @@ module _ (s : State) (r : Routing) (plan : Plan) (steady : IsSteady s) (alike : 
   pub change : IsChange s r
   change = record { sound = steady.sound; pooled = steady.pooled; owners = steady.owners; alike = alike; enough = is.enough }
 
-  -- the plan's fresh tags are the state's
-  plan_tags : tags_of plan.fresh.items ≡ group_tags s r
-  plan_tags = ap tags_of is.fresh ∙ tags_kept s r is.enough
+  -- the plan's fresh tags have the signatures that the state keeps
+  plan_signed : signed plan.fresh.items ≡ group_kept s r
+  plan_signed = ap signed is.fresh ∙ signed_back plan.tags (group_kept s r)
+
+  -- and are the state's
+  plan_tags : tags_of (signed plan.fresh.items) ≡ group_tags s r
+  plan_tags = ap tags_of plan_signed ∙ tags_kept s r is.enough
 
   -- ---- what is committed
 
@@ -62,11 +68,11 @@ module _ (s : State) (r : Routing) (plan : Plan) (steady : IsSteady s) (alike : 
   tags_committed = ap (tags_with s.tag) is.tags ∙ tags_then s.tag s1.tag
 
   -- so are the signatures
-  pub kept_committed : kept_without (kept_with s.kept plan.fresh.items) plan.dead.items ≡ s2.kept
-  kept_committed = ap (λ fs. kept_without (kept_with s.kept fs) plan.dead.items) is.fresh ∙ kept_then s r steady.pooled steady.kept plan.dead.items is.dead
+  pub kept_committed : kept_without (kept_with s.kept (signed plan.fresh.items)) plan.dead.items ≡ s2.kept
+  kept_committed = ap (λ fs. kept_without (kept_with s.kept fs) plan.dead.items) plan_signed ∙ kept_then s r steady.pooled steady.kept plan.dead.items is.dead
 
   -- the pool
-  pub pool_committed : (p : Tags) → IsPoolOf s p → IsPoolOf s2 (marked_all (marked_all p (tags_of plan.fresh.items) true) plan.dead.items false)
+  pub pool_committed : (p : Tags) → IsPoolOf s p → IsPoolOf s2 (marked_all (marked_all p (tags_of (signed plan.fresh.items)) true) plan.dead.items false)
   pool_committed p pool = subst (λ ts. IsPoolOf s2 (marked_all (marked_all p ts true) plan.dead.items false)) (sym plan_tags) (pool_with_rules s r steady.pooled p pool plan.dead.items is.dead)
 
   -- and the table
@@ -104,10 +110,11 @@ module _ (s : State) (r : Routing) (plan : Plan) (steady : IsSteady s) (alike : 
   pub can_commit : (classes : Classes) (pool : Tags) (switch : Installed) → s.tag ≡ classes.tag → s.kept ≡ classes.kept → IsPoolOf s pool → s.table ≡ switch.table
       → length plan.tags ≤ classes.prefixes → length plan.fresh.items ≤ classes.tags → length plan.blocks.items ≤ switch.room → CanCommit plan classes pool switch
   can_commit classes pool switch tag kept same_pool table prefixes_room tags_room pairs_room = record {
-    unkept = subst (λ m. AreUnkept m plan.fresh.items) kept (subst (AreUnkept s.kept) (sym is.fresh) (fresh_unkept s r steady.kept));
+    unkept = subst (λ m. AreUnkept m (signed plan.fresh.items)) kept (subst (AreUnkept s.kept) (sym plan_signed) (fresh_unkept s r steady.kept));
     tags_room = tags_room;
-    kept = subst (λ m. HaveKept (kept_with m plan.fresh.items) plan.tags) kept
-        (subst (λ fs. HaveKept (kept_with s.kept fs) plan.tags) (sym is.fresh) (subst (HaveKept (kept_with s.kept (group_kept s r))) (sym is.tags) (changes_kept s r steady.pooled)));
+    rising = subst (λ cs. AreRising (map change_of cs)) (sym is.tags) (changes_rise s.tag s1.tag);
+    fresh = subst (λ ts. HaveTags ts plan.tags) (sym plan_tags) (subst (HaveTags (group_tags s r)) (sym is.tags) (changes_fresh s r));
+    members = is.fresh ∙ sym (ap (classes_of plan.tags) plan_signed);
     prefixes_room = prefixes_room;
     unused = subst (λ m. AreUnused (tags_with m plan.tags) plan.dead.items) tag
         (subst (λ cs. AreUnused (tags_with s.tag cs) plan.dead.items) (sym is.tags) (dead_unused s r plan.dead.items is.dead));

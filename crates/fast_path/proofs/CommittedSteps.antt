@@ -1,5 +1,5 @@
 -- What each step of committing requires holds of a plan.
-use Rattle.std.proofs.Common.{◌≡◌, ◌<◌, true, cond, List, [], ◌∷◌, sym, ap, subst, ◌∙◌, refl, arith, inl, inr}
+use Rattle.std.proofs.Common.{◌≡◌, ◌<◌, ◌⊎◌, not, true, cond, List, [], ◌∷◌, sym, ap, subst, ◌∙◌, refl, arith, inl, inr}
 use Rattle.std.specs.Prelude.{Option, Some, None, is_some, IfSome}
 use Rattle.std.specs.FinMap.{FinMap, get, get-insert, insert}
 use Rattle.std.specs.Ordering.{eq_by_cmp}
@@ -8,8 +8,9 @@ use Rattle.events.specs.Fits.{tag_changes}
 use Rattle.events.specs.State.{State}
 use Rattle.events.specs.Tags.{retagged}
 use Rattle.exchange_laws.proofs.Lists.{clash}
-use Rattle.exchange_laws.proofs.TagsAfter.{live_of, signatures_are_kept}
-use Rattle.exchange_laws.specs.Retagging.{KeptAreLive, TagsArePooled}
+use Rattle.exchange_laws.proofs.Sames.{tags_test}
+use Rattle.exchange_laws.proofs.TagsAfter.{live_of}
+use Rattle.exchange_laws.specs.Retagging.{KeptAreLive}
 use Rattle.net_types.proofs.OrderLemmas.{tags_total}
 use Rattle.net_types.proofs.TieLemmas.{same_from_tie, tag_cmp-IsAntisymmetric}
 use Rattle.net_types.specs.Exports.{Routing}
@@ -17,11 +18,11 @@ use Rattle.net_types.specs.Keys.{tag_cmp}
 use Rattle.net_types.specs.Sets.{IsRising, Member}
 use Rattle.net_types.specs.declared.address.Tag.{Tag}
 use Rattle.net_types.specs.declared.route.Part.{Part}
-use Rattle.fast_path.proofs.CommittedFresh.{group_tags_rise, listed_fresh, was_free}
-use Rattle.fast_path.proofs.CommittedSignatures.{live_kept, nothing}
-use Rattle.fast_path.proofs.CommittedTags.{each_made, tags_then}
+use Rattle.fast_path.proofs.CommittedFresh.{IsFresh, fresh_listed, group_tags_rise, listed_fresh, tag_from, was_free}
+use Rattle.fast_path.proofs.CommittedSignatures.{nothing}
+use Rattle.fast_path.proofs.CommittedTags.{IsMade, each_made, tags_then}
 use Rattle.prefix_classes.proofs.MemberLemmas.{no_members}
-use Rattle.fast_path.specs.Committing.{AreUnkept, AreUnused, HaveKept, kept_of, kept_with, tags_with}
+use Rattle.fast_path.specs.Committing.{AreUnkept, AreUnused, HaveTags, kept_of, tags_with}
 use Rattle.prefix_classes.specs.Classes.{members}
 use Rattle.fast_path.specs.Planned.{group_kept, is_tag_below}
 use Rattle.fast_path.specs.LiveOnly.{AreDead, group_signatures, group_tags}
@@ -50,15 +51,23 @@ module _ (s : State) (r : Routing) where
   fresh_unkept kept = unkept_in_turn s.kept (group_tags s r) (group_signatures s r) (group_tags_rise s r) (λ t m.
       nothing (get s.kept t) (λ there. clash (kept t there) (was_free s r t (listed_fresh s r t m)).unused))
 
-  -- once they are, each new tag is
-  pub changes_kept : TagsArePooled s → HaveKept (kept_with s.kept (group_kept s r)) (tag_changes s.tag s1.tag)
-  changes_kept pooled c m = by c.tag refl
+  -- each new tag is one of them
+  pub changes_fresh : HaveTags (group_tags s r) (tag_changes s.tag s1.tag)
+  changes_fresh c m = by c.tag refl
     where
-      by : (o : Option Tag) → c.tag ≡ o → IfSome o (λ t. is_some (get (kept_with s.kept (group_kept s r)) t) ≡ true)
+      by : (o : Option Tag) → c.tag ≡ o → IfSome o (λ t. Member t (group_tags s r))
       by None is = tt
-      by (Some t) is =
-          let tagged : get s1.tag c.prefix ≡ Some t = sym (each_made s.tag s1.tag c m).tagged ∙ is in
-          ap is_some (live_kept s r pooled t (live_of s1 c.prefix t tagged) ∙ signatures_are_kept s r pooled c.prefix t tagged)
+      by (Some t) is = from (tag_from s r c.prefix t tagged)
+        where
+          made : IsMade s.tag s1.tag c
+          made = each_made s.tag s1.tag c m
+
+          tagged : get s1.tag c.prefix ≡ Some t
+          tagged = sym made.tagged ∙ is
+
+          from : IsFresh s r t ⊎ (get s.tag c.prefix ≡ Some t) → Member t (group_tags s r)
+          from (inl fresh) = fresh_listed s r t fresh
+          from (inr before) = absurd (clash made.differs (ap not ((tags_test (get s.tag c.prefix) (get s1.tag c.prefix)).1 (before ∙ sym tagged))))
 
   -- with the changes made no prefix has a dead tag
   pub dead_unused : (dead : List Tag) → AreDead s s1 dead → AreUnused (tags_with s.tag (tag_changes s.tag s1.tag)) dead

@@ -11,7 +11,8 @@ use Rattle.events.specs.Tags.{Group, same_group, same_tag}
 use Rattle.net_types.specs.declared.address.Tag.{Tag}
 use Rattle.net_types.specs.declared.prefix.Prefix.{Prefix}
 use Rattle.net_types.specs.declared.route.Part.{Part}
-use Rattle.fast_path.specs.Committing.{Kept, kept_of}
+use Rattle.fast_path.specs.Committing.{Kept, class_of, classes_of, kept_of}
+use Rattle.fast_path.specs.declared.planned.Class.{Class}
 use Rattle.fast_path.specs.Grouping.{Known, group_at, group_before, group_of_class, groups_of, is_moved, more_groups, moved_groups, one_more, same_class, change_before, changes_of, tag_after}
 use Rattle.fast_path.specs.declared.forward.Fresh.{Fresh}
 
@@ -116,14 +117,14 @@ none_kept : (ts : List Tag) → kept_of ts [] ≡ []
 none_kept [] = refl
 none_kept (t ∷ ts) = refl
 
--- the next tag, with the signature of the group at its place
-pub kept_step : (fs : List Fresh) (ts : List Tag) (at : ℕ) (t : Tag) (f : Fresh) (ks : List Kept) → slice_get ts at ≡ Some t → slice_get fs at ≡ Some f
-    → ks ++ kept_of (drop at ts) (drop at (map (λ (x : Fresh). x.sig) fs)) ≡ (ks ++ (t, f.sig) ∷ []) ++ kept_of (drop (at + 1) ts) (drop (at + 1) (map (λ (x : Fresh). x.sig) fs))
-kept_step fs ts at t f ks here there =
-    ap (λ xs. ks ++ kept_of xs (drop at (map (λ (x : Fresh). x.sig) fs))) (drop_at ts at t here)
-    ∙ ap (λ xs. ks ++ kept_of (t ∷ drop (at + 1) ts) xs) (drop_at (map (λ (x : Fresh). x.sig) fs) at f.sig (get_mapped fs at f there))
-    ∙ sym (append_assoc ks ((t, f.sig) ∷ []) (kept_of (drop (at + 1) ts) (drop (at + 1) (map (λ (x : Fresh). x.sig) fs))))
+-- the next tag, with the signature of the group at its place, and its members
+pub class_step : (changes : List TagChange) (fs : List Fresh) (ts : List Tag) (at : ℕ) (t : Tag) (f : Fresh) (cs : List Class) → slice_get ts at ≡ Some t → slice_get fs at ≡ Some f
+    → cs ++ classes_of changes (kept_of (drop at ts) (drop at (map (λ (x : Fresh). x.sig) fs))) ≡ (cs ++ class_of changes (t, f.sig) ∷ []) ++ classes_of changes (kept_of (drop (at + 1) ts) (drop (at + 1) (map (λ (x : Fresh). x.sig) fs)))
+class_step changes fs ts at t f cs here there =
+    ap (λ xs. cs ++ classes_of changes (kept_of xs (drop at (map (λ (x : Fresh). x.sig) fs)))) (drop_at ts at t here)
+    ∙ ap (λ xs. cs ++ classes_of changes (kept_of (t ∷ drop (at + 1) ts) xs)) (drop_at (map (λ (x : Fresh). x.sig) fs) at f.sig (get_mapped fs at f there))
+    ∙ sym (append_assoc cs (class_of changes (t, f.sig) ∷ []) (classes_of changes (kept_of (drop (at + 1) ts) (drop (at + 1) (map (λ (x : Fresh). x.sig) fs)))))
 
 -- no more where there is no group
-pub kept_end : (fs : List Fresh) (ts : List Tag) (at : ℕ) (ks : List Kept) → nat_lt at (length fs) ≡ false → ks ≡ ks ++ kept_of (drop at ts) (drop at (map (λ (x : Fresh). x.sig) fs))
-kept_end fs ts at ks none = sym (ap (λ xs. ks ++ kept_of (drop at ts) xs) (past_all fs at (not_within at (length fs) none)) ∙ ap (λ xs. ks ++ xs) (none_kept (drop at ts)) ∙ append-nil ks)
+pub class_end : (changes : List TagChange) (fs : List Fresh) (ts : List Tag) (at : ℕ) (cs : List Class) → nat_lt at (length fs) ≡ false → cs ≡ cs ++ classes_of changes (kept_of (drop at ts) (drop at (map (λ (x : Fresh). x.sig) fs)))
+class_end changes fs ts at cs none = sym (ap (λ xs. cs ++ classes_of changes (kept_of (drop at ts) xs)) (past_all fs at (not_within at (length fs) none)) ∙ ap (λ xs. cs ++ classes_of changes xs) (none_kept (drop at ts)) ∙ append-nil cs)

@@ -17,6 +17,7 @@ pub mod TagsPlanned
 pub mod CommitLemmas
 pub mod CommittedFresh
 pub mod CommittedMaps
+pub mod CommittedMembers
 pub mod CommittedSignatures
 pub mod CommittedTags
 pub mod CommittedPool

@@ -42,7 +42,7 @@ use Rattle.next_hop_pool.specs.Free.{Tags, free_tags}
 use Rattle.prefix_classes.specs.Classes.{Classes}
 use Rattle.registry.specs.Registered.{Registered}
 use Rattle.route_server.specs.Proposed.{Proposed}
-use Rattle.fast_path.specs.Committing.{kept_of}
+use Rattle.fast_path.specs.Committing.{classes_of, kept_of}
 use Rattle.fast_path.specs.Grouping.{changes_of, groups_of, known, more_groups, moved_groups}
 use Rattle.fast_path.specs.Planned.{AreNewFlows, is_tag_below}
 use Rattle.fast_path.specs.Plans.{IsAsked, IsDraft, IsFault, IsPlan, too_many}
@@ -213,7 +213,7 @@ module _ (s : State) (r : Routing) (names : Registered) (classes : Classes) (poo
             gone = subst (AreLiveOnly s s1) (sym draft.drops) (gone_are room ts refl plan.tags draft.tags es refl);
             new = subst (AreNewFlows s s1) (sym draft.adds) (new_are room ts refl plan.tags draft.tags es refl);
             blocks = draft.blocks;
-            fresh = draft.fresh ∙ ap (λ sigs. kept_of ts sigs) signatures_are ∙ ap (λ us. kept_of us (group_signatures s r)) (tags_are room ts refl);
+            fresh = draft.fresh ∙ ap (λ sigs. classes_of plan.tags (kept_of ts sigs)) signatures_are ∙ ap (λ us. classes_of plan.tags (kept_of us (group_signatures s r))) (tags_are room ts refl);
             dead = dead_are room ts refl plan.tags draft.tags es refl plan.dead.items draft.dead;
             rising = rising_dead room ts refl plan.tags draft.tags es refl plan.dead.items draft.dead (emptied_rise classes.tag plan.tags);
             enough = enough room ts refl;

@@ -14,7 +14,7 @@ use Rattle.match_switch.specs.Installed.{Installed}
 use Rattle.net_types.specs.Exports.{Routing}
 use Rattle.next_hop_pool.specs.Free.{Tags}
 use Rattle.prefix_classes.specs.Classes.{Classes}
-use Rattle.fast_path.specs.Committing.{CanCommit, kept_with, kept_without, marked_all, tags_of, tags_with, with_blocks}
+use Rattle.fast_path.specs.Committing.{CanCommit, kept_with, kept_without, marked_all, signed, tags_of, tags_with, with_blocks}
 use Rattle.fast_path.specs.Planned.{IsPoolOf}
 use Rattle.fast_path.specs.Plans.{IsPlan}
 use Rattle.fast_path.specs.declared.planned.Plan.{Plan}
@@ -41,8 +41,8 @@ pub record HasRoomFor (plan : Plan) (classes : Classes) (switch : Installed) : T
 -- what the plan makes of the parts is what a state has
 pub record LeadsTo (s : State) (plan : Plan) (classes : Classes) (p : Tags) (switch : Installed) : Type 0 where
   pub tag : tags_with classes.tag plan.tags ≡ s.tag
-  pub kept : kept_without (kept_with classes.kept plan.fresh.items) plan.dead.items ≡ s.kept
-  pub pool : IsPoolOf s (marked_all (marked_all p (tags_of plan.fresh.items) true) plan.dead.items false)
+  pub kept : kept_without (kept_with classes.kept (signed plan.fresh.items)) plan.dead.items ≡ s.kept
+  pub pool : IsPoolOf s (marked_all (marked_all p (tags_of (signed plan.fresh.items)) true) plan.dead.items false)
   pub table : with_blocks (without_pairs switch.table plan.drops) plan.blocks.items ≡ s.table
 
 -- the reply that says what the plan says

@@ -1,6 +1,7 @@
 -- What committing a plan does to the classes, the pool and the table.
-use Rattle.std.specs.Prelude.{◌≡◌, ◌≤◌, ◌<◌, ◌+◌, ◌^◌, Bool, true, false, List, [], ◌∷◌, length, map, Option, None, is_some, IfSome, IsTrue}
+use Rattle.std.specs.Prelude.{◌≡◌, ℕ, ◌≤◌, ◌<◌, ◌+◌, ◌^◌, Bool, true, false, List, [], ◌∷◌, length, map, Option, Some, None, is_some, IfSome, if◌then◌else◌}
 use Rattle.std.specs.FinMap.{FinMap, get, insert, remove}
+use Rattle.net_types.specs.Attributes.{same_option}
 use Rattle.net_types.specs.Keys.{pair_cmp, prefix_cmp, tag_cmp}
 use Rattle.net_types.specs.Sets.{Member}
 use Rattle.net_types.specs.declared.address.Tag.{Tag}
@@ -8,11 +9,13 @@ use Rattle.net_types.specs.declared.prefix.Prefix.{Prefix}
 use Rattle.net_types.specs.declared.route.Part.{Part}
 use Rattle.net_types.specs.declared.rule.Pair.{Pair}
 use Rattle.net_types.specs.declared.rule.Rule.{Rule}
+use Rattle.events.specs.Tags.{same_tag}
 use Rattle.events.specs.declared.TagChange.{TagChange}
 use Rattle.next_hop_pool.specs.Free.{IsTag, Tags, is_taken, marked}
 use Rattle.match_switch.specs.Installed.{Installed, rule_count}
-use Rattle.prefix_classes.specs.Classes.{Classes, members}
-use Rattle.prefix_classes.specs.Laws.{changed}
+use Rattle.prefix_classes.specs.Classes.{Classes, given, members}
+use Rattle.prefix_classes.specs.Laws.{AreRising, changed}
+use Rattle.fast_path.specs.declared.planned.Class.{Class}
 use Rattle.fast_path.specs.declared.planned.Plan.{Plan}
 
 -- ---- signatures
@@ -26,6 +29,32 @@ abbrev pub kept_of : List Tag → List (List Part) → List Kept
 kept_of [] sigs = []
 kept_of (t ∷ ts) [] = []
 kept_of (t ∷ ts) (sig ∷ sigs) = (t, sig) ∷ kept_of ts sigs
+
+-- the change gives the tag
+abbrev pub gives : Tag → TagChange → Bool
+gives t c = same_option same_tag c.tag (Some t)
+
+-- the prefixes that changes give the tag
+abbrev pub members_of : List TagChange → Tag → List Prefix
+members_of [] t = []
+members_of (c ∷ cs) t = if gives t c then c.prefix ∷ members_of cs t else members_of cs t
+
+-- a fresh tag with its signature and the prefixes that get it
+abbrev pub class_of : List TagChange → Kept → Class
+class_of cs k = record { tag = k.0; sig = k.1; members = members_of cs k.0 }
+
+-- so it is for each of these
+abbrev pub classes_of : List TagChange → List Kept → List Class
+classes_of cs ks = map (class_of cs) ks
+
+-- the tags with the signatures alone
+abbrev pub signed : List Class → List Kept
+signed cs = map (λ (c : Class). let k : Kept = (c.tag, c.sig) in k) cs
+
+-- how many members there are in all
+abbrev pub member_count : List Class → ℕ
+member_count [] = 0
+member_count (c ∷ cs) = length c.members + member_count cs
 
 -- the tags of these
 abbrev pub tags_of : List Kept → List Tag
@@ -56,13 +85,23 @@ change_of c = (c.prefix, c.tag)
 abbrev pub tags_with : FinMap prefix_cmp Tag → List TagChange → FinMap prefix_cmp Tag
 tags_with m cs = changed m (map change_of cs)
 
--- each new tag is kept
-abbrev pub HasKept : FinMap tag_cmp (List Part) → TagChange → Type 0
-HasKept kept c = IfSome c.tag (λ t. IsTrue (is_some (get kept t)))
+-- the tags of the prefixes once each of the tags is given to its members
+abbrev pub given_all : FinMap prefix_cmp Tag → List Class → FinMap prefix_cmp Tag
+given_all m [] = m
+given_all m (c ∷ cs) = given_all (given c.tag c.members m) cs
 
--- so is that of each change
-abbrev pub HaveKept : FinMap tag_cmp (List Part) → List TagChange → Type 0
-HaveKept kept cs = (c : TagChange) → Member c cs → HasKept kept c
+-- the tags without that of a prefix that is to have none
+abbrev pub untagged_one : FinMap prefix_cmp Tag → TagChange → FinMap prefix_cmp Tag
+untagged_one m c = if is_some c.tag then m else remove m c.prefix
+
+-- the tags without those of prefixes that are to have none
+abbrev pub untagged : FinMap prefix_cmp Tag → List TagChange → FinMap prefix_cmp Tag
+untagged m [] = m
+untagged m (c ∷ cs) = untagged (untagged_one m c) cs
+
+-- each new tag is one of these
+abbrev pub HaveTags : List Tag → List TagChange → Type 0
+HaveTags ts cs = (c : TagChange) → Member c cs → IfSome c.tag (λ t. Member t ts)
 
 -- no prefix has one of the tags
 abbrev pub AreUnused : FinMap prefix_cmp Tag → List Tag → Type 0
@@ -101,16 +140,18 @@ abbrev pub HaveOneRule : List Block → Type 0
 HaveOneRule [] = Unit {0}
 HaveOneRule (b ∷ bs) = (length b.1 ≡ 1) × HaveOneRule bs
 
--- The plan can be committed: its fresh tags are free and not kept, each new tag will be kept, its dead tags will be taken and
--- no prefix's, and there is room for all that is put in.
+-- The plan can be committed: its fresh tags are free and not kept, each prefix whose tag becomes another is a member of the
+-- fresh tag that it gets, or gets none, its dead tags will be taken and no prefix's, and there is room for all that is put in.
 pub record CanCommit (plan : Plan) (classes : Classes) (pool : Tags) (switch : Installed) : Type 0 where
-  pub unkept : AreUnkept classes.kept plan.fresh.items
+  pub unkept : AreUnkept classes.kept (signed plan.fresh.items)
   pub tags_room : length plan.fresh.items ≤ classes.tags
-  pub kept : HaveKept (kept_with classes.kept plan.fresh.items) plan.tags
+  pub rising : AreRising (map change_of plan.tags)
+  pub fresh : HaveTags (tags_of (signed plan.fresh.items)) plan.tags
+  pub members : plan.fresh.items ≡ classes_of plan.tags (signed plan.fresh.items)
   pub prefixes_room : length plan.tags ≤ classes.prefixes
   pub unused : AreUnused (tags_with classes.tag plan.tags) plan.dead.items
-  pub free : AreFree pool (tags_of plan.fresh.items)
-  pub taken : AreTaken (marked_all pool (tags_of plan.fresh.items) true) plan.dead.items
+  pub free : AreFree pool (tags_of (signed plan.fresh.items))
+  pub taken : AreTaken (marked_all pool (tags_of (signed plan.fresh.items)) true) plan.dead.items
   pub pairs_room : length plan.blocks.items ≤ switch.room
   pub one : HaveOneRule plan.blocks.items
   pub few : rule_count switch.table + length plan.blocks.items < 2 ^ 64

@@ -18,7 +18,7 @@ use Rattle.next_hop_pool.specs.Free.{Tags, free_tags}
 use Rattle.fast_path.specs.Emptied.{emptied}
 use Rattle.fast_path.specs.Pairs.{gone_pairs, new_flows, untold}
 use Rattle.fast_path.specs.declared.forward.Fresh.{Fresh}
-use Rattle.fast_path.specs.Committing.{kept_of}
+use Rattle.fast_path.specs.Committing.{classes_of, kept_of}
 use Rattle.fast_path.specs.Grouping.{changes_of, known}
 use Rattle.prefix_classes.specs.Classes.{Classes}
 use Rattle.registry.specs.Registered.{Registered}
@@ -46,20 +46,21 @@ pub record IsDraft (names : Registered) (classes : Classes) (pool : Tags) (was_t
   pub drops : plan.drops ≡ gone_pairs names classes.kept was_told (emptied classes.tag plan.tags)
   pub adds : plan.adds ≡ new_flows names (map (λ (f : Fresh). f.sig) fs) (take (length fs) (free_tags pool))
   pub blocks : plan.blocks.items ≡ blocks_of plan.adds
-  pub fresh : plan.fresh.items ≡ kept_of (take (length fs) (free_tags pool)) (map (λ (f : Fresh). f.sig) fs)
+  pub fresh : plan.fresh.items ≡ classes_of plan.tags (kept_of (take (length fs) (free_tags pool)) (map (λ (f : Fresh). f.sig) fs))
   pub dead : plan.dead.items ≡ untold was_told (emptied classes.tag plan.tags)
 
 -- the rules that there would be, where they are more than there is room for
 abbrev pub too_many : ℕ → ℕ → ℕ → ℕ → Option ℕ
 too_many rules capacity drops adds = if nat_le (rules + adds) (capacity + drops) then None else Some (min (rules + adds - drops) (2 ^ 64 - 1))
 
--- The plan has what becomes of tags and rules, the fresh tags with their signatures, and the tags that are live no more.
+-- The plan has what becomes of tags and rules, the fresh tags with their signatures and members, and the tags that are live
+-- no more.
 pub record IsPlan (s : State) (r : Routing) (plan : Plan) : Type 0 where
   pub tags : plan.tags ≡ tag_changes s.tag (retagged s r).tag
   pub gone : AreLiveOnly s (retagged s r) plan.drops
   pub new : AreNewFlows s (retagged s r) plan.adds
   pub blocks : plan.blocks.items ≡ blocks_of plan.adds
-  pub fresh : plan.fresh.items ≡ group_kept s r
+  pub fresh : plan.fresh.items ≡ classes_of plan.tags (group_kept s r)
   pub dead : AreDead s (retagged s r) plan.dead.items
   pub rising : IsRising is_tag_below plan.dead.items
   pub enough : HasEnoughTags s r

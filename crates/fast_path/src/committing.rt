@@ -2,9 +2,9 @@
 
 ghost use Rattle.std.specs.Prelude.{◌≡◌, ◌≤◌, length, true, false, OnOk};
 ghost use Rattle.events.specs.After.{without_pairs};
-ghost use Rattle.fast_path.specs.Committing.{CanCommit, kept_with, kept_without, marked_all, tags_of, tags_with, with_blocks};
+ghost use Rattle.fast_path.specs.Committing.{CanCommit, kept_with, kept_without, marked_all, signed, tags_of, tags_with, with_blocks};
 
-use crate::parts::{forget_all, give_all, keep_all, put_all, remove_all, retag_all, take_all};
+use crate::parts::{forget_all, give_all, give_members, put_all, remove_all, take_all, untag_all};
 use crate::planned::{Changes, Plan};
 use match_switch::Switch;
 use net_types::Memory;
@@ -29,8 +29,8 @@ pub fn reserve(plan: &Plan, classes: &mut ClassMap, switch: &mut Switch) -> Resu
 pub fn commit(plan: Plan, classes: &mut ClassMap, pool: &mut Pool, switch: &mut Switch) -> Changes
     requires { CanCommit plan classes.old pool.old switch.old }
     ensures tag { classes.new.tag ≡ tags_with classes.old.tag plan.tags }
-    ensures kept { classes.new.kept ≡ kept_without (kept_with classes.old.kept plan.fresh.items) plan.dead.items }
-    ensures pool { pool.new ≡ marked_all (marked_all pool.old (tags_of plan.fresh.items) true) plan.dead.items false }
+    ensures kept { classes.new.kept ≡ kept_without (kept_with classes.old.kept (signed plan.fresh.items)) plan.dead.items }
+    ensures pool { pool.new ≡ marked_all (marked_all pool.old (tags_of (signed plan.fresh.items)) true) plan.dead.items false }
     ensures table { switch.new.table ≡ with_blocks (without_pairs switch.old.table plan.drops) plan.blocks.items }
     ensures capacity { switch.new.capacity ≡ switch.old.capacity }
     ensures changes { result ≡ record { tags = plan.tags; drops = plan.drops; adds = plan.adds } }
@@ -45,8 +45,8 @@ pub fn commit(plan: Plan, classes: &mut ClassMap, pool: &mut Pool, switch: &mut 
     } = plan;
     take_all(pool, &fresh);
     give_all(pool, &dead);
-    keep_all(classes, fresh);
-    retag_all(classes, tags.items());
+    give_members(classes, fresh);
+    untag_all(classes, tags.items());
     forget_all(classes, &dead);
     remove_all(switch, drops.items());
     put_all(switch, blocks);

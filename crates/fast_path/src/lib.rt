@@ -25,5 +25,5 @@ pub use pair_laws::{
 };
 pub use pairs::{gone_pairs, new_flows, push_pairs, untold};
 pub use parts::{forget_all, give_all, remove_all};
-pub use planned::{Changes, FastFault, Plan};
+pub use planned::{Changes, Class, FastFault, Plan};
 pub use planning::plan;

@@ -3,51 +3,47 @@
 ghost use Rattle.std.specs.Prelude.{◌≡◌, ◌≤◌, ◌<◌, ◌+◌, ◌^◌, length, true, false};
 ghost use Rattle.events.specs.After.{without_pairs};
 ghost use Rattle.match_switch.specs.Installed.{rule_count};
-ghost use Rattle.prefix_classes.specs.Laws.{with_change};
-ghost use Rattle.fast_path.specs.Committing.{AreFree, AreTaken, AreUnkept, AreUnused, HasKept, HaveKept, HaveOneRule, kept_with, kept_without, marked_all, tags_of, tags_with, with_blocks};
+ghost use Rattle.fast_path.specs.Committing.{AreFree, AreTaken, AreUnkept, AreUnused, HaveOneRule, given_all, kept_with, kept_without, marked_all, member_count, signed, tags_of, untagged, untagged_one, with_blocks};
 
+use crate::planned::Class;
 use events::TagChange;
 use match_switch::Switch;
-use net_types::{Items, Pair, Rule, Sig, Tag};
+use net_types::{Items, Pair, Rule, Tag};
 use next_hop_pool::Pool;
-use prefix_classes::ClassMap;
+use prefix_classes::{ClassMap, new_ones_are_few};
 
-/// Keeps the signatures of fresh tags.
-pub fn keep_all(classes: &mut ClassMap, fresh: Vec<(Tag, Sig)>)
-    requires new { AreUnkept classes.old.kept fresh.items }
-    requires room { length fresh.items ≤ classes.old.tags }
-    ensures tag { classes.new.tag ≡ classes.old.tag }
-    ensures kept { classes.new.kept ≡ kept_with classes.old.kept fresh.items }
-    ensures prefixes { classes.new.prefixes ≡ classes.old.prefixes }
+/// Keeps each fresh tag with its signature, and gives it to its members.
+pub fn give_members(classes: &mut ClassMap, fresh: Vec<Class>)
+    requires new { AreUnkept classes.old.kept (signed fresh.items) }
+    requires tags { length fresh.items ≤ classes.old.tags }
+    requires prefixes { member_count fresh.items ≤ classes.old.prefixes }
+    ensures tag { classes.new.tag ≡ given_all classes.old.tag fresh.items }
+    ensures kept { classes.new.kept ≡ kept_with classes.old.kept (signed fresh.items) }
 {
-    for kept in fresh {
-        classes.keep(kept.0, kept.1);
+    for class in fresh {
+        let Class { tag, sig, members } = class;
+        new_ones_are_few();
+        classes.give(tag, sig, members.items());
     }
 }
 
-/// Gives a prefix its new tag, or takes the one that it has.
-fn retag(classes: &mut ClassMap, change: &TagChange)
-    requires kept { HasKept classes.old.kept change.now }
-    requires room { 0 < classes.old.prefixes }
-    ensures tag { classes.new.tag ≡ with_change classes.old.tag change.now.prefix change.now.tag }
+/// Takes the tag of a prefix that is to have none.
+fn untag(classes: &mut ClassMap, change: &TagChange)
+    ensures tag { classes.new.tag ≡ untagged_one classes.old.tag change.now }
     ensures kept { classes.new.kept ≡ classes.old.kept }
-    ensures prefixes { classes.old.prefixes ≤ classes.new.prefixes + 1 }
 {
-    match change.tag {
-        Some(tag) => classes.put(change.prefix, tag),
-        None => classes.drop_prefix(change.prefix),
+    if change.tag.is_none() {
+        classes.drop_prefix(change.prefix);
     }
 }
 
-/// Gives prefixes their new tags.
-pub fn retag_all(classes: &mut ClassMap, changes: &[TagChange])
-    requires kept { HaveKept classes.old.kept changes.now }
-    requires room { length changes.now ≤ classes.old.prefixes }
-    ensures tag { classes.new.tag ≡ tags_with classes.old.tag changes.now }
+/// Takes the tags of prefixes that are to have none.
+pub fn untag_all(classes: &mut ClassMap, changes: &[TagChange])
+    ensures tag { classes.new.tag ≡ untagged classes.old.tag changes.now }
     ensures kept { classes.new.kept ≡ classes.old.kept }
 {
     for change in changes {
-        retag(classes, change);
+        untag(classes, change);
     }
 }
 
@@ -63,12 +59,12 @@ pub fn forget_all(classes: &mut ClassMap, dead: &[Tag])
 }
 
 /// Takes the fresh tags.
-pub fn take_all(pool: &mut Pool, fresh: &[(Tag, Sig)])
-    requires { AreFree pool.old (tags_of fresh.now) }
-    ensures { pool.new ≡ marked_all pool.old (tags_of fresh.now) true }
+pub fn take_all(pool: &mut Pool, fresh: &[Class])
+    requires { AreFree pool.old (tags_of (signed fresh.now)) }
+    ensures { pool.new ≡ marked_all pool.old (tags_of (signed fresh.now)) true }
 {
-    for kept in fresh {
-        pool.take(kept.0);
+    for class in fresh {
+        pool.take(class.tag);
     }
 }
 

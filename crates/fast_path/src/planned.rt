@@ -1,7 +1,7 @@
 //! What a change of routes does.
 
 use events::{Flows, TagChanges};
-use net_types::{Items, Pair, Pairs, Rule, Sig, Tag};
+use net_types::{Items, Pair, Pairs, Prefixes, Rule, Sig, Tag};
 
 /// What a change of routes does to tags and rules. It changes nothing until it is committed.
 #[derive(Drop)]
@@ -14,10 +14,18 @@ pub struct Plan {
     pub adds: Flows,
     /// The same rules, by pair.
     pub blocks: Vec<(Pair, Items<Rule>)>,
-    /// The fresh tags, with their signatures.
-    pub fresh: Vec<(Tag, Sig)>,
+    /// The fresh tags, with their signatures and the prefixes that get them.
+    pub fresh: Vec<Class>,
     /// The tags that are live no more.
     pub dead: Vec<Tag>,
+}
+
+/// A fresh tag, with its signature and the prefixes that get it.
+#[derive(Drop)]
+pub struct Class {
+    pub tag: Tag,
+    pub sig: Sig,
+    pub members: Prefixes,
 }
 
 /// What a reply says of a change of routes that was committed.

@@ -4,7 +4,7 @@
 ghost use Rattle.std.specs.Prelude.{◌≡◌, ◌≤◌, ◌<◌, ◌^◌, ◌∷◌, [], length, map, IfOk, IfNone, IfSome, MatchResult};
 ghost use Rattle.net_types.specs.Exports.{Routing};
 ghost use Rattle.events.specs.State.{State};
-ghost use Rattle.fast_path.specs.Committing.{kept_of};
+ghost use Rattle.fast_path.specs.Committing.{classes_of, kept_of, members_of};
 ghost use Rattle.fast_path.specs.Planned.{blocks_of};
 ghost use Rattle.fast_path.specs.Plans.{IsAsked, IsDraft, IsFault, IsPlan, too_many};
 ghost use Rattle.match_switch.specs.Installed.{rule_count};
@@ -13,30 +13,55 @@ ghost use Rattle.fast_path.specs.declared.forward.Fresh.{Fresh};
 
 use crate::emptied::emptied;
 use crate::forward::Fresh;
-use crate::grouping::groups;
+use crate::grouping::{groups, same_tags};
 use crate::pairs::{gone_pairs, new_flows, untold};
-use crate::planned::{FastFault, Plan};
+use crate::planned::{Class, FastFault, Plan};
 use crate::tagging::{fresh_tags, tag_changes};
 use advert_queue::Told;
-use events::{Flow, Flows, TagChanges};
+use events::{Flow, Flows, TagChange, TagChanges};
 use match_switch::Switch;
-use net_types::{Items, Memory, Pair, Pairs, Rule, Sig, Tag, TryCopy};
+use net_types::{Items, Memory, Pair, Pairs, Prefixes, Rule, Tag, TryCopy};
 use next_hop_pool::Pool;
 use prefix_classes::ClassMap;
 use registry::Registry;
 use route_server::Proposal;
 use std::alloc::Global;
 
-/// The fresh tags with the signatures of their groups.
-fn with_tags(alloc: Global, groups: &[Fresh], tags: &[Tag]) -> Result<Vec<(Tag, Sig)>, Memory>
-    ensures { IfOk result (λ fresh. fresh.items ≡ kept_of tags.now (map (λ (f : Fresh). f.sig) groups.now)) }
+/// The prefixes that get a tag.
+fn members_of(alloc: Global, changes: &[TagChange], tag: Tag) -> Result<Prefixes, Memory>
+    ensures { IfOk result (λ members. members ≡ members_of changes.now tag) }
+{
+    let mut members = Items::new(alloc);
+    for change in changes {
+        if same_tags(change.tag, Some(tag)) {
+            members.push(change.prefix)?;
+        }
+    }
+    Ok(members)
+}
+
+/// The fresh tags with the signatures of their groups and the prefixes that get them.
+fn with_tags(
+    alloc: Global,
+    groups: &[Fresh],
+    tags: &[Tag],
+    changes: &[TagChange],
+) -> Result<Vec<Class>, Memory>
+    ensures { IfOk result (λ fresh. fresh.items ≡ classes_of changes.now (kept_of tags.now (map (λ (f : Fresh). f.sig) groups.now))) }
 {
     let mut fresh = Vec::new(alloc);
     for (at, tag) in tags.iter().enumerate() {
         let Some(group) = groups.get(at) else {
             return Ok(fresh);
         };
-        fresh.push((*tag, group.sig.copy()?))?;
+        let sig = group.sig.copy()?;
+        let members = members_of(alloc, changes, *tag)?;
+        let class = Class {
+            tag: *tag,
+            sig,
+            members,
+        };
+        fresh.push(class)?;
     }
     Ok(fresh)
 }
@@ -80,7 +105,7 @@ fn drafted(
     let drops = gone_pairs(alloc, names, classes, told, &left)?;
     let adds = new_flows(alloc, names, groups, &given)?;
     let blocks = blocks_of(alloc, adds.items())?;
-    let fresh = with_tags(alloc, groups, &given)?;
+    let fresh = with_tags(alloc, groups, &given, tags.items())?;
     let dead = untold(alloc, told, &left)?;
     Ok(Plan {
         tags,

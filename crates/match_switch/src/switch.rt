@@ -109,11 +109,11 @@ impl Switch {
         self.rules = self.rules + added - count(before);
     }
 
-    /// The rules of a pair go. Its place is room again.
+    /// The rules of a pair go. There is room for no fewer new pairs than before.
     pub fn remove(&mut self, pair: Pair)
         ensures table { self.new.table ≡ map.remove self.old.table pair }
         ensures capacity { self.new.capacity ≡ self.old.capacity }
-        ensures room { self.old.room + (if is_some (map.get self.old.table pair) then 1 else 0) ≤ self.new.room }
+        ensures room { self.old.room ≤ self.new.room }
         ensures count { rule_count self.new.table + length (unwrap_or (map.get self.old.table pair) []) ≡ rule_count self.old.table }
     {
         let before = take_out(&mut self.entries, &pair);

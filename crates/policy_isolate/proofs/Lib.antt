@@ -1,2 +1,3 @@
 pub mod FirstFault
 pub mod InText
+pub mod NameOrder

@@ -3,11 +3,13 @@
 
 mod fault;
 mod inbound;
+mod naming;
 mod names;
 mod outbound;
 mod ports;
 
 pub use inbound::check_in;
+pub use naming::named;
 pub use names::Names;
 pub use net_types::{IsolateFault, Kind};
 pub use outbound::check_out;

@@ -14,7 +14,7 @@ pub shown : (b : Bool) → T b → b ≡ true
 shown true h = refl
 shown false h = absurd h
 
-less : (r : Ordering) → is_lt r ≡ true → r ≡ Less
+pub less : (r : Ordering) → is_lt r ≡ true → r ≡ Less
 less Less e = refl
 less Equal e = cc
 less Greater e = cc

@@ -1,13 +1,14 @@
 -- Tags without members: at first, and when one is kept or forgotten. The prefixes that one tag is given to.
-use Rattle.std.proofs.Common.{◌≡◌, ℕ, suc, ◌+◌, ◌<◌, ◌≤◌, Bool, true, false, cond, not, List, [], ◌∷◌, length, get_or, drop, drop-cons, sym, ap, subst, ◌∙◌, refl, arith}
+use Rattle.std.proofs.Common.{◌≡◌, ℕ, suc, ◌+◌, ◌<◌, ◌≤◌, ◌||◌, Bool, true, false, cond, not, List, [], ◌∷◌, length, get_or, drop, drop-cons, sym, ap, ◌∙◌, refl, arith}
 use Rattle.std.specs.Prelude.{Option, Some, None, is_some}
+use Rattle.std.specs.List.{list_any}
 use Rattle.std.specs.Ordering.{eq_by_cmp, is_eq}
 use Rattle.std.specs.Cmp.{eq_by_cmp_equiv, alike_right}
 use Rattle.std.specs.FinMap.{FinMap, get, insert, remove, empty, get-insert, get-remove, same_map}
 use Rattle.std.specs.FinMap.Entries.{find, put, is_sorted, find-put, find-where_key}
 use Rattle.net_types.proofs.OrderLemmas.{prefixes_total, tags_total}
 use Rattle.net_types.proofs.PlaceLemmas.{put_sorted, without_sorted}
-use Rattle.net_types.proofs.TieLemmas.{tag_cmp-IsAntisymmetric, ties_itself}
+use Rattle.net_types.proofs.TieLemmas.{prefix_cmp-IsAntisymmetric, tag_cmp-IsAntisymmetric, same_from_tie, ties_itself}
 use Rattle.net_types.specs.Keys.{prefix_cmp, tag_cmp}
 use Rattle.net_types.specs.declared.address.Tag.{Tag}
 use Rattle.net_types.specs.declared.prefix.Prefix.{Prefix}
@@ -80,25 +81,50 @@ forget_none m es t kept is same no_members =
 pub kept_itself : (kept : FinMap tag_cmp (List Part)) (t : Tag) (sig : List Part) → is_some (get (insert kept t sig) t) ≡ true
 kept_itself kept t sig = ap is_some (get-insert tags_total kept t sig t ∙ ap (λ b. cond b (Some sig) (get kept t)) (ties_itself tags_total t))
 
-missing_less : (b : Bool) (t : Tag) (o : Option Tag) → missing (cond b (Some t) o) ≤ missing o
-missing_less true t None = omega arith
-missing_less true t (Some u) = omega arith
-missing_less false t o = omega arith
-
-new_ones-insert : (m : FinMap prefix_cmp Tag) (x : Prefix) (t : Tag) (ps : List Prefix) → new_ones (insert m x t) ps ≤ new_ones m ps
+-- a prefix that gets a tag is new no more
+new_ones-insert : (m : FinMap prefix_cmp Tag) (x : Prefix) (t : Tag) (ps : List Prefix) → new_ones (insert m x t) ps + cond (list_any (eq_by_cmp prefix_cmp x) ps) (missing (get m x)) 0 ≡ new_ones m ps
 new_ones-insert m x t [] = omega arith
-new_ones-insert m x t (p ∷ ps) =
-    let rest = new_ones-insert m x t ps in
-    let first = subst (λ o. missing o ≤ missing (get m p)) (sym (get-insert prefixes_total m x t p)) (missing_less (eq_by_cmp prefix_cmp p x) t (get m p)) in
-    omega (arith, rest, first)
+new_ones-insert m x t (p ∷ ps) = by (eq_by_cmp prefix_cmp x p) refl (new_ones-insert m x t ps)
+  where
+    got : get (insert m x t) p ≡ cond (eq_by_cmp prefix_cmp x p) (Some t) (get m p)
+    got = get-insert prefixes_total m x t p ∙ ap (λ b. cond b (Some t) (get m p)) ((eq_by_cmp_equiv prefixes_total).symm p x)
 
-missing_one : (o : Option Tag) → missing o ≤ 1
-missing_one None = omega arith
-missing_one (Some t) = omega arith
+    -- the first one, whether it stands there again or not
+    first : (again : Bool) (k n old : ℕ) → k + cond again old 0 ≡ n → cond again 0 0 + k + old ≡ cond again 0 old + n
+    first true k n old e = omega (arith, e)
+    first false k n old e = omega (arith, e)
+
+    by : (b : Bool) → eq_by_cmp prefix_cmp x p ≡ b
+        → new_ones (insert m x t) ps + cond (list_any (eq_by_cmp prefix_cmp x) ps) (missing (get m x)) 0 ≡ new_ones m ps
+        → cond (list_any (eq_by_cmp prefix_cmp p) ps) 0 (missing (get (insert m x t) p)) + new_ones (insert m x t) ps + cond (b || list_any (eq_by_cmp prefix_cmp x) ps) (missing (get m x)) 0
+        ≡ cond (list_any (eq_by_cmp prefix_cmp p) ps) 0 (missing (get m p)) + new_ones m ps
+    by true tie rest =
+        let same : x ≡ p = same_from_tie prefix_cmp prefix_cmp-IsAntisymmetric x p tie in
+        let tagged : missing (get (insert m x t) p) ≡ 0 = ap missing (got ∙ ap (λ b. cond b (Some t) (get m p)) tie) in
+        (λ i. cond (list_any (eq_by_cmp prefix_cmp (sym same i)) ps) 0 (tagged i) + new_ones (insert m x t) ps + missing (get m x))
+        ∙ first (list_any (eq_by_cmp prefix_cmp x) ps) (new_ones (insert m x t) ps) (new_ones m ps) (missing (get m x)) rest
+        ∙ (λ i. cond (list_any (eq_by_cmp prefix_cmp (same i)) ps) 0 (missing (get m (same i))) + new_ones m ps)
+    by false apart rest =
+        let as_before : cond (list_any (eq_by_cmp prefix_cmp p) ps) 0 (missing (get (insert m x t) p)) ≡ cond (list_any (eq_by_cmp prefix_cmp p) ps) 0 (missing (get m p)) =
+        ap (λ o. cond (list_any (eq_by_cmp prefix_cmp p) ps) 0 (missing o)) (got ∙ ap (λ b. cond b (Some t) (get m p)) apart) in
+        omega (arith, as_before, rest)
+
+at_most_one : (again : Bool) (o : Option Tag) → cond again 0 (missing o) ≤ 1
+at_most_one true o = omega arith
+at_most_one false None = omega arith
+at_most_one false (Some t) = omega arith
 
 pub new_ones_are_few : (m : FinMap prefix_cmp Tag) (ps : List Prefix) → new_ones m ps ≤ length ps
 new_ones_are_few m [] = omega arith
-new_ones_are_few m (p ∷ ps) = let first = missing_one (get m p) in let rest = new_ones_are_few m ps in omega (arith, first, rest)
+new_ones_are_few m (p ∷ ps) = let first = at_most_one (list_any (eq_by_cmp prefix_cmp p) ps) (get m p) in let rest = new_ones_are_few m ps in omega (arith, first, rest)
+
+-- a new prefix before others needs room, unless it is one of them
+new_ones-first : (m : FinMap prefix_cmp Tag) (x : Prefix) (t : Tag) (ps : List Prefix) → missing (get m x) + new_ones (insert m x t) ps ≡ new_ones m (x ∷ ps)
+new_ones-first m x t ps = by (list_any (eq_by_cmp prefix_cmp x) ps) (new_ones-insert m x t ps)
+  where
+    by : (again : Bool) → new_ones (insert m x t) ps + cond again (missing (get m x)) 0 ≡ new_ones m ps → missing (get m x) + new_ones (insert m x t) ps ≡ cond again 0 (missing (get m x)) + new_ones m ps
+    by true e = omega (arith, e)
+    by false e = omega (arith, e)
 
 -- one prefix more is given the tag
 pub given_more : (t : Tag) (ps : List Prefix) (i : ℕ) (x d : Prefix) (m n : FinMap prefix_cmp Tag) → i < length ps → x ≡ get_or ps i d → n ≡ insert m x t
@@ -106,5 +132,12 @@ pub given_more : (t : Tag) (ps : List Prefix) (i : ℕ) (x d : Prefix) (m n : Fi
 given_more t ps i x d m n within is next =
     let split : drop i ps ≡ x ∷ drop (i + 1) ps = drop-cons ps i d within ∙ (let one_on : suc i ≡ i + 1 = omega arith in λ j. sym is j ∷ drop (one_on j) ps) in (
       ap (λ xs. given t xs m) split ∙ ap (given t (drop (i + 1) ps)) (sym next),
-      let less = new_ones-insert m x t (drop (i + 1) ps) in let all = ap (new_ones m) split in let later = ap (λ k. new_ones k (drop (i + 1) ps)) next in omega (arith, less, all, later),
+      let first = new_ones-first m x t (drop (i + 1) ps) in let all = ap (new_ones m) split in let later = ap (λ k. new_ones k (drop (i + 1) ps)) next in omega (arith, first, all, later),
     )
+
+-- where there is room for all that is new, there is room for a new one that comes first
+pub room_for : (ps : List Prefix) (i : ℕ) (x d : Prefix) (t : Tag) (m : FinMap prefix_cmp Tag) (room : ℕ) → i < length ps → x ≡ get_or ps i d → new_ones m (drop i ps) ≤ room → get m x ≡ None → 0 < room
+room_for ps i x d t m room within is enough new =
+    let more = (given_more t ps i x d m (insert m x t) within is refl).1 in
+    let one = ap missing new in
+    omega (arith, more, one, enough)

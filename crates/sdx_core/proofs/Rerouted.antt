@@ -28,7 +28,7 @@ use Rattle.exchange_laws.specs.Steady.{IsSteady}
 use Rattle.exchange_laws.proofs.FullTables.{full_tables_are_refused}
 use Rattle.exchange_laws.proofs.OneRuleEach.{steady_have_one_each}
 use Rattle.fast_path.specs.Carried.{IsPlanned, LeadsTo, PlansFitLines, plan_reply}
-use Rattle.fast_path.specs.Committing.{marked_all, tags_of}
+use Rattle.fast_path.specs.Committing.{marked_all, signed, tags_of}
 use Rattle.fast_path.specs.Planned.{IsPoolOf}
 use Rattle.fast_path.specs.Plans.{IsAsked, IsPlan}
 use Rattle.fast_path.specs.declared.planned.Changes.{Changes}
@@ -132,7 +132,7 @@ module _ (law : PlansFitLines) (s : State) (e : Event) (r : Routing) (p : Propos
 
   -- after which the exchange is as it should be
   pub committed_kept : (classes : Classes) (switch : Installed) → LeadsTo (with_default_rules s (retagged s r)) plan classes pool switch
-      → (pool' : Tags) → pool' ≡ marked_all (marked_all pool (tags_of plan.fresh.items) true) plan.dead.items false → IsKept s' pool'
+      → (pool' : Tags) → pool' ≡ marked_all (marked_all pool (tags_of (signed plan.fresh.items)) true) plan.dead.items false → IsKept s' pool'
   committed_kept classes switch to pool' marked =
       let of : IsPoolOf s' pool' = subst (λ x. IsPoolOf x pool') (sym then) (subst (IsPoolOf (with_default_rules s (retagged s r))) (sym marked) to.pool) in record {
         steady = steady_after s e reply s' is.steady formed committed_step;

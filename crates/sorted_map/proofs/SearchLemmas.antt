@@ -1,5 +1,5 @@
 -- What a search finds among entries whose keys rise, and what stands at that place.
-use Rattle.std.proofs.Common.{◌≡◌, ℕ, true, List, length, get_or, IfOk, IfErr, Result, Ok, Err, sym, ap, subst, ◌∙◌}
+use Rattle.std.proofs.Common.{◌≡◌, ℕ, true, List, length, IfOk, IfErr, Result, Ok, Err, ap, subst, ◌∙◌}
 use Rattle.std.specs.List.Sorted.{IsSearchInRange, IsBinarySearchResult}
 use Rattle.std.specs.Cmp.{IsTotalOrder}
 use Rattle.std.specs.declared.cmp.Ordering.{Ordering}

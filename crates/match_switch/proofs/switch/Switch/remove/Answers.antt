@@ -16,13 +16,6 @@ pub returns-clause-table : goal.returns-clause-table
 returns-clause-table c =
     table_without c.self.inside.entries.items c.self.inside.rules _ c.self.inside.capacity c.self.invariant c.args.self.now c.self.view_is c.args.pair c.take_out-before.new.entries.items c.take_out-before.ensures.items
 
-pub returns-clause-room : goal.returns-clause-room
-returns-clause-room c =
-    let there = get_is c.self.inside.entries.items c.self.inside.rules _ c.self.inside.capacity c.self.invariant c.args.self.now c.self.view_is c.args.pair in
-    let same = ap is_some (c.take_out-before.ensures.value ∙ sym there) in
-    let len = rw same at c.take_out-before.ensures.len in
-    room_without _ _ _ _ _ (is_some _) (ap (λ s. s.room) c.self.view_is) c.take_out-before.ensures.capacity len c.self.inside.entries.ok.1
-
 pub returns-clause-count : goal.returns-clause-count
 returns-clause-count c =
     count_without c.self.inside.entries.items c.self.inside.rules _ c.self.inside.capacity c.self.invariant c.args.self.now c.self.view_is c.args.pair c.take_out-before.new.entries.items c.take_out-before.ensures.items

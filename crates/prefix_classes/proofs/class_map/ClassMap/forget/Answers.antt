@@ -1,6 +1,4 @@
-use Rattle.std.proofs.Common.{ℕ, cond, sym, ap, subst, ◌∙◌, arith}
-use Rattle.std.specs.Prelude.{is_some}
-use Rattle.prefix_classes.proofs.CountLemmas.{is_some-kept}
+use Rattle.std.proofs.Common.{sym, ap, subst, ◌∙◌, arith}
 use Rattle.prefix_classes.proofs.KeepLemmas.{forget_none}
 use Rattle.prefix_classes.specs.Classes.{Classes, members}
 use Rattle.prefix_classes.specs.Counts.{IsCounted, sigs_of}
@@ -17,7 +15,4 @@ returns-clause-kept c =
     ap sigs_of c.take_out.ensures.items ∙ it.1
 
 pub returns-clause-tags : goal.returns-clause-tags
-returns-clause-tags c =
-    let there = ap (λ b. let one : ℕ = cond b 1 0 in one) (is_some-kept _ c.args.tag c.args.self.now.kept c.self.invariant.sorted (ap (λ (s : Classes). s.kept) c.self.view_is) ∙ ap is_some (sym c.take_out.ensures.value)) in
-    let room = ap (λ (s : Classes). s.tags) c.self.view_is in
-    omega (arith, there, room, c.take_out.ensures.capacity, c.take_out.ensures.len)
+returns-clause-tags c = let room = ap (λ (s : Classes). s.tags) c.self.view_is in omega (arith, room, c.take_out.ensures.room)
