@@ -12,7 +12,7 @@ use Rattle.net_types.specs.declared.address.Pid.{Pid}
 use Rattle.net_types.specs.declared.address.Tag.{Tag}
 use Rattle.net_types.specs.declared.route.Part.{Part}
 use Rattle.prefix_classes.proofs.CountLemmas.{get-sigs, sig_in}
-use Rattle.prefix_classes.specs.Counts.{IsCounted, counted, members_of, sigs_of}
+use Rattle.prefix_classes.specs.Counts.{IsCounted, members_of, sigs_of}
 use Rattle.prefix_classes.specs.Trimmed.{trimmed_entry}
 use Rattle.prefix_classes.specs.declared.members.Kept.{Kept}
 

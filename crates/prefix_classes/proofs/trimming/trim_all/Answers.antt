@@ -1,7 +1,6 @@
 use Rattle.std.proofs.Common.{set, sym, ap, ◌∙◌}
 use Rattle.std.specs.Prelude.{slice_index_or}
 use Rattle.std.proofs.lemmas.List.Edits.{map_over_more}
-use Rattle.net_types.specs.Signatures.{trimmed}
 use Rattle.net_types.specs.declared.address.Tag.{Tag}
 use Rattle.prefix_classes.specs.Trimmed.{trimmed_entry}
 use Rattle.prefix_classes.specs.declared.members.Kept.{Kept}

@@ -1,4 +1,4 @@
-use Rattle.std.proofs.Common.{◌≡◌, Bool, List, cond, filter, eq-eqb, sym, ap, ◌∙◌, rules}
+use Rattle.std.proofs.Common.{◌≡◌, Bool, cond, filter, eq-eqb, sym, ap, ◌∙◌, rules}
 use Rattle.std.proofs.lemmas.Fn.{filter_same}
 use Rattle.net_types.specs.Signatures.{counts}
 use Rattle.net_types.specs.declared.route.Offer.{Offer}

@@ -1,4 +1,4 @@
-use Rattle.std.proofs.Common.{sym, ap, ◌∙◌}
+use Rattle.std.proofs.Common.{sym, ap}
 use Rattle.prefix_classes.proofs.TrimLemmas.{counted_whole, sigs_whole}
 use Rattle.prefix_classes.specs.Classes.{Classes}
 use Rattle.prefix_classes.proofs.class_map.ClassMap.trim.Goals as goal
