@@ -2,12 +2,15 @@
 
 ghost use Rattle.std.specs.Prelude.{◌≡◌, ◌≤◌, ◌<◌, ◌+◌, None, IfNone, IfSome, IsTrue, OnOk, length, option_copied, is_some};
 ghost use Rattle.std.specs.FinMap as map;
+ghost use Rattle.std.specs.Option.{option_map};
+ghost use Rattle.net_types.specs.Signatures.{trimmed};
 ghost use Rattle.net_types.specs.declared.address.Tag.{Tag as AnyTag};
 ghost use Rattle.prefix_classes.specs.Classes.{IsAbove, IsNextTag, given, members, missing, new_ones};
 
 use crate::members::{Kept, lower, move_member, raise};
 use crate::next::{count_passed, first_used};
-use net_types::{Memory, Prefix, Sig, Tag};
+use crate::trimming::trim_all;
+use net_types::{Memory, Pid, Prefix, Sig, Tag};
 use prefix_map::PrefixMap;
 use sorted_map::{put_reserved, take_out, value_at};
 use std::alloc::Global;
@@ -148,6 +151,18 @@ impl ClassMap {
         ensures tags { self.old.tags ≤ self.new.tags }
     {
         take_out(&mut self.kept, &tag);
+    }
+
+    /// Takes out of a sender's part in each kept signature the offers that are neither the best one's nor those of
+    /// participants that its policy names. It takes no memory.
+    pub fn trim(&mut self, who: Pid, named: &[Pid])
+        ensures tag { self.new.tag ≡ self.old.tag }
+        ensures kept { (tag : AnyTag) → map.get self.new.kept tag ≡ option_map (trimmed who named.now) (map.get self.old.kept tag) }
+        ensures prefixes { self.new.prefixes ≡ self.old.prefixes }
+        ensures tags { self.new.tags ≡ self.old.tags }
+    {
+        let alloc = *self.kept.allocator();
+        trim_all(alloc, &mut self.kept, who, named);
     }
 
     // Keeps a tag that no prefix has, with its signature.

@@ -5,6 +5,7 @@ mod class_map;
 mod laws;
 mod members;
 mod next;
+mod trimming;
 
 pub use class_map::ClassMap;
 pub use laws::{

@@ -1,0 +1,71 @@
+-- Trimmed signatures: the tags stay as they are, and each signature is trimmed.
+use Rattle.std.proofs.Common.{◌≡◌, Bool, true, false, cond, ◌&&◌, List, [], ◌∷◌, ◌++◌, drop, length, map, take, sym, ap, subst, ◌∙◌, refl}
+use Rattle.std.specs.Prelude.{ℕ, Option, Some, None}
+use Rattle.std.specs.FinMap.{FinMap, get}
+use Rattle.std.specs.FinMap.Entries.{find, is_sorted, below_all}
+use Rattle.std.specs.Option.{option_map}
+use Rattle.std.specs.Ordering.{eq_by_cmp, is_lt}
+use Rattle.std.proofs.lemmas.List.{length-map, take_at}
+use Rattle.net_types.specs.Keys.{prefix_cmp, tag_cmp}
+use Rattle.net_types.specs.Signatures.{trimmed}
+use Rattle.net_types.specs.declared.address.Pid.{Pid}
+use Rattle.net_types.specs.declared.address.Tag.{Tag}
+use Rattle.net_types.specs.declared.route.Part.{Part}
+use Rattle.prefix_classes.proofs.CountLemmas.{get-sigs, sig_in}
+use Rattle.prefix_classes.specs.Counts.{IsCounted, members_of, sigs_of}
+use Rattle.prefix_classes.specs.Trimmed.{trimmed_entry}
+use Rattle.prefix_classes.specs.declared.members.Kept.{Kept}
+
+module _ (who : Pid) (named : List Pid) where
+  abbrev trim : Tag × Kept → Tag × Kept
+  trim e = trimmed_entry who named e
+
+  abbrev trim_kept : Kept → Kept
+  trim_kept k = record k { sig = trimmed who named k.sig }
+
+  find-trimmed : (q : Tag) (es : List (Tag × Kept)) → find tag_cmp q (map trim es) ≡ option_map trim_kept (find tag_cmp q es)
+  find-trimmed q [] = refl
+  find-trimmed q (e ∷ es) = by (eq_by_cmp tag_cmp q e.0) (find-trimmed q es)
+    where
+      by : (b : Bool) → find tag_cmp q (map trim es) ≡ option_map trim_kept (find tag_cmp q es) → cond b (Some (trim_kept e.1)) (find tag_cmp q (map trim es)) ≡ option_map trim_kept (cond b (Some e.1) (find tag_cmp q es))
+      by true rest = refl
+      by false rest = rest
+
+  below-trimmed : (x : Tag) (es : List (Tag × Kept)) → below_all tag_cmp x (map trim es) ≡ below_all tag_cmp x es
+  below-trimmed x [] = refl
+  below-trimmed x (e ∷ es) = ap (λ b. is_lt (tag_cmp x e.0) && b) (below-trimmed x es)
+
+  sorted-trimmed : (es : List (Tag × Kept)) → is_sorted tag_cmp (map trim es) ≡ is_sorted tag_cmp es
+  sorted-trimmed [] = refl
+  sorted-trimmed (e ∷ es) = λ i. below-trimmed e.0 es i && sorted-trimmed es i
+
+  same_members : (o : Option Kept) → members_of (option_map trim_kept o) ≡ members_of o
+  same_members None = refl
+  same_members (Some k) = refl
+
+  trimmed_sig : (o : Option Kept) → sig_in (option_map trim_kept o) ≡ option_map (trimmed who named) (sig_in o)
+  trimmed_sig None = refl
+  trimmed_sig (Some k) = refl
+
+  counted_trimmed : (m : FinMap prefix_cmp Tag) (es : List (Tag × Kept)) → IsCounted m es → IsCounted m (map trim es)
+  counted_trimmed m es is = record {
+    sorted = sorted-trimmed es ∙ is.sorted;
+    counts = λ t. ap members_of (find-trimmed t es) ∙ same_members (find tag_cmp t es) ∙ is.counts t;
+  }
+
+  get_trimmed : (es : List (Tag × Kept)) → is_sorted tag_cmp es ≡ true → (t : Tag) → get (sigs_of (map trim es)) t ≡ option_map (trimmed who named) (get (sigs_of es) t)
+  get_trimmed es sorted t =
+      get-sigs (map trim es) t (sorted-trimmed es ∙ sorted) ∙ ap sig_in (find-trimmed t es) ∙ trimmed_sig (find tag_cmp t es) ∙ ap (option_map (trimmed who named)) (sym (get-sigs es t sorted))
+
+  -- the entries once they are written back
+  whole : (es xs ys : List (Tag × Kept)) (n : ℕ) → ys ≡ es → xs ≡ map trim ys → n ≡ length ys → take n (xs ++ drop (length xs) es) ≡ map trim es
+  whole es xs ys n same is len =
+      take_at xs (drop (length xs) es) n (ap length is ∙ length-map ys trim ∙ sym len) ∙ is ∙ ap (map trim) same
+
+  pub counted_whole : (m : FinMap prefix_cmp Tag) (es xs ys : List (Tag × Kept)) (n : ℕ) → IsCounted m es → ys ≡ es → xs ≡ map trim ys → n ≡ length ys → IsCounted m (take n (xs ++ drop (length xs) es))
+  counted_whole m es xs ys n counts same is len = subst (IsCounted m) (sym (whole es xs ys n same is len)) (counted_trimmed m es counts)
+
+  pub sigs_whole : (es xs ys : List (Tag × Kept)) (n : ℕ) (sigs : FinMap tag_cmp (List Part)) → is_sorted tag_cmp es ≡ true → sigs_of es ≡ sigs → ys ≡ es → xs ≡ map trim ys → n ≡ length ys
+      → (t : Tag) → get (sigs_of (take n (xs ++ drop (length xs) es))) t ≡ option_map (trimmed who named) (get sigs t)
+  sigs_whole es xs ys n sigs sorted kept same is len t =
+      ap (λ ds. get (sigs_of ds) t) (whole es xs ys n same is len) ∙ get_trimmed es sorted t ∙ ap (λ m. option_map (trimmed who named) (get m t)) kept
