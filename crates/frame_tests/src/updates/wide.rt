@@ -49,7 +49,9 @@ fn with_sequences(alloc: Global, counts: &[u8]) -> Result<Vec<u8>, Memory> {
 }
 
 /// NEXT_HOP, AS4_PATH and a prefix.
-const BEHIND: [u8; 18] = [0x40, 3, 4, 172, 16, 1, 2, 0xc0, 17, 6, 2, 1, 0, 3, 0, 10, 8, 10];
+const BEHIND: [u8; 18] = [
+    0x40, 3, 4, 172, 16, 1, 2, 0xc0, 17, 6, 2, 1, 0, 3, 0, 10, 8, 10,
+];
 
 /// How many numbers a segment has.
 fn count_in(segment: &Segment) -> usize {
