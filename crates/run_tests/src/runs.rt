@@ -3,6 +3,7 @@ ghost use Rattle.std.specs.Prelude.{◌≡◌, Some};
 
 mod inputs;
 mod routes;
+mod wide;
 
 use inputs::{
     ARP_INPUT, ARP_OUTPUT, FIRST_INPUT, FIRST_OUTPUT, NOT_DRAINED_INPUT, NOT_DRAINED_OUTPUT,
@@ -21,6 +22,7 @@ use std::alloc::Global;
 use std::marker::Brand;
 use std::sync::ledger::{Blank, Ledger};
 use std::test::Fail;
+use wide::{WIDE_INPUT, WIDE_OUTPUT};
 
 /// A run, and what is expected of it.
 #[derive(Clone, Copy)]
@@ -338,7 +340,7 @@ fn exchange_cases<'c>() -> [Case<'c>; 5] {
     ]
 }
 
-fn route_cases<'c>() -> [Case<'c>; 5] {
+fn route_cases<'c>() -> [Case<'c>; 6] {
     [
         replays(
             "MULTI_EXIT_DISC among routes of one AS",
@@ -369,6 +371,12 @@ fn route_cases<'c>() -> [Case<'c>; 5] {
             DISCARDED_INPUT.as_bytes(),
             Status::Refused,
             DISCARDED_OUTPUT,
+        ),
+        replays(
+            "AS numbers of four octets",
+            WIDE_INPUT.as_bytes(),
+            Status::Refused,
+            WIDE_OUTPUT,
         ),
     ]
 }

@@ -94,6 +94,7 @@ pub fn fault(alloc: Global, why: RouteFault) -> Result<String, Wrong> {
     match why {
         RouteFault::FirstAs => Ok(String::from_str(alloc, "first AS")?),
         RouteFault::NextHop => Ok(String::from_str(alloc, "next hop")?),
+        RouteFault::Oversize => Ok(String::from_str(alloc, "oversize")?),
         RouteFault::Memory => Err(Wrong::Memory),
     }
 }

@@ -329,6 +329,7 @@ const HEADS: [(Head, &str); 41] = [
     ),
     (Head::Refused(Refusal::FirstAs), "refused first-as"),
     (Head::Refused(Refusal::NextHop), "refused next-hop"),
+    (Head::Refused(Refusal::Oversize), "refused oversize"),
     (Head::Refused(Refusal::BadPacket), "refused packet"),
     (
         Head::Refused(Refusal::BadUpdate(Fault::BadHeader)),
