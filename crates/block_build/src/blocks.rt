@@ -21,11 +21,11 @@ pub trait Blocks {
         ensures room { (installed self.old).room ≤ (installed self.new).room + (if is_some (map.get (installed self.old).table pair) then 0 else 1) }
         ensures count { rule_count (installed self.new).table + count_at (installed self.old).table pair ≡ rule_count (installed self.old).table + length block };
 
-    /// The rules of a pair go. Its place is room again.
+    /// The rules of a pair go. There is room for no fewer new pairs than before.
     fn drop_block(&mut self, pair: Pair)
         ensures table { (installed self.new).table ≡ map.remove (installed self.old).table pair }
         ensures capacity { (installed self.new).capacity ≡ (installed self.old).capacity }
-        ensures room { (installed self.old).room + (if is_some (map.get (installed self.old).table pair) then 1 else 0) ≤ (installed self.new).room }
+        ensures room { (installed self.old).room ≤ (installed self.new).room }
         ensures count { rule_count (installed self.new).table + count_at (installed self.old).table pair ≡ rule_count (installed self.old).table };
 
     /// How many rules there are.

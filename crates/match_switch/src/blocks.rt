@@ -50,11 +50,11 @@ impl Switch {
         self.set(pair, block.into_rules());
     }
 
-    /// The rules of a pair go. Its place is room again.
+    /// The rules of a pair go. There is room for no fewer new pairs than before.
     pub fn drop_block(&mut self, pair: Pair)
         ensures table { self.new.table ≡ map.remove self.old.table pair }
         ensures capacity { self.new.capacity ≡ self.old.capacity }
-        ensures room { self.old.room + (if is_some (map.get self.old.table pair) then 1 else 0) ≤ self.new.room }
+        ensures room { self.old.room ≤ self.new.room }
         ensures count { rule_count self.new.table + count_at self.old.table pair ≡ rule_count self.old.table }
     {
         self.remove(pair);
