@@ -22,7 +22,7 @@ use std::alloc::Global;
 use std::marker::Brand;
 use std::sync::ledger::{Blank, Ledger};
 use std::test::Fail;
-use wide::{WIDE_INPUT, WIDE_OUTPUT};
+use wide::{FULL_POOL_INPUT, FULL_POOL_OUTPUT, WIDE_INPUT, WIDE_OUTPUT};
 
 /// A run, and what is expected of it.
 #[derive(Clone, Copy)]
@@ -340,7 +340,7 @@ fn exchange_cases<'c>() -> [Case<'c>; 5] {
     ]
 }
 
-fn route_cases<'c>() -> [Case<'c>; 6] {
+fn route_cases<'c>() -> [Case<'c>; 7] {
     [
         replays(
             "MULTI_EXIT_DISC among routes of one AS",
@@ -377,6 +377,12 @@ fn route_cases<'c>() -> [Case<'c>; 6] {
             WIDE_INPUT.as_bytes(),
             Status::Refused,
             WIDE_OUTPUT,
+        ),
+        replays(
+            "too long comes before a full pool",
+            FULL_POOL_INPUT.as_bytes(),
+            Status::Refused,
+            FULL_POOL_OUTPUT,
         ),
     ]
 }
