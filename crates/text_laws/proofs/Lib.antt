@@ -1,3 +1,4 @@
 pub mod Alike
 pub mod Numbers
 pub mod Joined
+pub mod Rules
