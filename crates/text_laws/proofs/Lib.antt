@@ -1,4 +1,5 @@
 pub mod Alike
 pub mod Numbers
 pub mod Joined
+pub mod Fields
 pub mod Rules
