@@ -109,7 +109,7 @@ next one two = both one two (λ s ends. tt) (λ s ends. tt)
 pub gives : {P Q : Type 0} {E : List ℕ → Type 0} {a b : List ℕ} → (P → Q) → Alike E P a b → Alike E Q a b
 gives then one = record { is = λ s t ends stops e. let is = one.is s t ends stops e in (then is.0, is.1) }
 
-digit_hex : (c : ℕ) → 48 ≤ c → c ≤ 57 → is_hex c ≡ true
+pub digit_hex : (c : ℕ) → 48 ≤ c → c ≤ 57 → is_hex c ≡ true
 digit_hex c low high = grind (arith, nat_tests)
 
 pub decimals : (m n : ℕ) → m < 2 ^ 64 → n < 2 ^ 64 → Alike Stops (m ≡ n) (decimal m) (decimal n)

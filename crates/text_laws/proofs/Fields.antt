@@ -39,7 +39,7 @@ module _ (test : ℕ → Bool) (digits : (c : ℕ) → 48 ≤ c → c ≤ 57 →
   over_one : (c : ℕ) → test c ≡ true → Over test (c ∷ [])
   over_one c is = over_more test c [] is refl
 
-  address_over : (ip : Ip) → ip.0 < 2 ^ 32 → Over test (address_text ip)
+  pub address_over : (ip : Ip) → ip.0 < 2 ^ 32 → Over test (address_text ip)
   address_over ip low =
       let number : (n : ℕ) → n < 2 ^ 64 → Over test (decimal n) = over_decimal test digits in
       over_append test _ _ (over_append test _ _ (over_append test _ _ (over_append test _ _ (over_append test _ _ (over_append test _ _
