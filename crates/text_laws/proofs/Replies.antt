@@ -113,11 +113,12 @@ module _ (n : ℕ) where
 
   onto_digit : (k n c : ℕ) (cs : List ℕ) → is_hex c ≡ true → starts is_hex (digits_onto k 10 false n (c ∷ cs)) ≡ true
   onto_digit zero n c cs is = is
-  onto_digit (suc k) n c cs is = by (n / 10 == 0)
+  onto_digit (suc k) n c cs is = by (n / 10 == 0) (onto_digit k (n / 10) (digit_glyph false (n % 10)) (c ∷ cs) (glyph n))
     where
-      by : (b : Bool) → starts is_hex (cond b (digit_glyph false (n % 10) ∷ c ∷ cs) (digits_onto k 10 false (n / 10) (digit_glyph false (n % 10) ∷ c ∷ cs))) ≡ true
-      by true = glyph n
-      by false = onto_digit k (n / 10) (digit_glyph false (n % 10)) (c ∷ cs) (glyph n)
+      by : (b : Bool) → starts is_hex (digits_onto k 10 false (n / 10) (digit_glyph false (n % 10) ∷ c ∷ cs)) ≡ true
+          → starts is_hex (cond b (digit_glyph false (n % 10) ∷ c ∷ cs) (digits_onto k 10 false (n / 10) (digit_glyph false (n % 10) ∷ c ∷ cs))) ≡ true
+      by true more = glyph n
+      by false more = more
 
   some_digit : (k : ℕ) → starts is_hex (digits_onto (suc k) 10 false n []) ≡ true
   some_digit k = by (n / 10 == 0)
@@ -133,16 +134,17 @@ module _ (n : ℕ) where
   number_starts : starts is_hex (decimal n) ≡ true
   number_starts = subst (λ x. starts is_hex x ≡ true) whole (some_digit 63)
 
-starts_more : (x y : List ℕ) → starts is_hex x ≡ true → starts is_hex (x ++ y) ≡ true
-starts_more [] y is = absurd (cc)
-starts_more (c ∷ x) y is = is
+starts_more : (a b c d e f g h i j k : List ℕ) → starts is_hex a ≡ true → starts is_hex (a ++ b ++ c ++ d ++ e ++ f ++ g ++ h ++ i ++ j ++ k) ≡ true
+starts_more [] b c d e f g h i j k is = absurd (cc)
+starts_more (x ∷ a) b c d e f g h i j k is = is
 
 text_part : (ns : List Numbered) (rs : List Reply) → part (text ns rs) ≡ 7
 text_part [] rs = refl
 text_part (n ∷ ns) [] = refl
 text_part (n ∷ ns) (r ∷ rs) =
     head_part (text (n ∷ ns) (r ∷ rs))
-    (starts_more _ _ (starts_more _ _ (starts_more _ _ (starts_more _ _ (starts_more _ _ (starts_more _ _ (starts_more _ _ (starts_more _ _ (starts_more _ _ (starts_more _ _ (number_starts n.number)))))))))))
+    (starts_more (decimal n.number) (codes " ") (head_text r.head) end_line (flat_map tag_text r.tags) (flat_map drop_text r.drops) (flat_map (rule_line n.event) r.adds) (flat_map advert_text r.adverts)
+    (flat_map exchange_text r.asks) (flat_map frame_text r.frames) (text ns rs) (number_starts n.number))
 
 pub writable_texts_name_replies : WritableTextsNameReplies
 writable_texts_name_replies [] [] [] many also one two e = refl

@@ -2,6 +2,10 @@
 //! laws.
 #![tactic(auto)]
 
-/// Nothing yet.
-pub fn texts_name_replies()
+ghost use Rattle.text_laws.specs.Naming.{WritableTextsNameReplies};
+
+/// For given lines, two lists with a reply for each line and with the same text are the same list, where each number fits its
+/// type and no rule's cube is of a port.
+pub fn writable_texts_name_replies()
+    ensures { WritableTextsNameReplies }
 {}
