@@ -6,3 +6,4 @@ pub mod Rules
 pub mod Heads
 pub mod Lines
 pub mod Replies
+pub mod Portless

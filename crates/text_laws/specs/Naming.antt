@@ -1,7 +1,13 @@
 -- The octets that are written name the replies (this exchange's own rule).
-use Rattle.std.specs.Prelude.{◌≡◌, List, [], ◌∷◌}
-use Rattle.events.specs.Legal.{Legal}
-use Rattle.events.specs.Lines.{Numbered, bare_events}
+use Rattle.std.specs.Prelude.{◌≡◌, List, [], ◌∷◌, None}
+use Rattle.net_types.specs.Answers.{Policies}
+use Rattle.net_types.specs.declared.address.PortNo.{PortNo}
+use Rattle.net_types.specs.declared.cube.Cube.{Cube}
+use Rattle.net_types.specs.declared.route.Part.{Part}
+use Rattle.net_types.specs.declared.rule.Rule.{Rule}
+use Rattle.events.specs.Lines.{Numbered}
+use Rattle.events.specs.Sound.{IsRight}
+use Rattle.events.specs.State.{State, ArePassed}
 use Rattle.events.specs.Text.{text}
 use Rattle.events.specs.declared.Reply.{Reply}
 use Rattle.text_laws.specs.Widths.{Each, IsWritable}
@@ -17,3 +23,12 @@ HasAsMany (n ∷ ns) [] = ⊥
 abbrev pub WritableTextsNameReplies : Type 0
 WritableTextsNameReplies =
     (ns : List Numbered) (rs qs : List Reply) → HasAsMany ns rs → HasAsMany ns qs → Each IsWritable rs → Each IsWritable qs → text ns rs ≡ text ns qs → rs ≡ qs
+
+-- a cube without an inport
+abbrev pub IsOfNoPort : Cube → Type 0
+IsOfNoPort c = c.inport ≡ None
+
+-- where the policies passed isolation, the cubes of right rules are of no port
+abbrev pub RightRulesAreOfNoPort : Type 0
+RightRulesAreOfNoPort =
+    (s : State) (ps : Policies) → ArePassed s ps → (part : Part) (port : PortNo) (rules : List Rule) → IsRight ps part port rules → Each (λ (r : Rule). IsOfNoPort r.cube) rules

@@ -2,10 +2,15 @@
 //! laws.
 #![tactic(auto)]
 
-ghost use Rattle.text_laws.specs.Naming.{WritableTextsNameReplies};
+ghost use Rattle.text_laws.specs.Naming.{RightRulesAreOfNoPort, WritableTextsNameReplies};
 
 /// For given lines, two lists with a reply for each line and with the same text are the same list, where each number fits its
 /// type and no rule's cube is of a port.
 pub fn writable_texts_name_replies()
     ensures { WritableTextsNameReplies }
+{}
+
+/// Where the policies passed isolation, the cubes of rules that are right for a part are of no port.
+pub fn right_rules_are_of_no_port()
+    ensures { RightRulesAreOfNoPort }
 {}
