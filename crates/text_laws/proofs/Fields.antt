@@ -1,22 +1,15 @@
 -- The fields of cubes and of actions, and of which octets they are.
-use Rattle.std.proofs.Common.{◌≡◌, ℕ, ◌+◌, ◌*◌, ◌-◌, ◌/◌, ◌%◌, ◌^◌, ◌<◌, ◌≤◌, Bool, true, false, cond, ◌&&◌, ◌||◌, not, nat_eq, nat_le, nat_lt, List, [], ◌∷◌, ◌++◌, append_assoc, append-nil, map, codes, decimal, get_or, refl, sym, ap, ap₂, ◌∙◌, subst, arith}
+use Rattle.std.proofs.Common.{◌≡◌, ℕ, ◌-◌, ◌/◌, ◌%◌, ◌^◌, ◌<◌, ◌≤◌, Bool, true, false, cond, ◌&&◌, ◌||◌, not, nat_eq, nat_le, nat_lt, List, [], ◌∷◌, ◌++◌, append-nil, codes, decimal, refl, sym, ap, ◌∙◌, subst, arith}
 use Rattle.std.specs.Prelude.{Option, Some, None}
-use Rattle.std.specs.List.{list_all}
 use Rattle.std.proofs.lemmas.Bool.Decides.{nat_tests}
 use Rattle.std.proofs.lemmas.List.{append_cancel_left}
 use Rattle.std.proofs.lemmas.Fmt.{decimal_injective}
-use Rattle.events.specs.Text.{action_text, address_field, address_text, cube_text, in_brackets, joined, number_field, or_none, or_star, prefix_field, prefix_text, rule_text}
+use Rattle.events.specs.Text.{address_field, address_text, number_field, prefix_field, prefix_text}
 use Rattle.net_types.proofs.PrefixLemmas.{prefix_ext}
-use Rattle.net_types.specs.declared.actions.Action.{Action}
 use Rattle.net_types.specs.declared.address.Ip.{Ip}
-use Rattle.net_types.specs.declared.address.PortNo.{PortNo}
-use Rattle.net_types.specs.declared.cube.Cube.{Cube}
-use Rattle.net_types.specs.declared.headers.Assign.{Assign}
 use Rattle.net_types.specs.declared.prefix.Prefix.{Prefix}
-use Rattle.net_types.specs.declared.rule.Rule.{Rule}
-use Rattle.text_laws.specs.Widths.{Each, IfThere, IsAction, IsAddress, IsCube, IsNumber, IsRule}
-use Rattle.text_laws.proofs.Alike.{Alike, Begins, Nothing, Over, both, closed, decimals, gives, next, over_append, over_decimal, over_more}
-use Rattle.text_laws.proofs.Joined.{IsField, cons_is, field_told, first_rank, list_told, rank_over}
+use Rattle.text_laws.specs.Widths.{Each, IfThere, IsAddress, IsNumber}
+use Rattle.text_laws.proofs.Alike.{Alike, Over, over_append, over_decimal, over_more}
 use Rattle.text_laws.proofs.Numbers.{addresses, prefixes}
 
 -- ---- octets of fields

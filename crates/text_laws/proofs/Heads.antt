@@ -1,23 +1,22 @@
 -- Heads of replies are told by their texts.
-use Rattle.std.proofs.Common.{◌≡◌, ℕ, ◌+◌, ◌*◌, ◌-◌, ◌/◌, ◌%◌, ◌^◌, ◌<◌, ◌≤◌, Bool, true, false, cond, ◌&&◌, ◌||◌, not, nat_eq, nat_le, nat_lt, List, [], ◌∷◌, ◌++◌, append_assoc, append-nil, length, map, codes, decimal, get_or, find, refl, sym, ap, ap₂, ◌∙◌, subst, arith}
-use Rattle.std.specs.Prelude.{Option, Some, None, unwrap_or}
+use Rattle.std.proofs.Common.{◌≡◌, ℕ, ◌+◌, ◌*◌, ◌≤◌, Bool, true, nat_lt, List, [], ◌∷◌, ◌++◌, codes, decimal, get_or, find, refl, sym, ap, ap₂, ◌∙◌, arith}
+use Rattle.std.specs.Prelude.{unwrap_or}
 use Rattle.std.proofs.lemmas.Bool.Decides.{nat_tests}
 use Rattle.std.proofs.lemmas.Fmt.{decimal_injective}
 use Rattle.std.proofs.lemmas.List.{append_cancel_left}
 use Rattle.net_types.specs.Faults.{fault_word}
 use Rattle.net_types.specs.Octets.{same_octets}
-use Rattle.net_types.specs.declared.address.Ip.{Ip}
 use Rattle.net_types.specs.declared.isolation.Kind.{Kind}
 use Rattle.net_types.specs.declared.isolation.Kind.TheVariants.{UnknownName, OwnName, FwdKind, ForeignPort, ModifyOutbound, InportInbound}
 use Rattle.net_types.specs.declared.update.Fault.{Fault}
 use Rattle.net_types.specs.declared.update.Fault.TheVariants as faults
-use Rattle.events.specs.Text.{address_text, end_line, head_text, kind_word, refusal_text}
+use Rattle.events.specs.Text.{address_text, head_text, kind_word, refusal_text}
 use Rattle.events.specs.declared.Head.{Head}
 use Rattle.events.specs.declared.Head.TheVariants.{Fine, Working, Finished, Unrouted, Unresolved, Silent, Refused}
 use Rattle.events.specs.declared.Refusal.{Refusal}
 use Rattle.events.specs.declared.Refusal.TheVariants.{BadLine, Misplaced, Unknown, Clash, Full, BadUpdate, FirstAs, NextHop, Oversize, TextLong, Syntax, TooDeep, Isolate, TooWide, NoNextHop, TableFull, BadPacket}
 use Rattle.text_laws.specs.Widths.{IsHead, IsNumber, IsRefusal}
-use Rattle.text_laws.proofs.Alike.{Alike, Begins, Over, Stops, behind, closed, decimals, next, over_append, over_decimal, spans, starts}
+use Rattle.text_laws.proofs.Alike.{Alike, Begins, Over, behind, closed, decimals, next, over_append, over_decimal, spans, starts}
 use Rattle.text_laws.proofs.Fields.{address_over, closed_is, is_dark}
 use Rattle.text_laws.proofs.Numbers.{addresses}
 

@@ -1,16 +1,15 @@
 -- The lines of details are told by their texts: each kind begins otherwise, and a head begins with a digit.
-use Rattle.std.proofs.Common.{◌≡◌, ℕ, zero, suc, ◌+◌, ◌*◌, ◌-◌, ◌/◌, ◌%◌, ◌^◌, ◌<◌, ◌≤◌, Bool, true, false, cond, ◌&&◌, ◌||◌, not, nat_eq, nat_le, nat_lt, List, [], ◌∷◌, ◌++◌, append_assoc, append-nil, flat_map, codes, decimal, get_or, refl, sym, ap, ap₂, ◌∙◌, subst, lt_irrefl, arith}
+use Rattle.std.proofs.Common.{◌≡◌, ℕ, ◌<◌, Bool, true, false, cond, ◌||◌, nat_eq, List, [], ◌∷◌, ◌++◌, append_assoc, flat_map, codes, get_or, refl, sym, ap, ap₂, ◌∙◌, subst, lt_irrefl, arith}
 use Rattle.std.specs.Prelude.{Option, Some, None}
 use Rattle.std.proofs.lemmas.Bool.Decides.{nat_tests}
 use Rattle.std.proofs.lemmas.List.{append_cancel_left}
-use Rattle.events.specs.Text.{add_text, advert_text, ask_text, drop_text, end_line, exchange_text, flow_text, frame_text, hex_text, rule_line, tag_text}
+use Rattle.events.specs.Text.{add_text, advert_text, drop_text, end_line, exchange_text, flow_text, frame_text, hex_text, rule_line, tag_text}
 use Rattle.events.specs.declared.Event.{Event}
-use Rattle.events.specs.declared.Event.TheVariants.{Bad, Exchange, Participant, Port, Update, Down, Export, Outbound, Inbound, Take, Drain, Arp, Resolve, Packet, Frame, Recompile, Work, Table}
+use Rattle.events.specs.declared.Event.TheVariants.{Table}
 use Rattle.events.specs.declared.Exchange.{Exchange as ArpExchange}
 use Rattle.events.specs.declared.Flow.{Flow}
 use Rattle.events.specs.declared.Frame.{Frame as Leaves}
 use Rattle.events.specs.declared.TagChange.{TagChange}
-use Rattle.net_types.specs.declared.address.PortNo.{PortNo}
 use Rattle.net_types.specs.declared.address.Tag.{Tag}
 use Rattle.net_types.specs.declared.prefix.Prefix.{Prefix}
 use Rattle.net_types.specs.declared.rule.Pair.{Pair}

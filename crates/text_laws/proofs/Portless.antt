@@ -1,9 +1,9 @@
 -- The cubes of right rules are of no port: inbound policies that passed test none, and a sender's own is freed.
-use Rattle.std.proofs.Common.{◌≡◌, ℕ, ◌==◌, Bool, true, false, cond, nat_eq, List, [], ◌∷◌, ◌++◌, ◌⊎◌, inl, inr, refl, sym, ap, ◌∙◌}
+use Rattle.std.proofs.Common.{◌≡◌, ℕ, Bool, true, false, cond, nat_eq, List, [], ◌∷◌, ◌++◌, inl, inr, refl, sym, ap, ◌∙◌}
 use Rattle.std.specs.Prelude.{Option, Some, None}
-use Rattle.net_types.specs.Answers.{Policies, policy_of}
+use Rattle.net_types.specs.Answers.{policy_of}
 use Rattle.net_types.specs.Cells.{cell_atoms, freed, freed_from}
-use Rattle.net_types.specs.Cubes.{cube_of, everything, meet_cubes, meet_values, pull_cube, same_port}
+use Rattle.net_types.specs.Cubes.{cube_of, meet_cubes, meet_values, pull_cube, same_port}
 use Rattle.net_types.specs.Isolation.{in_faults, in_test, pred_faults}
 use Rattle.net_types.specs.Meets.{IsMeet, behind, behind_one, cons_some}
 use Rattle.net_types.specs.Policies.{Test, Inport, Src, Dst, Proto, Sport, Dport, Pred, Yes, Is, Not, And, Or, Policy, Drop, Pass, Block, Fwd, Match, Set, Both, Then, atoms, atoms_where_plain, meet_optional, mods, one_more, part_atoms, plain, pred_atoms, test_cube}
@@ -17,10 +17,9 @@ use Rattle.net_types.specs.declared.headers.Span.{Span}
 use Rattle.net_types.specs.declared.isolation.IsolateFault.{IsolateFault}
 use Rattle.net_types.specs.declared.prefix.Prefix.{Prefix}
 use Rattle.net_types.specs.declared.route.Offer.{Offer}
-use Rattle.net_types.specs.declared.route.Part.{Part}
 use Rattle.net_types.specs.declared.rule.Rule.{Rule}
 use Rattle.events.specs.Sound.{cubes_of}
-use Rattle.events.specs.State.{State, owner_of}
+use Rattle.events.specs.State.{owner_of}
 use Rattle.text_laws.specs.Naming.{IsOfNoPort, RightRulesAreOfNoPort}
 use Rattle.text_laws.specs.Widths.{Each}
 use Rattle.text_laws.proofs.Fields.{each_append}

@@ -1,9 +1,11 @@
 -- Replies and lists of replies are told by their texts.
-use Rattle.std.proofs.Common.{◌≡◌, ℕ, zero, suc, ◌+◌, ◌*◌, ◌-◌, ◌/◌, ◌%◌, ◌^◌, ◌<◌, ◌≤◌, ◌==◌, Bool, true, false, cond, ◌&&◌, ◌||◌, not, nat_eq, nat_le, nat_lt, List, [], ◌∷◌, ◌++◌, append_assoc, append-nil, flat_map, codes, decimal, get_or, refl, sym, ap, ap₂, ◌∙◌, subst, arith}
-use Rattle.std.specs.Prelude.{Option, Some, None}
+use Rattle.std.proofs.Common.{◌≡◌, ℕ, zero, suc, ◌/◌, ◌%◌, ◌<◌, ◌==◌, Bool, true, false, cond, List, [], ◌∷◌, ◌++◌, append_assoc, flat_map, codes, decimal, refl, sym, ap, ◌∙◌, subst, arith}
 use Rattle.std.proofs.lemmas.Bool.Decides.{nat_tests}
 use Rattle.std.specs.Fmt.{digit_glyph, digits, digits_onto}
-use Rattle.events.specs.Lines.{Numbered}
+use Rattle.events.specs.After.{next as state_next}
+use Rattle.events.specs.Legal.{LegalFrom}
+use Rattle.events.specs.Lines.{Numbered, bare_events}
+use Rattle.events.specs.State.{State, first as first_state}
 use Rattle.events.specs.Text.{advert_text, drop_text, end_line, exchange_text, frame_text, head_text, reply_text, rule_line, tag_text, text}
 use Rattle.events.specs.declared.Event.{Event}
 use Rattle.events.specs.declared.Exchange.{Exchange as ArpExchange}
@@ -13,8 +15,8 @@ use Rattle.events.specs.declared.Head.{Head}
 use Rattle.events.specs.declared.Reply.{Reply}
 use Rattle.events.specs.declared.TagChange.{TagChange}
 use Rattle.net_types.specs.declared.rule.Pair.{Pair}
-use Rattle.text_laws.specs.Naming.{HasAsMany, WritableTextsNameReplies}
-use Rattle.text_laws.specs.Widths.{AreOctets, Each, IsExchange, IsFlow, IsFrame, IsPair, IsTagChange, IsWritable}
+use Rattle.text_laws.specs.Naming.{HasAsMany, TextsNameReplies, WritableTextsNameReplies}
+use Rattle.text_laws.specs.Widths.{AreOctets, IsExchange, IsFlow, IsFrame, IsPair, IsTagChange, IsWritable}
 use Rattle.text_laws.proofs.Alike.{Alike, Anything, behind, closed, is_hex, starts}
 use Rattle.text_laws.proofs.Heads.{heads}
 use Rattle.text_laws.proofs.Joined.{cons_is}
@@ -155,3 +157,12 @@ writable_texts_name_replies (n ∷ ns) (r ∷ rs) [] many also one two e = absur
 writable_texts_name_replies (n ∷ ns) (r ∷ rs) (q ∷ qs) many also one two e =
     let first = reply_told n.number n.event r q (text ns rs) (text ns qs) one.0 two.0 (text_part ns rs) (text_part ns qs) e in
     cons_is r q rs qs first.0 (writable_texts_name_replies ns rs qs many also one.1 two.1 first.1)
+
+legal_many : (s : State) (ns : List Numbered) (rs : List Reply) → LegalFrom s (bare_events ns) rs → HasAsMany ns rs
+legal_many s [] [] legal = tt
+legal_many s [] (r ∷ rs) legal = absurd legal
+legal_many s (n ∷ ns) [] legal = absurd legal
+legal_many s (n ∷ ns) (r ∷ rs) legal = legal_many (state_next s n.event r) ns rs legal.1
+
+pub texts_name_replies : TextsNameReplies
+texts_name_replies ns rs qs legal also = writable_texts_name_replies ns rs qs (legal_many first_state ns rs legal) (legal_many first_state ns qs also)

@@ -1,22 +1,18 @@
 -- Cubes, actions and rules are told by their texts.
-use Rattle.std.proofs.Common.{◌≡◌, ℕ, ◌+◌, ◌*◌, ◌-◌, ◌/◌, ◌%◌, ◌^◌, ◌<◌, ◌≤◌, Bool, true, false, cond, ◌&&◌, ◌||◌, not, nat_eq, nat_le, nat_lt, List, [], ◌∷◌, ◌++◌, append_assoc, append-nil, length, map, codes, decimal, get_or, refl, sym, ap, ap₂, ◌∙◌, subst, arith}
+use Rattle.std.proofs.Common.{◌≡◌, ℕ, ◌^◌, ◌<◌, ◌≤◌, Bool, true, false, cond, nat_eq, List, [], ◌∷◌, ◌++◌, append_assoc, append-nil, length, map, codes, decimal, get_or, refl, sym, ap, ap₂, ◌∙◌, subst, arith}
 use Rattle.std.specs.Prelude.{Option, Some, None}
 use Rattle.std.specs.List.{list_all}
-use Rattle.std.specs.Str.Parse.{AllDigits}
 use Rattle.std.proofs.lemmas.Bool.{and_parts}
-use Rattle.std.proofs.lemmas.Bool.Decides.{nat_tests}
 use Rattle.std.proofs.lemmas.List.{append_cancel_left}
 use Rattle.std.proofs.lemmas.Fmt.{decimal_is_IsNumeral}
-use Rattle.std.proofs.lemmas.Str.Parse.{digit_from_value}
 use Rattle.events.specs.Text.{action_text, address_field, address_text, cube_text, in_brackets, joined, number_field, or_none, or_star, prefix_field, prefix_text, rule_text}
 use Rattle.net_types.specs.declared.actions.Action.{Action}
 use Rattle.net_types.specs.declared.address.Ip.{Ip}
 use Rattle.net_types.specs.declared.address.PortNo.{PortNo}
 use Rattle.net_types.specs.declared.cube.Cube.{Cube}
-use Rattle.net_types.specs.declared.headers.Assign.{Assign}
 use Rattle.net_types.specs.declared.prefix.Prefix.{Prefix}
 use Rattle.net_types.specs.declared.rule.Rule.{Rule}
-use Rattle.text_laws.specs.Widths.{Each, IfThere, IsAction, IsAddress, IsCube, IsNumber, IsRule}
+use Rattle.text_laws.specs.Widths.{Each, IsAction, IsCube, IsRule}
 use Rattle.text_laws.proofs.Alike.{Alike, Begins, Nothing, Over, Stops, both, closed, decimals, digit_hex, gives, is_hex, next, over_append, over_decimal, over_more, starts, true_false}
 use Rattle.text_laws.proofs.Fields.{address_field_over, address_told, closed_is, dark_digit, each_append, is_dark, is_plain, number_over, number_told, plain_digit, prefix_field_over, prefix_told}
 use Rattle.text_laws.proofs.Joined.{IsField, cons_is, field_told, first_rank, list_told, rank_over}

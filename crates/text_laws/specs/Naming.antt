@@ -5,7 +5,8 @@ use Rattle.net_types.specs.declared.address.PortNo.{PortNo}
 use Rattle.net_types.specs.declared.cube.Cube.{Cube}
 use Rattle.net_types.specs.declared.route.Part.{Part}
 use Rattle.net_types.specs.declared.rule.Rule.{Rule}
-use Rattle.events.specs.Lines.{Numbered}
+use Rattle.events.specs.Legal.{Legal}
+use Rattle.events.specs.Lines.{Numbered, bare_events}
 use Rattle.events.specs.Sound.{IsRight}
 use Rattle.events.specs.State.{State, ArePassed}
 use Rattle.events.specs.Text.{text}
@@ -23,6 +24,11 @@ HasAsMany (n ∷ ns) [] = ⊥
 abbrev pub WritableTextsNameReplies : Type 0
 WritableTextsNameReplies =
     (ns : List Numbered) (rs qs : List Reply) → HasAsMany ns rs → HasAsMany ns qs → Each IsWritable rs → Each IsWritable qs → text ns rs ≡ text ns qs → rs ≡ qs
+
+-- so legal replies to given lines, of which each can be written, are named by their text
+abbrev pub TextsNameReplies : Type 0
+TextsNameReplies =
+    (ns : List Numbered) (rs qs : List Reply) → Legal (bare_events ns) rs → Legal (bare_events ns) qs → Each IsWritable rs → Each IsWritable qs → text ns rs ≡ text ns qs → rs ≡ qs
 
 -- a cube without an inport
 abbrev pub IsOfNoPort : Cube → Type 0

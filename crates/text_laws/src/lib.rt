@@ -2,12 +2,17 @@
 //! laws.
 #![tactic(auto)]
 
-ghost use Rattle.text_laws.specs.Naming.{RightRulesAreOfNoPort, WritableTextsNameReplies};
+ghost use Rattle.text_laws.specs.Naming.{RightRulesAreOfNoPort, TextsNameReplies, WritableTextsNameReplies};
 
 /// For given lines, two lists with a reply for each line and with the same text are the same list, where each number fits its
 /// type and no rule's cube is of a port.
 pub fn writable_texts_name_replies()
     ensures { WritableTextsNameReplies }
+{}
+
+/// So the text of legal replies names them.
+pub fn texts_name_replies()
+    ensures { TextsNameReplies }
 {}
 
 /// Where the policies passed isolation, the cubes of rules that are right for a part are of no port.
