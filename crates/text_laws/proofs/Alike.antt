@@ -83,9 +83,9 @@ Anything s = Unit {0}
 pub both : {P Q : Type 0} {E F : List ℕ → Type 0} {a b c d : List ℕ} → Alike E P a b → Alike F Q c d → ((s : List ℕ) → F s → E (c ++ s)) → ((s : List ℕ) → F s → E (d ++ s)) → Alike F (P × Q) (a ++ c) (b ++ d)
 both {a = a} {b = b} {c = c} {d = d} one two left right = record {
   is = λ s t ends stops e.
-    let first = one.is (c ++ s) (d ++ t) (left s ends) (right t stops) (sym (append_assoc a c s) ∙ e ∙ append_assoc b d t) in
-    let second = two.is s t ends stops first.1 in
-    ((first.0, second.0), second.1);
+      let first = one.is (c ++ s) (d ++ t) (left s ends) (right t stops) (sym (append_assoc a c s) ∙ e ∙ append_assoc b d t) in
+      let second = two.is s t ends stops first.1 in
+      ((first.0, second.0), second.1);
 }
 
 pub behind : {P : Type 0} {E : List ℕ → Type 0} {a b : List ℕ} (w : List ℕ) → Alike E P a b → Alike E P (w ++ a) (w ++ b)
@@ -97,8 +97,8 @@ behind {a = a} {b = b} w one = record {
 pub closed : {P : Type 0} {E : List ℕ → Type 0} {a b : List ℕ} (w : List ℕ) → ((s : List ℕ) → E (w ++ s)) → Alike E P a b → Alike Anything P (a ++ w) (b ++ w)
 closed {a = a} {b = b} w begins one = record {
   is = λ s t ends stops e.
-    let first = one.is (w ++ s) (w ++ t) (begins s) (begins t) (sym (append_assoc a w s) ∙ e ∙ append_assoc b w t) in
-    (first.0, append_cancel_left w s t first.1);
+      let first = one.is (w ++ s) (w ++ t) (begins s) (begins t) (sym (append_assoc a w s) ∙ e ∙ append_assoc b w t) in
+      (first.0, append_cancel_left w s t first.1);
 }
 
 -- and so a further text
@@ -114,6 +114,6 @@ digit_hex c low high = grind (arith, nat_tests)
 pub decimals : (m n : ℕ) → m < 2 ^ 64 → n < 2 ^ 64 → Alike Stops (m ≡ n) (decimal m) (decimal n)
 decimals m n low less = record {
   is = λ s t ends stops e.
-    let is = spans is_hex (decimal m) (decimal n) s t (over_decimal is_hex digit_hex m low) (over_decimal is_hex digit_hex n less) ends stops e in
-    (decimal_injective m n low less is.0, is.1);
+      let is = spans is_hex (decimal m) (decimal n) s t (over_decimal is_hex digit_hex m low) (over_decimal is_hex digit_hex n less) ends stops e in
+      (decimal_injective m n low less is.0, is.1);
 }

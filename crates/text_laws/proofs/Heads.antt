@@ -143,8 +143,8 @@ two_told w a b c d one two three four e = closed_is refl (next (closed (codes " 
 kinds : (k l : Kind) → Alike (Begins 32) (k ≡ l) (kind_word k) (kind_word l)
 kinds k l = record {
   is = λ s t ends stops e.
-    let is = spans is_dark (kind_word k) (kind_word l) s t (kind_dark k) (kind_dark l) (ap (starts is_dark) ends.1) (ap (starts is_dark) stops.1) e in
-    (sym (kind_back k) ∙ ap kind_of is.0 ∙ kind_back l, is.1);
+      let is = spans is_dark (kind_word k) (kind_word l) s t (kind_dark k) (kind_dark l) (ap (starts is_dark) ends.1) (ap (starts is_dark) stops.1) e in
+      (sym (kind_back k) ∙ ap kind_of is.0 ∙ kind_back l, is.1);
 }
 
 isolate_told : (k l : Kind) (a b c d : ℕ) → IsNumber a → IsNumber b → IsNumber c → IsNumber d → refusal_text (Isolate k a b) ≡ refusal_text (Isolate l c d) → Isolate k a b ≡ Isolate l c d
@@ -187,6 +187,6 @@ head_told h g one two e = absurd (omega (arith, ap mark e))
 pub heads : (h g : Head) → IsHead h → IsHead g → Alike (Begins 10) (h ≡ g) (head_text h) (head_text g)
 heads h g one two = record {
   is = λ s t ends stops e.
-    let is = spans is_inside (head_text h) (head_text g) s t (head_inside h one) (head_inside g two) (ap (starts is_inside) ends.1) (ap (starts is_inside) stops.1) e in
-    (head_told h g one two is.0, is.1);
+      let is = spans is_inside (head_text h) (head_text g) s t (head_inside h one) (head_inside g two) (ap (starts is_inside) ends.1) (ap (starts is_inside) stops.1) e in
+      (head_told h g one two is.0, is.1);
 }

@@ -85,6 +85,6 @@ hex_tells (x ∷ xs) (y ∷ ys) all also e =
 pub octets : (xs ys : List ℕ) → AreOctets xs → AreOctets ys → Alike Stops (xs ≡ ys) (hex_text xs) (hex_text ys)
 octets xs ys all also = record {
   is = λ s t ends stops e.
-    let is = spans is_hex (hex_text xs) (hex_text ys) s t (hex_over xs all) (hex_over ys also) ends stops e in
-    (hex_tells xs ys all also is.0, is.1);
+      let is = spans is_hex (hex_text xs) (hex_text ys) s t (hex_over xs all) (hex_over ys also) ends stops e in
+      (hex_tells xs ys all also is.0, is.1);
 }

@@ -135,10 +135,12 @@ moved_ends a b s t u v e f g = sym (ap (λ x. a ++ x) e) ∙ g ∙ ap (λ x. b +
 pub cubes : (c d : Cube) → IsCube c → IsCube d → c.inport ≡ None → d.inport ≡ None → Alike (Begins 32) (c ≡ d) (cube_text c) (cube_text d)
 cubes c d one two free also = record {
   is = λ s t ends stops e.
-    let told = stars_told (texts_of c) (texts_of d) ends.0 stops.0 (cube_over c one) (cube_over d two) (proper_fields (cube_fields c)) (proper_fields (cube_fields d)) (moved_ends (cube_text c) (cube_text d) s t (32 ∷ ends.0) (32 ∷ stops.0) ends.1 stops.1 e) in
-    let fields = fields_told (cube_fields c) (cube_fields d) told.0 in
-    (cube_is c d (free ∙ sym also) (prefix_told (codes "srcip") c.src d.src fields.0) (prefix_told (codes "dstip") c.dst d.dst fields.1) (number_told (codes "proto") c.proto d.proto one.proto two.proto fields.2)
-    (number_told (codes "srcport") c.sport d.sport one.sport two.sport fields.3) (number_told (codes "dstport") c.dport d.dport one.dport two.dport fields.4), ends.1 ∙ ap (λ x. 32 ∷ x) told.1 ∙ sym stops.1);
+      let told = stars_told (texts_of c) (texts_of d) ends.0 stops.0 (cube_over c one) (cube_over d two) (proper_fields (cube_fields c)) (proper_fields (cube_fields d)) (moved_ends (cube_text c) (cube_text d) s t (32 ∷ ends.0) (32 ∷ stops.0) ends.1 stops.1 e) in
+      let fields = fields_told (cube_fields c) (cube_fields d) told.0 in (
+        cube_is c d (free ∙ sym also) (prefix_told (codes "srcip") c.src d.src fields.0) (prefix_told (codes "dstip") c.dst d.dst fields.1) (number_told (codes "proto") c.proto d.proto one.proto two.proto fields.2)
+            (number_told (codes "srcport") c.sport d.sport one.sport two.sport fields.3) (number_told (codes "dstport") c.dport d.dport one.dport two.dport fields.4),
+        ends.1 ∙ ap (λ x. 32 ∷ x) told.1 ∙ sym stops.1,
+      );
 }
 
 -- ---- actions
@@ -255,8 +257,8 @@ actions_told (a ∷ ls) (b ∷ bs) s t each also e =
 actions_alike : (ls bs : List Action) → Each IsAction ls → Each IsAction bs → Alike (Begins 10) (ls ≡ bs) (or_none (map action_text ls)) (or_none (map action_text bs))
 actions_alike ls bs each also = record {
   is = λ s t ends stops e.
-    let told = actions_told ls bs ends.0 stops.0 each also (moved_ends (or_none (map action_text ls)) (or_none (map action_text bs)) s t (10 ∷ ends.0) (10 ∷ stops.0) ends.1 stops.1 e) in
-    (told.0, ends.1 ∙ ap (λ x. 10 ∷ x) told.1 ∙ sym stops.1);
+      let told = actions_told ls bs ends.0 stops.0 each also (moved_ends (or_none (map action_text ls)) (or_none (map action_text bs)) s t (10 ∷ ends.0) (10 ∷ stops.0) ends.1 stops.1 e) in
+      (told.0, ends.1 ∙ ap (λ x. 10 ∷ x) told.1 ∙ sym stops.1);
 }
 
 rule_is : (r q : Rule) → r.cube ≡ q.cube → r.actions ≡ q.actions → r ≡ q
