@@ -1,0 +1,5 @@
+use Rattle.text_laws.proofs.Replies.{texts_name_replies}
+use Rattle.text_laws.proofs.texts_name_replies.Goals as goal
+
+pub returns : goal.returns
+returns c = texts_name_replies
