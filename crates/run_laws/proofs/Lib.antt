@@ -3,3 +3,4 @@ pub mod Carried
 pub mod Passing
 pub mod Fitting
 pub mod Refusing
+pub mod Taking

@@ -3,6 +3,7 @@
 #![tactic(auto)]
 
 ghost use Rattle.run_laws.specs.Promises.{AdvertsFitMessages, PoliciesHavePassed, RefusalsChangeNothing};
+ghost use Rattle.run_laws.specs.Taking.{TakesTellTheFirst};
 
 /// After any legal run the texts of all policies are read as policies that passed isolation, and the routing has whom the
 /// outbound ones name.
@@ -19,4 +20,10 @@ pub fn adverts_fit_messages()
 /// none does, the line builds rules and the table would be full.
 pub fn refusals_change_nothing()
     ensures { RefusalsChangeNothing }
+{}
+
+/// After any legal run `take` tells a participant of the first pending prefixes, as many as it says, and `drain` of all: what is
+/// present of them, and of no other. The adverts are those of these prefixes, in order.
+pub fn takes_tell_the_first()
+    ensures { TakesTellTheFirst }
 {}
