@@ -4,3 +4,5 @@ pub mod Passing
 pub mod Fitting
 pub mod Refusing
 pub mod Taking
+pub mod Answering
+pub mod Sharing

@@ -3,6 +3,7 @@
 #![tactic(auto)]
 
 ghost use Rattle.run_laws.specs.Promises.{AdvertsFitMessages, PoliciesHavePassed, RefusalsChangeNothing};
+ghost use Rattle.run_laws.specs.Sharing.{FreshTagsWereDead, SharedTagsShareSignatures};
 ghost use Rattle.run_laws.specs.Taking.{TakesTellTheFirst};
 
 /// After any legal run the texts of all policies are read as policies that passed isolation, and the routing has whom the
@@ -26,4 +27,16 @@ pub fn refusals_change_nothing()
 /// present of them, and of no other. The adverts are those of these prefixes, in order.
 pub fn takes_tell_the_first()
     ensures { TakesTellTheFirst }
+{}
+
+/// After any legal run a reply that fits gives a prefix no tag that was live, but for a job's end, which gives one that a
+/// carried prefix with the same signature had.
+pub fn fresh_tags_were_dead()
+    ensures { FreshTagsWereDead }
+{}
+
+/// After any legal run prefixes that share a tag have the same signature; just after a job has ended, carried prefixes with
+/// the same signature share a tag too.
+pub fn shared_tags_share_signatures()
+    ensures { SharedTagsShareSignatures }
 {}
