@@ -6,3 +6,4 @@ pub mod Refusing
 pub mod Taking
 pub mod Answering
 pub mod Sharing
+pub mod Giving

@@ -39,11 +39,11 @@ use Rattle.run_laws.specs.Sharing.{AlikeShare, FreshTagsWereDead, HasLike, IsGiv
 -- ---- changes of tags
 
 -- a prefix has another tag now, or none any more
-record IsChange (old new : FinMap prefix_cmp Tag) (c : TagChange) : Type 0 where
-  now : get new c.prefix ≡ c.tag
-  differs : ¬ get old c.prefix ≡ c.tag
+pub record IsChange (old new : FinMap prefix_cmp Tag) (c : TagChange) : Type 0 where
+  pub now : get new c.prefix ≡ c.tag
+  pub differs : ¬ get old c.prefix ≡ c.tag
 
-change_of : (old new : FinMap prefix_cmp Tag) (c : TagChange) → Member c (tag_changes old new) → IsChange old new c
+pub change_of : (old new : FinMap prefix_cmp Tag) (c : TagChange) → Member c (tag_changes old new) → IsChange old new c
 change_of old new c m =
     let test : Prefix → Bool = λ p. not (same_option same_tag (get old p) (get new p)) in
     let from = map-Member (λ p. let x : TagChange = record { prefix = p; tag = get new p } in x) (filter test (ordered prefix_cmp _)) c m in
@@ -71,17 +71,17 @@ some_cond true o x e = e
 some_cond false o x e = cc
 
 -- a member of what a function gives of some, with what it comes from
-record IsGivenBy {A B : Type 0} (f : A → Option B) (xs : List A) (y : B) : Type 0 where
-  source : A
-  stands : Member source xs
-  is : f source ≡ Some y
+pub record IsGivenBy {A B : Type 0} (f : A → Option B) (xs : List A) (y : B) : Type 0 where
+  pub source : A
+  pub stands : Member source xs
+  pub is : f source ≡ Some y
 
 given_case : {A B : Type 0} (f : A → Option B) (x : A) (xs : List A) (y : B) (o : Option B) → f x ≡ o → Member y (cons_option o (filter_map f xs)) → (Member y (filter_map f xs) → IsGivenBy f xs y) → IsGivenBy f (x ∷ xs) y
 given_case f x xs y None e m later = let from = later m in record { source = from.source; stands = inr from.stands; is = from.is }
 given_case f x xs y (Some z) e (inl same) later = record { source = x; stands = inl refl; is = e ∙ ap Some (sym same) }
 given_case f x xs y (Some z) e (inr m) later = let from = later m in record { source = from.source; stands = inr from.stands; is = from.is }
 
-given_by : {A B : Type 0} (f : A → Option B) (xs : List A) (y : B) → Member y (filter_map f xs) → IsGivenBy f xs y
+pub given_by : {A B : Type 0} (f : A → Option B) (xs : List A) (y : B) → Member y (filter_map f xs) → IsGivenBy f xs y
 given_by f [] y m = elim m [ ]
 given_by f (x ∷ xs) y m = given_case f x xs y (f x) refl m (given_by f xs y)
 

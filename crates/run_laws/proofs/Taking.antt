@@ -37,7 +37,7 @@ use Rattle.run_laws.specs.Taking.{TakesTellTheFirst, TellsOf}
 -- ---- a map with news
 
 -- the entries that a participant is told, or could be
-abbrev Entries : Type 0
+abbrev pub Entries : Type 0
 Entries = FinMap prefix_cmp Entry
 
 -- what is put in or taken out at a prefix
@@ -59,7 +59,7 @@ either_news false true x y = refl
 either_news false false x y = refl
 
 -- at the prefixes of the list it has what is known, and elsewhere what it had
-all_news_at : (known told : Entries) (ps : List Prefix) (p : Prefix) → get (with_all_news known told ps) p ≡ cond (list_any (eq_by_cmp prefix_cmp p) ps) (get known p) (get told p)
+pub all_news_at : (known told : Entries) (ps : List Prefix) (p : Prefix) → get (with_all_news known told ps) p ≡ cond (list_any (eq_by_cmp prefix_cmp p) ps) (get known p) (get told p)
 all_news_at known told [] p = refl
 all_news_at known told (q ∷ ps) p =
     all_news_at known (with_news told q (get known q)) ps p
@@ -84,7 +84,7 @@ entry_itself e = and_from (same_tag e.tag e.tag) (same_attrs e.attrs e.attrs) (n
 entry_test : IsEqualityTest same_entry
 entry_test = from_itself same_entry entries_equal entry_itself
 
-listed : (m : Entries) (p : Prefix) → is_some (get m p) ≡ true → Member p (keys m)
+pub listed : (m : Entries) (p : Prefix) → is_some (get m p) ≡ true → Member p (keys m)
 listed m p there = any_member prefix_cmp prefixes_total prefix_tie p (keys m) (sym (contains_key-keys m p) ∙ there)
 
 none_there : {A : Type 0} (o : Option A) → (is_some o ≡ true → ⊥) → o ≡ None
