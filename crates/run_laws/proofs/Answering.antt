@@ -215,7 +215,6 @@ worked_kind true s units owed r known more is =
     by : (b : Bool) → b ≡ true → (cond b (running (record s { owed = Some (owed - units) })) (merged s)).tag ≡ s.tag
     by true few = refl
     by false few = absurd (cc)
-
 worked_kind false s units owed r known few is =
     let leaves = ended s units owed r known few is.head in
     inr (inr (record { head = is.head; tags = is.tags ∙ ap (λ (x : State). tag_changes s.tag x.tag) leaves; leaves = leaves }))

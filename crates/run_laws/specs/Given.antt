@@ -1,28 +1,25 @@
--- What a stale tag may still do: it reaches only participants that exported the prefix when the tag was given (this exchange's
--- own rule).
-use Rattle.std.specs.Prelude.{◌≡◌, ℕ, Bool, ◌&&◌, true, if◌then◌else◌, List, [], ◌∷◌, Option, Some, None, MatchOption}
-use Rattle.std.specs.FinMap.{get, keys}
+-- The state in which a prefix was given a tag, and what is kept of it under that tag (this exchange's own rule).
+use Rattle.std.specs.Prelude.{◌≡◌, ◌⊎◌, Bool, ◌&&◌, true, if◌then◌else◌, List, [], ◌∷◌, Option, Some, None}
+use Rattle.std.specs.FinMap.{get}
 use Rattle.std.specs.List.{list_any}
 use Rattle.events.specs.After.{next}
-use Rattle.events.specs.Fits.{Fits, destination}
 use Rattle.events.specs.Legal.{Legal, state_after}
-use Rattle.events.specs.Refusals.{refusal}
-use Rattle.events.specs.State.{State, first, port_of, told_to}
+use Rattle.events.specs.Sound.{part_of}
+use Rattle.events.specs.State.{State, first, told_to}
 use Rattle.events.specs.Tags.{same_tag}
 use Rattle.events.specs.declared.Entry.{Entry}
 use Rattle.events.specs.declared.Event.{Event}
-use Rattle.events.specs.declared.Event.TheVariants.{Packet}
-use Rattle.events.specs.declared.Frame.{Frame}
 use Rattle.events.specs.declared.Reply.{Reply}
 use Rattle.events.specs.declared.TagChange.{TagChange}
+use Rattle.net_types.specs.Answers.{is_offered}
 use Rattle.net_types.specs.Attributes.{same_option}
 use Rattle.net_types.specs.Exports.{exports, same_prefix}
-use Rattle.net_types.specs.Routes.{longest_of}
 use Rattle.net_types.specs.Sets.{Member}
-use Rattle.net_types.specs.declared.address.PortNo.{PortNo}
+use Rattle.net_types.specs.declared.address.Pid.{Pid}
 use Rattle.net_types.specs.declared.address.Tag.{Tag}
 use Rattle.net_types.specs.declared.prefix.Prefix.{Prefix}
-use Rattle.net_types.specs.declared.route.PortInfo.{PortInfo}
+use Rattle.net_types.specs.declared.route.Offer.{Offer}
+use Rattle.net_types.specs.declared.route.Part.{Part}
 
 -- a reply says that the prefix is given the tag
 abbrev pub gives : Reply → Prefix → Tag → Bool
@@ -38,17 +35,24 @@ given_from p t last s (e ∷ es) (r ∷ rs) = given_from p t (if gives r p t the
 abbrev pub given_at : List Event → List Reply → Prefix → Tag → Option State
 given_at es rs p t = given_from p t None first es rs
 
--- each frame leaves by a port of a participant that exported the prefix to the sender in the state in which it got the tag
-abbrev pub ReachesThoseOf : State → Option State → PortInfo → Prefix → Reply → Type 0
-ReachesThoseOf s given q p r =
-    MatchOption given ⊥ (λ g. (frame : Frame) → Member frame r.frames → MatchOption (port_of s frame.port) ⊥ (λ to. exports g.routing to.owner q.owner p ≡ true))
+-- In that state each participant that a sender's part offers exported the prefix to it, and the best one is among the offers.
+pub record OffersExporters (given : State) (sender : Pid) (p : Prefix) (part : Part) : Type 0 where
+  pub offered : is_offered part.offers part.best ≡ true
+  pub exporters : (o : Offer) → Member o part.offers → exports given.routing o.exporter sender p ≡ true
 
--- after any legal run this holds of each datagram, for the longest prefix that its sender was told, whatever tag that prefix
--- has by now
-abbrev pub StaleTagsReachExporters : Type 0
-StaleTagsReachExporters =
-    (es : List Event) (rs : List Reply) → Legal es rs → (port : PortNo) (bytes : List ℕ) (r : Reply) (q : PortInfo) (p : Prefix) (told : Entry)
-    → refusal (state_after es rs) (Packet port bytes) ≡ None → Fits (state_after es rs) (Packet port bytes) r
-    → port_of (state_after es rs) port ≡ Some q → longest_of (keys (told_to (state_after es rs) q.owner)) (destination bytes) ≡ Some p
-    → get (told_to (state_after es rs) q.owner) p ≡ Some told
-    → ReachesThoseOf (state_after es rs) (given_at es rs p told.tag) q p r
+-- the prefix has the tag, or the participant was told it of the prefix
+abbrev pub IsHeld : State → Pid → Prefix → Tag → Type 0
+IsHeld s who p t = (get s.tag p ≡ Some t) ⊎ ((entry : Entry) × (get (told_to s who) p ≡ Some entry) × (entry.tag ≡ t))
+
+-- there is such a state, and what is kept of a sender's part under the tag offers exporters of that state alone
+pub record IsGivenIn (given : Option State) (s : State) (who : Pid) (p : Prefix) (t : Tag) : Type 0 where
+  pub state : State
+  pub is : given ≡ Some state
+  pub parts : (sig : List Part) (part : Part) → get s.kept t ≡ Some sig → part_of sig who ≡ Some part → OffersExporters state who p part
+
+-- After any legal run each tag that a prefix has, or that a participant was told of it and may hold though it is stale, was
+-- given by some line before. What is kept under the tag offers the participant only exporters of the state just after it.
+abbrev pub KeptOffersWereExported : Type 0
+KeptOffersWereExported =
+    (es : List Event) (rs : List Reply) → Legal es rs → (who : Pid) (p : Prefix) (t : Tag) → IsHeld (state_after es rs) who p t
+    → IsGivenIn (given_at es rs p t) (state_after es rs) who p t

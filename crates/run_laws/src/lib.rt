@@ -2,6 +2,7 @@
 //! have empty bodies, and their contracts are the laws.
 #![tactic(auto)]
 
+ghost use Rattle.run_laws.specs.Given.{KeptOffersWereExported};
 ghost use Rattle.run_laws.specs.Promises.{AdvertsFitMessages, PoliciesHavePassed, RefusalsChangeNothing};
 ghost use Rattle.run_laws.specs.Sharing.{FreshTagsWereDead, SharedTagsShareSignatures};
 ghost use Rattle.run_laws.specs.Taking.{TakesTellTheFirst};
@@ -39,4 +40,10 @@ pub fn fresh_tags_were_dead()
 /// the same signature share a tag too.
 pub fn shared_tags_share_signatures()
     ensures { SharedTagsShareSignatures }
+{}
+
+/// After any legal run what is kept under a tag, fresh or stale, offers a participant only such others as exported the prefix to
+/// it in the state just after the last line that gave the prefix the tag.
+pub fn kept_offers_were_exported()
+    ensures { KeptOffersWereExported }
 {}
