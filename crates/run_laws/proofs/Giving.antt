@@ -132,9 +132,6 @@ narrower_yet a b c ab bc = record { best = ab.best ∙ bc.best; offers = λ o m.
 trimmed_narrower : (who : Pid) (named : List Pid) (x : Part) → IsNarrower (trimmed_part who named x) x
 trimmed_narrower who named x = by (nat_eq x.sender.0 who.0)
   where
-    test : Offer → Bool
-    test o = counts named x.best o.exporter
-
     by : (b : Bool) → IsNarrower (cond b (record x { offers = filter (λ (o : Offer). counts named x.best o.exporter) x.offers }) x) x
     by false = as_wide x
     by true = record {
@@ -204,9 +201,6 @@ retagged_leaves s r = record { told = λ who p entry is. inl is; kept = λ t sig
 outbound_leaves : (s : State) (who : Pid) (text : List ℕ) (named : List Pid) (s1 : State) → Leaves (with_outbound s who text named) s1 → Leaves s s1
 outbound_leaves s who text named s1 is = record { told = is.told; kept = λ t sig live e. from t sig (is.kept t sig live e) }
   where
-    trims : Tag → Option (List Part)
-    trims t = option_map (trimmed who named) (get s.kept t)
-
     mapped : {A : Type 0} (f : A → A) (o : Option A) (y : A) → option_map f o ≡ Some y → (x : A) × (o ≡ Some x) × (f x ≡ y)
     mapped f None y e = absurd (cc)
     mapped f (Some x) y e = (x, refl, ap (λ o. unwrap_or o y) e)
