@@ -3,3 +3,7 @@ pub mod Carried
 pub mod Passing
 pub mod Fitting
 pub mod Refusing
+pub mod Taking
+pub mod Answering
+pub mod Sharing
+pub mod Giving

@@ -1,1 +1,4 @@
+pub mod Given
 pub mod Promises
+pub mod Sharing
+pub mod Taking

@@ -2,7 +2,10 @@
 //! have empty bodies, and their contracts are the laws.
 #![tactic(auto)]
 
+ghost use Rattle.run_laws.specs.Given.{KeptOffersWereExported};
 ghost use Rattle.run_laws.specs.Promises.{AdvertsFitMessages, PoliciesHavePassed, RefusalsChangeNothing};
+ghost use Rattle.run_laws.specs.Sharing.{FreshTagsWereDead, SharedTagsShareSignatures};
+ghost use Rattle.run_laws.specs.Taking.{TakesTellTheFirst};
 
 /// After any legal run the texts of all policies are read as policies that passed isolation, and the routing has whom the
 /// outbound ones name.
@@ -19,4 +22,28 @@ pub fn adverts_fit_messages()
 /// none does, the line builds rules and the table would be full.
 pub fn refusals_change_nothing()
     ensures { RefusalsChangeNothing }
+{}
+
+/// After any legal run `take` tells a participant of the first pending prefixes, as many as it says, and `drain` of all: what is
+/// present of them, and of no other. The adverts are those of these prefixes, in order.
+pub fn takes_tell_the_first()
+    ensures { TakesTellTheFirst }
+{}
+
+/// After any legal run a reply that fits gives a prefix no tag that was live, but for a job's end, which gives one that a
+/// carried prefix with the same signature had.
+pub fn fresh_tags_were_dead()
+    ensures { FreshTagsWereDead }
+{}
+
+/// After any legal run prefixes that share a tag have the same signature; just after a job has ended, carried prefixes with
+/// the same signature share a tag too.
+pub fn shared_tags_share_signatures()
+    ensures { SharedTagsShareSignatures }
+{}
+
+/// After any legal run what is kept under a tag, fresh or stale, offers a participant only such others as exported the prefix to
+/// it in the state just after the last line that gave the prefix the tag.
+pub fn kept_offers_were_exported()
+    ensures { KeptOffersWereExported }
 {}
