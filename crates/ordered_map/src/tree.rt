@@ -1,0 +1,52 @@
+//! A tree of entries whose keys rise from left to right, one box an entry.
+
+ghost use Rattle.std.specs.Prelude.{◌≡◌, ◌≤◌, ◌<◌, ◌+◌, None, IsTrue, option_copied, is_some, if◌then◌else◌};
+ghost use Rattle.std.specs.FinMap.Entries.{find, put, is_sorted};
+ghost use Rattle.ordered_map.specs.Entries.{entries_of, without};
+
+use std::cmp::Ordering;
+
+#[cycle(tree)]
+#[derive(Drop)]
+pub(crate) enum Tree<K, V> {
+    Empty,
+    Fork(Box<Node<K, V>>),
+}
+
+/// An entry between two trees, or nothing: a box that waits for an entry.
+#[cycle(tree)]
+#[derive(Drop)]
+pub(crate) enum Node<K, V> {
+    Blank,
+    Full {
+        left: Tree<K, V>,
+        key: K,
+        value: V,
+        height: u8,
+        right: Tree<K, V>,
+    },
+}
+
+/// The value of a key, where it has one.
+pub(crate) fn value_of<'a, K: Ord, V>(tree: &'a Tree<K, V>, key: &K) -> Option<&'a V>
+    requires rising { IsTrue (is_sorted K.cmp (entries_of tree.now)) }
+    ensures { option_copied result ≡ find K.cmp key.now (entries_of tree.now) }
+{
+    match tree {
+        Tree::Empty => None,
+        Tree::Fork(node) => match &**node {
+            Node::Blank => None,
+            Node::Full {
+                left,
+                key: held,
+                value,
+                height: _,
+                right,
+            } => match key.cmp(held) {
+                Ordering::Less => value_of(left, key),
+                Ordering::Equal => Some(value),
+                Ordering::Greater => value_of(right, key),
+            },
+        },
+    }
+}
