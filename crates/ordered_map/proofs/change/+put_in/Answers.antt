@@ -1,4 +1,5 @@
-use Rattle.std.proofs.Common.{◌≡◌, ◌∷◌, ◌++◌, sym, ap, ◌∙◌, rules, arith, IsTrue}
+use Rattle.std.proofs.Common.{◌≡◌, ◌∷◌, ◌++◌, sym, ap, ◌∙◌, rules, arith, IsTrue, None, ◌<◌}
+use Rattle.std.specs.Vec.{vec_len}
 use Rattle.std.specs.FinMap.Entries.{find, put, is_sorted}
 use Rattle.ordered_map.specs.Entries.{entries_of, node_entries, without, above, first_of}
 use Rattle.ordered_map.proofs.SplitLemmas.{left_shorter, right_shorter, left_of, here_at, right_of}
@@ -11,7 +12,7 @@ put_in-before-requires g t c κs within =
     let rising : IsTrue (is_sorted g.K.Ord.cmp (entries_of c.in-Full.left)) = split.rising in
     let shorter = left_shorter _ _ _ _ whole in
     let same = ap (find g.K.Ord.cmp c.args.key) whole ∙ split.find_is in
-    let room = λ none. c.requires.room (same ∙ none) in
+    let room : find g.K.Ord.cmp c.args.key (entries_of c.in-Full.left) ≡ None → 0 < vec_len c.args.spare.now = λ none. c.requires.room (same ∙ none) in
     search rules
 
 pub put_in-before-requires-in-Greater : goal.put_in-before-requires-in-Greater
@@ -21,7 +22,7 @@ put_in-before-requires-in-Greater g t c κs within =
     let rising : IsTrue (is_sorted g.K.Ord.cmp (entries_of c.in-Full.right)) = split.rising in
     let shorter = right_shorter _ _ _ _ whole in
     let same = ap (find g.K.Ord.cmp c.args.key) whole ∙ split.find_is in
-    let room = λ none. c.requires.room (same ∙ none) in
+    let room : find g.K.Ord.cmp c.args.key (entries_of c.in-Full.right) ≡ None → 0 < vec_len c.args.spare.now = λ none. c.requires.room (same ∙ none) in
     search rules
 
 pub returns-in-Less-clause-value : goal.returns-in-Less-clause-value
