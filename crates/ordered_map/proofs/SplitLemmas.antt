@@ -9,16 +9,16 @@ use Rattle.std.specs.FinMap.Entries.{find, put, is_sorted, below_all, by_order}
 use Rattle.std.proofs.lemmas.Bool.{and_parts}
 use Rattle.ordered_map.specs.Entries.{without, above}
 
-less : (r : Ordering) → is_lt r ≡ true → r ≡ Less
+pub less : (r : Ordering) → is_lt r ≡ true → r ≡ Less
 less Less e = refl
 less Equal e = cc
 less Greater e = cc
 
-both : (a b : Bool) → a ≡ true → b ≡ true → (a && b) ≡ true
+pub both : (a b : Bool) → a ≡ true → b ≡ true → (a && b) ≡ true
 both true b p q = q
 both false b p q = cc
 
-turned : {K : Type 0} {R : K → K → Ordering} (o : IsTotalOrder R) (x y : K) (r : Ordering) → R x y ≡ r → R y x ≡ ordering_reverse r
+pub turned : {K : Type 0} {R : K → K → Ordering} (o : IsTotalOrder R) (x y : K) (r : Ordering) → R x y ≡ r → R y x ≡ ordering_reverse r
 turned o x y r e = o.antisymm y x ∙ ap ordering_reverse e
 
 module _ {K X : Type 0} (R : K → K → Ordering) where
@@ -126,7 +126,7 @@ module _ {K X : Type 0} (R : K → K → Ordering) where
         | false ↦ ap (λ es. e ∷ es) (without_before q l m h)
       ]
 
-  above_before : (q : K) (l m : List (K × X)) → below_all R q m ≡ true → above R q (l ++ m) ≡ above R q l ++ m
+  pub above_before : (q : K) (l m : List (K × X)) → below_all R q m ≡ true → above R q (l ++ m) ≡ above R q l ++ m
   above_before q [] [] h = refl
   above_before q [] (e ∷ m) h =
       let parts = and_parts (is_lt (R q e.0)) (below_all R q m) h in
@@ -152,7 +152,7 @@ module _ {K X : Type 0} (R : K → K → Ordering) where
         let parts = and_parts (below_all R f.0 (l ++ e ∷ r)) (is_sorted R (l ++ e ∷ r)) h in
         (o.congr q e.0 f.0 tie ∙ turned o f.0 e.0 Less (below_entry f.0 l e r parts.0), past_tied q l e r parts.1 tie)
 
-    below_smaller : (q x : K) (es : List (K × X)) → R q x ≡ Less → below_all R x es ≡ true → below_all R q es ≡ true
+    pub below_smaller : (q x : K) (es : List (K × X)) → R q x ≡ Less → below_all R x es ≡ true → below_all R q es ≡ true
     below_smaller q x [] low h = refl
     below_smaller q x (e ∷ es) low h =
         let parts = and_parts (is_lt (R x e.0)) (below_all R x es) h in

@@ -26,9 +26,9 @@ abbrev pub above : {K V : Type 0} → (K → K → Ordering) → K → List (K �
 above R q es = where_key R (λ x. is_lt (R q x)) es
 
 -- the first of a list
-abbrev pub first_of : {A : Type 0} → List A → Option A
-first_of [] = None
-first_of (x ∷ xs) = Some x
+abbrev pub head_of : {A : Type 0} → List A → Option A
+head_of [] = None
+head_of (x ∷ xs) = Some x
 
 -- ---- the entry of a tree's root, and the others
 abbrev value_here : {K V : Type 0} → Node K V → Option V

@@ -2,9 +2,10 @@
 
 ghost use Rattle.std.specs.Prelude.{◌≡◌, IsTrue, length};
 ghost use Rattle.std.specs.Iterator.{at_most};
+ghost use Rattle.std.specs.Option.{option_map};
 ghost use Rattle.std.specs.Map.Iter.{TakesFirst, deref_pair};
 ghost use Rattle.std.specs.FinMap.Entries.{is_sorted};
-ghost use Rattle.ordered_map.specs.Entries.{entries_of};
+ghost use Rattle.ordered_map.specs.Entries.{entries_of, head_of};
 
 use crate::tree::{Tree, first, next_after};
 use std::marker::Model;
@@ -36,6 +37,15 @@ impl<'a, K: Ord, V> Iter<'a, K, V> {
     {
         Iter { tree, last: None }
     }
+
+    fn ahead(&self) -> Option<(&'a K, &'a V)>
+        ensures { option_map deref_pair result ≡ head_of self.now }
+    {
+        match self.last {
+            None => first(self.tree),
+            Some(last) => next_after(self.tree, last),
+        }
+    }
 }
 
 impl<'a, K: Ord, V> Iterator for Iter<'a, K, V> {
@@ -46,10 +56,7 @@ impl<'a, K: Ord, V> Iterator for Iter<'a, K, V> {
     ghost remaining = { λ left. at_most (length left) };
 
     fn next(&mut self) -> Option<(&'a K, &'a V)> {
-        let (key, value) = match self.last {
-            None => first(self.tree)?,
-            Some(last) => next_after(self.tree, last)?,
-        };
+        let (key, value) = self.ahead()?;
         self.last = Some(key);
         Some((key, value))
     }

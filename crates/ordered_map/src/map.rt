@@ -4,7 +4,7 @@ ghost use Rattle.std.specs.Prelude.{◌≡◌, ◌≤◌, ◌<◌, ◌+◌, [], 
 ghost use Rattle.std.specs.Option.{option_map};
 ghost use Rattle.std.specs.Map.Iter.{deref_pair};
 ghost use Rattle.std.specs.FinMap.Entries.{find, put, is_sorted};
-ghost use Rattle.ordered_map.specs.Entries.{without, above, first_of};
+ghost use Rattle.ordered_map.specs.Entries.{without, above, head_of};
 
 use crate::change::{put_in, take_from};
 use crate::iter::Iter;
@@ -42,7 +42,8 @@ impl<K: Ord, V> Model for OrderedMap<K, V> {
 impl<K: Ord, V> OrderedMap<K, V> {
     /// The empty map.
     pub fn new(alloc: Global) -> OrderedMap<K, V>
-        ensures { result.entries ≡ [] }
+        ensures entries { result.entries ≡ [] }
+        ensures rising { IsTrue (is_sorted K.cmp result.entries) }
     {
         OrderedMap {
             alloc,
@@ -68,14 +69,14 @@ impl<K: Ord, V> OrderedMap<K, V> {
 
     /// The entry with the least key.
     pub fn first(&self) -> Option<(&K, &V)>
-        ensures { option_map deref_pair result ≡ first_of self.now.entries }
+        ensures { option_map deref_pair result ≡ head_of self.now.entries }
     {
         first(&self.tree)
     }
 
     /// The entry with the least key above this one. The key itself need not have a value.
     pub fn next_after(&self, key: &K) -> Option<(&K, &V)>
-        ensures { option_map deref_pair result ≡ first_of (above K.cmp key.now self.now.entries) }
+        ensures { option_map deref_pair result ≡ head_of (above K.cmp key.now self.now.entries) }
     {
         next_after(&self.tree, key)
     }
@@ -92,6 +93,7 @@ impl<K: Ord + Drop, V: Drop> OrderedMap<K, V> {
     /// Makes room for so many new keys. It takes memory only where there is less.
     pub fn reserve(&mut self, keys: usize) -> Result<(), AllocError>
         ensures entries { self.new.entries ≡ self.old.entries }
+        ensures rising { IsTrue (is_sorted K.cmp self.new.entries) }
         ensures room { OnOk result (keys ≤ self.new.room) }
         ensures kept { self.old.room ≤ self.new.room }
         ensures enough { keys ≤ self.old.room → IsOk result }

@@ -1,6 +1,6 @@
 //! Boxes that wait for entries.
 
-ghost use Rattle.std.specs.Prelude.{◌≡◌, ◌≤◌, ◌<◌, ◌+◌, ◌∷◌, [], OnOk};
+ghost use Rattle.std.specs.Prelude.{◌≡◌, ◌≤◌, ◌<◌, ◌+◌, ◌∷◌, [], OnOk, IsOk, max};
 ghost use Rattle.std.specs.Vec.{vec_len, vec_capacity};
 ghost use Rattle.ordered_map.specs.Entries.{node_entries};
 
@@ -14,8 +14,10 @@ pub(crate) fn fill<K: Drop, V: Drop>(
     spare: &mut Vec<Box<Node<K, V>>>,
     boxes: usize,
 ) -> Result<(), AllocError>
-    ensures enough { OnOk result (boxes ≤ vec_len spare.new) }
+    ensures filled { OnOk result (boxes ≤ vec_len spare.new) }
     ensures kept { vec_len spare.old ≤ vec_len spare.new }
+    ensures bound { vec_len spare.new ≤ max (vec_len spare.old) boxes }
+    ensures enough { boxes ≤ vec_len spare.old → IsOk result }
 {
     while spare.len() < boxes {
         let blank = Box::new(alloc, Node::Blank)?;

@@ -4,7 +4,7 @@ ghost use Rattle.std.specs.Prelude.{◌≡◌, IsTrue, option_copied};
 ghost use Rattle.std.specs.Option.{option_map};
 ghost use Rattle.std.specs.Map.Iter.{deref_pair};
 ghost use Rattle.std.specs.FinMap.Entries.{find, is_sorted};
-ghost use Rattle.ordered_map.specs.Entries.{entries_of, above, first_of};
+ghost use Rattle.ordered_map.specs.Entries.{entries_of, above, head_of};
 
 use std::cmp::Ordering;
 
@@ -55,7 +55,7 @@ pub(crate) fn value_of<'a, K: Ord, V>(tree: &'a Tree<K, V>, key: &K) -> Option<&
 
 /// The entry with the least key.
 pub(crate) fn first<K, V>(tree: &Tree<K, V>) -> Option<(&K, &V)>
-    ensures { option_map deref_pair result ≡ first_of (entries_of tree.now) }
+    ensures { option_map deref_pair result ≡ head_of (entries_of tree.now) }
 {
     match tree {
         Tree::Empty => None,
@@ -81,7 +81,7 @@ pub(crate) fn next_after<'a, K: Ord, V>(
     key: &K,
 ) -> Option<(&'a K, &'a V)>
     requires rising { IsTrue (is_sorted K.cmp (entries_of tree.now)) }
-    ensures { option_map deref_pair result ≡ first_of (above K.cmp key.now (entries_of tree.now)) }
+    ensures { option_map deref_pair result ≡ head_of (above K.cmp key.now (entries_of tree.now)) }
 {
     match tree {
         Tree::Empty => None,
