@@ -185,11 +185,11 @@ module _ {K X : Type 0} (R : K → K → Ordering) where
           find_is = find_past q l (e ∷ r) past ∙ ap (λ s. cond (is_eq s) (Some e.1) (find R q r)) tie;
           put_is = λ v. put_past q v l (e ∷ r) past ∙ ap (λ s. l ++ by_order s ((q, v) ∷ e ∷ r) ((e.0, v) ∷ r) (e ∷ put R q v r)) tie;
           without_is = without_past q l (e ∷ r) past
-            ∙ ap (λ s. l ++ cond (not (is_eq s)) (e ∷ without R q r) (without R q r)) tie
-            ∙ ap (λ es. l ++ es) (without_before q [] r below);
+              ∙ ap (λ s. l ++ cond (not (is_eq s)) (e ∷ without R q r) (without R q r)) tie
+              ∙ ap (λ es. l ++ es) (without_before q [] r below);
           above_is = above_past q l (e ∷ r) past
-            ∙ ap (λ s. cond (is_lt s) (e ∷ above R q r) (above R q r)) tie
-            ∙ above_before q [] r below;
+              ∙ ap (λ s. cond (is_lt s) (e ∷ above R q r) (above R q r)) tie
+              ∙ above_before q [] r below;
         }
 
     pub right_of : (q : K) (l : List (K × X)) (e : K × X) (r : List (K × X)) → is_sorted R (l ++ e ∷ r) ≡ true → R q e.0 ≡ Greater → IsRight q l e r

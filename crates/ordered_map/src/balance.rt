@@ -27,12 +27,7 @@ fn height_above<K, V>(left: &Tree<K, V>, right: &Tree<K, V>) -> u8 {
 }
 
 /// The node of an entry between two trees.
-pub(crate) fn full<K, V>(
-    left: Tree<K, V>,
-    key: K,
-    value: V,
-    right: Tree<K, V>,
-) -> Node<K, V>
+pub(crate) fn full<K, V>(left: Tree<K, V>, key: K, value: V, right: Tree<K, V>) -> Node<K, V>
     ensures { node_entries result ≡ entries_of left ++ (key, value) ∷ entries_of right }
 {
     let height = height_above(&left, &right);
@@ -49,7 +44,7 @@ pub(crate) fn full<K, V>(
 pub(crate) fn rebalance<K: Drop, V: Drop>(node: &mut Node<K, V>)
     ensures { node_entries node.new ≡ node_entries node.old }
 {
-    match lean_of(node) {
+    match lean_by(node, 1) {
         Lean::Left => lift_left(node),
         Lean::Even => mark_height(node),
         Lean::Right => lift_right(node),
@@ -61,10 +56,6 @@ enum Lean {
     Left,
     Even,
     Right,
-}
-
-fn lean_of<K, V>(node: &Node<K, V>) -> Lean {
-    lean_by(node, 1)
 }
 
 fn lean_by<K, V>(node: &Node<K, V>, levels: u8) -> Lean {

@@ -97,10 +97,7 @@ pub(crate) fn take_from<K: Ord + Drop, V: Drop>(
 }
 
 // Takes the entry of the root out.
-fn take_root<K: Drop, V: Drop>(
-    tree: &mut Tree<K, V>,
-    spare: &mut Vec<Box<Node<K, V>>>,
-) -> Option<V>
+fn take_root<K: Drop, V: Drop>(tree: &mut Tree<K, V>, spare: &mut Vec<Box<Node<K, V>>>) -> Option<V>
     ensures value { result ≡ root_value tree.old }
     ensures entries { entries_of tree.new ≡ beside_root tree.old }
     ensures room { vec_len spare.old ≤ vec_len spare.new }

@@ -46,10 +46,7 @@ pub(crate) fn lone<K: Drop, V: Drop>(
 }
 
 /// Keeps a box where there is a place for it, and frees it else.
-pub(crate) fn give_back<K: Drop, V: Drop>(
-    spare: &mut Vec<Box<Node<K, V>>>,
-    node: Box<Node<K, V>>,
-)
+pub(crate) fn give_back<K: Drop, V: Drop>(spare: &mut Vec<Box<Node<K, V>>>, node: Box<Node<K, V>>)
     ensures kept { vec_len spare.old ≤ vec_len spare.new }
     ensures one { vec_len spare.new ≤ vec_len spare.old + 1 }
 {

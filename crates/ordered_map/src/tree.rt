@@ -76,10 +76,7 @@ pub(crate) fn first<K, V>(tree: &Tree<K, V>) -> Option<(&K, &V)>
 }
 
 /// The entry with the least key above a key.
-pub(crate) fn next_after<'a, K: Ord, V>(
-    tree: &'a Tree<K, V>,
-    key: &K,
-) -> Option<(&'a K, &'a V)>
+pub(crate) fn next_after<'a, K: Ord, V>(tree: &'a Tree<K, V>, key: &K) -> Option<(&'a K, &'a V)>
     requires rising { IsTrue (is_sorted K.cmp (entries_of tree.now)) }
     ensures { option_map deref_pair result ≡ head_of (above K.cmp key.now (entries_of tree.now)) }
 {

@@ -12,7 +12,7 @@ returns-clause-steps g c =
 pub returns-clause-goes : goal.returns-clause-goes
 returns-clause-goes g c =
     let steps : c.args.self.now ≡ deref_pair (c.in_ok-key.key, c.in_ok-key.value) ∷ above g.K.Ord.cmp c.in_ok-key.key.now (entries_of c.self.inside.tree.now) =
-      sym c.self.view_is
-      ∙ after_left g.K.Ord.cmp g.met.K.Ord.total c.self.inside.last (entries_of c.self.inside.tree.now) (deref_pair (c.in_ok-key.key, c.in_ok-key.value)) c.self.invariant (ap head_of c.self.view_is ∙ sym c.in_ok-key.ensures) in
+    sym c.self.view_is
+    ∙ after_left g.K.Ord.cmp g.met.K.Ord.total c.self.inside.last (entries_of c.self.inside.tree.now) (deref_pair (c.in_ok-key.key, c.in_ok-key.value)) c.self.invariant (ap head_of c.self.view_is ∙ sym c.in_ok-key.ensures) in
     let size = ap length steps in
     record { on = λ _. (tt, tt, omega (arith, size)); keeps = tt; rests = λ _. tt }
