@@ -1,6 +1,6 @@
 -- Entries that rise, split at one of them: where a key is sought, put, taken out and passed.
-use Rattle.std.proofs.Common.{◌≡◌, ◌<◌, length, length-append, arith, Bool, true, false, cond, ◌&&◌, not, List, [], ◌∷◌, ◌++◌, sym, ap, subst, ◌∙◌, refl}
-use Rattle.std.specs.Prelude.{Some, None}
+use Rattle.std.proofs.Common.{◌≡◌, ◌<◌, length, length-append, arith, Bool, true, false, cond, ◌&&◌, not, List, [], ◌∷◌, ◌++◌, ap, ◌∙◌, refl}
+use Rattle.std.specs.Prelude.{Some}
 use Rattle.std.specs.Cmp.{IsTotalOrder}
 use Rattle.std.specs.Ordering.{is_lt, is_eq, ordering_reverse}
 use Rattle.std.specs.declared.cmp.Ordering.{Ordering}

@@ -1,5 +1,5 @@
 -- The entries of a tree, and what is left of entries without a key.
-use Rattle.std.specs.Prelude.{◌≡◌, not, Option, None, Some, List, [], ◌∷◌, ◌++◌}
+use Rattle.std.specs.Prelude.{not, Option, None, Some, List, [], ◌∷◌, ◌++◌}
 use Rattle.std.specs.Borrow.{Bor}
 use Rattle.std.specs.Ordering.{eq_by_cmp, is_lt}
 use Rattle.std.specs.declared.cmp.Ordering.{Ordering}

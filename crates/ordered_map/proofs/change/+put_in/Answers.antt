@@ -1,7 +1,7 @@
 use Rattle.std.proofs.Common.{◌≡◌, ◌∷◌, ◌++◌, sym, ap, ◌∙◌, rules, arith, IsTrue, None, ◌<◌}
 use Rattle.std.specs.Vec.{vec_len}
 use Rattle.std.specs.FinMap.Entries.{find, put, is_sorted}
-use Rattle.ordered_map.specs.Entries.{entries_of, node_entries, without, above, head_of}
+use Rattle.ordered_map.specs.Entries.{entries_of, node_entries}
 use Rattle.ordered_map.proofs.SplitLemmas.{left_shorter, right_shorter, left_of, here_at, right_of}
 use Rattle.ordered_map.proofs.change.+put_in.Goals as goal
 

@@ -1,6 +1,6 @@
 use Rattle.std.proofs.Common.{◌≡◌, ◌∷◌, ◌++◌, sym, ap, ◌∙◌, rules, arith, IsTrue}
-use Rattle.std.specs.FinMap.Entries.{find, put, is_sorted}
-use Rattle.ordered_map.specs.Entries.{entries_of, node_entries, without, above, head_of}
+use Rattle.std.specs.FinMap.Entries.{find, is_sorted}
+use Rattle.ordered_map.specs.Entries.{entries_of, node_entries, without}
 use Rattle.ordered_map.proofs.SplitLemmas.{left_shorter, right_shorter, left_of, here_at, right_of}
 use Rattle.ordered_map.proofs.change.+take_from.Goals as goal
 

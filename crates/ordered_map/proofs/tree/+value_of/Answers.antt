@@ -1,4 +1,4 @@
-use Rattle.std.proofs.Common.{◌≡◌, ◌∷◌, ◌++◌, sym, ap, subst, ◌∙◌, rules, IsTrue}
+use Rattle.std.proofs.Common.{◌≡◌, ◌∷◌, ◌++◌, sym, ap, ◌∙◌, rules, IsTrue}
 use Rattle.std.specs.FinMap.Entries.{find, is_sorted}
 use Rattle.ordered_map.specs.Entries.{entries_of, node_entries}
 use Rattle.ordered_map.proofs.SplitLemmas.{left_shorter, right_shorter, left_of, here_at, right_of}

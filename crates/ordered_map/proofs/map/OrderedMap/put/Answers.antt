@@ -1,7 +1,6 @@
 use Rattle.std.proofs.Common.{◌≡◌, ◌+◌, true, false, not, sym, ap, ◌∙◌, if◌then◌else◌}
 use Rattle.std.specs.Prelude.{is_some}
 use Rattle.std.specs.Vec.{vec_len}
-use Rattle.std.specs.FinMap.Entries.{find}
 use Rattle.ordered_map.specs.Entries.{entries_of}
 use Rattle.ordered_map.proofs.CountLemmas.{put_new, put_known, put_rises}
 use Rattle.ordered_map.proofs.map.OrderedMap.put.Goals as goal
