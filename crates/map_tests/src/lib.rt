@@ -1,0 +1,7 @@
+//! The map beside a plain list of entries, over many operations.
+#![tactic(auto)]
+
+#[cfg(test)]
+mod beside_a_list;
+#[cfg(test)]
+mod large;

@@ -1,0 +1,212 @@
+-- Entries that rise, split at one of them: where a key is sought, put, taken out and passed.
+use Rattle.std.proofs.Common.{◌≡◌, ◌<◌, length, length-append, arith, Bool, true, false, cond, ◌&&◌, not, List, [], ◌∷◌, ◌++◌, ap, ◌∙◌, refl}
+use Rattle.std.specs.Prelude.{Some}
+use Rattle.std.specs.Cmp.{IsTotalOrder}
+use Rattle.std.specs.Ordering.{is_lt, is_eq, ordering_reverse}
+use Rattle.std.specs.declared.cmp.Ordering.{Ordering}
+use Rattle.std.specs.declared.cmp.Ordering.TheVariants.{Less, Equal, Greater}
+use Rattle.std.specs.FinMap.Entries.{find, put, is_sorted, below_all, by_order}
+use Rattle.std.proofs.lemmas.Bool.{and_parts}
+use Rattle.ordered_map.specs.Entries.{without, above}
+
+pub less : (r : Ordering) → is_lt r ≡ true → r ≡ Less
+less Less e = refl
+less Equal e = cc
+less Greater e = cc
+
+pub both : (a b : Bool) → a ≡ true → b ≡ true → (a && b) ≡ true
+both true b p q = q
+both false b p q = cc
+
+pub turned : {K : Type 0} {R : K → K → Ordering} (o : IsTotalOrder R) (x y : K) (r : Ordering) → R x y ≡ r → R y x ≡ ordering_reverse r
+turned o x y r e = o.antisymm y x ∙ ap ordering_reverse e
+
+module _ {K X : Type 0} (R : K → K → Ordering) where
+  -- the key is greater than each of these
+  abbrev IsPast : K → List (K × X) → Type 0
+  IsPast q [] = Unit {0}
+  IsPast q (e ∷ es) = (R q e.0 ≡ Greater) × IsPast q es
+
+  -- what stands left of an entry, where the key is smaller than it
+  pub record IsLeft (q : K) (l : List (K × X)) (e : K × X) (r : List (K × X)) : Type 0 where
+    pub rising : is_sorted R l ≡ true
+    pub find_is : find R q (l ++ e ∷ r) ≡ find R q l
+    pub put_is : (v : X) → put R q v (l ++ e ∷ r) ≡ put R q v l ++ e ∷ r
+    pub without_is : without R q (l ++ e ∷ r) ≡ without R q l ++ e ∷ r
+    pub above_is : above R q (l ++ e ∷ r) ≡ above R q l ++ e ∷ r
+
+  -- the entry itself, where it has the key
+  pub record IsHere (q : K) (l : List (K × X)) (e : K × X) (r : List (K × X)) : Type 0 where
+    pub find_is : find R q (l ++ e ∷ r) ≡ Some e.1
+    pub put_is : (v : X) → put R q v (l ++ e ∷ r) ≡ l ++ (e.0, v) ∷ r
+    pub without_is : without R q (l ++ e ∷ r) ≡ l ++ r
+    pub above_is : above R q (l ++ e ∷ r) ≡ r
+
+  -- what stands right of an entry, where the key is greater than it
+  pub record IsRight (q : K) (l : List (K × X)) (e : K × X) (r : List (K × X)) : Type 0 where
+    pub rising : is_sorted R r ≡ true
+    pub find_is : find R q (l ++ e ∷ r) ≡ find R q r
+    pub put_is : (v : X) → put R q v (l ++ e ∷ r) ≡ l ++ e ∷ put R q v r
+    pub without_is : without R q (l ++ e ∷ r) ≡ l ++ e ∷ without R q r
+    pub above_is : above R q (l ++ e ∷ r) ≡ above R q r
+
+  below_front : (x : K) (l m : List (K × X)) → below_all R x (l ++ m) ≡ true → below_all R x l ≡ true
+  below_front x [] m h = refl
+  below_front x (e ∷ l) m h =
+      let parts = and_parts (is_lt (R x e.0)) (below_all R x (l ++ m)) h in
+      both _ _ parts.0 (below_front x l m parts.1)
+
+  below_entry : (x : K) (l : List (K × X)) (e : K × X) (r : List (K × X)) → below_all R x (l ++ e ∷ r) ≡ true → R x e.0 ≡ Less
+  below_entry x [] e r h = less _ (and_parts (is_lt (R x e.0)) (below_all R x r) h).0
+  below_entry x (f ∷ l) e r h = below_entry x l e r (and_parts (is_lt (R x f.0)) (below_all R x (l ++ e ∷ r)) h).1
+
+  pub sorted_front : (l m : List (K × X)) → is_sorted R (l ++ m) ≡ true → is_sorted R l ≡ true
+  sorted_front [] m h = refl
+  sorted_front (e ∷ l) m h =
+      let parts = and_parts (below_all R e.0 (l ++ m)) (is_sorted R (l ++ m)) h in
+      both _ _ (below_front e.0 l m parts.0) (sorted_front l m parts.1)
+
+  pub sorted_back : (l m : List (K × X)) → is_sorted R (l ++ m) ≡ true → is_sorted R m ≡ true
+  sorted_back [] m h = h
+  sorted_back (e ∷ l) m h = sorted_back l m (and_parts (below_all R e.0 (l ++ m)) (is_sorted R (l ++ m)) h).1
+
+  -- ---- past the entries with smaller keys
+
+  find_past : (q : K) (l m : List (K × X)) → IsPast q l → find R q (l ++ m) ≡ find R q m
+  find_past q [] m p = refl
+  find_past q (e ∷ l) m p = ap (λ r. cond (is_eq r) (Some e.1) (find R q (l ++ m))) p.0 ∙ find_past q l m p.1
+
+  put_past : (q : K) (v : X) (l m : List (K × X)) → IsPast q l → put R q v (l ++ m) ≡ l ++ put R q v m
+  put_past q v [] m p = refl
+  put_past q v (e ∷ l) m p =
+      ap (λ r. by_order r ((q, v) ∷ e ∷ (l ++ m)) ((e.0, v) ∷ (l ++ m)) (e ∷ put R q v (l ++ m))) p.0
+      ∙ ap (λ es. e ∷ es) (put_past q v l m p.1)
+
+  without_past : (q : K) (l m : List (K × X)) → IsPast q l → without R q (l ++ m) ≡ l ++ without R q m
+  without_past q [] m p = refl
+  without_past q (e ∷ l) m p =
+      ap (λ r. cond (not (is_eq r)) (e ∷ without R q (l ++ m)) (without R q (l ++ m))) p.0
+      ∙ ap (λ es. e ∷ es) (without_past q l m p.1)
+
+  above_past : (q : K) (l m : List (K × X)) → IsPast q l → above R q (l ++ m) ≡ above R q m
+  above_past q [] m p = refl
+  above_past q (e ∷ l) m p =
+      ap (λ r. cond (is_lt r) (e ∷ above R q (l ++ m)) (above R q (l ++ m))) p.0 ∙ above_past q l m p.1
+
+  -- ---- before the entries with greater keys
+
+  find_before : (q : K) (l m : List (K × X)) → below_all R q m ≡ true → find R q (l ++ m) ≡ find R q l
+  find_before q [] [] h = refl
+  find_before q [] (e ∷ m) h =
+      let parts = and_parts (is_lt (R q e.0)) (below_all R q m) h in
+      ap (λ r. cond (is_eq r) (Some e.1) (find R q m)) (less _ parts.0) ∙ find_before q [] m parts.1
+  find_before q (e ∷ l) m h = ap (cond (is_eq (R q e.0)) (Some e.1)) (find_before q l m h)
+
+  put_before : (q : K) (v : X) (l m : List (K × X)) → below_all R q m ≡ true → put R q v (l ++ m) ≡ put R q v l ++ m
+  put_before q v [] [] h = refl
+  put_before q v [] (e ∷ m) h =
+      let parts = and_parts (is_lt (R q e.0)) (below_all R q m) h in
+      ap (λ r. by_order r ((q, v) ∷ e ∷ m) ((e.0, v) ∷ m) (e ∷ put R q v m)) (less _ parts.0)
+  put_before q v (e ∷ l) m h =
+      elim (R q e.0) as (λ r. by_order r ((q, v) ∷ e ∷ (l ++ m)) ((e.0, v) ∷ (l ++ m)) (e ∷ put R q v (l ++ m)) ≡ by_order r ((q, v) ∷ e ∷ l) ((e.0, v) ∷ l) (e ∷ put R q v l) ++ m) [
+        | Less ↦ refl
+        | Equal ↦ refl
+        | Greater ↦ ap (λ es. e ∷ es) (put_before q v l m h)
+      ]
+
+  without_before : (q : K) (l m : List (K × X)) → below_all R q m ≡ true → without R q (l ++ m) ≡ without R q l ++ m
+  without_before q [] [] h = refl
+  without_before q [] (e ∷ m) h =
+      let parts = and_parts (is_lt (R q e.0)) (below_all R q m) h in
+      ap (λ r. cond (not (is_eq r)) (e ∷ without R q m) (without R q m)) (less _ parts.0)
+      ∙ ap (λ es. e ∷ es) (without_before q [] m parts.1)
+  without_before q (e ∷ l) m h =
+      elim (is_eq (R q e.0)) as (λ b. cond (not b) (e ∷ without R q (l ++ m)) (without R q (l ++ m)) ≡ cond (not b) (e ∷ without R q l) (without R q l) ++ m) [
+        | true ↦ without_before q l m h
+        | false ↦ ap (λ es. e ∷ es) (without_before q l m h)
+      ]
+
+  pub above_before : (q : K) (l m : List (K × X)) → below_all R q m ≡ true → above R q (l ++ m) ≡ above R q l ++ m
+  above_before q [] [] h = refl
+  above_before q [] (e ∷ m) h =
+      let parts = and_parts (is_lt (R q e.0)) (below_all R q m) h in
+      ap (λ r. cond (is_lt r) (e ∷ above R q m) (above R q m)) (less _ parts.0)
+      ∙ ap (λ es. e ∷ es) (above_before q [] m parts.1)
+  above_before q (e ∷ l) m h =
+      elim (is_lt (R q e.0)) as (λ b. cond b (e ∷ above R q (l ++ m)) (above R q (l ++ m)) ≡ cond b (e ∷ above R q l) (above R q l) ++ m) [
+        | true ↦ ap (λ es. e ∷ es) (above_before q l m h)
+        | false ↦ above_before q l m h
+      ]
+
+  module _ (o : IsTotalOrder R) where
+    -- a key that is not smaller than an entry is greater than all before it
+    past_smaller : (q : K) (l : List (K × X)) (e : K × X) (r : List (K × X)) → is_sorted R (l ++ e ∷ r) ≡ true → R q e.0 ≡ Greater → IsPast q l
+    past_smaller q [] e r h more = tt
+    past_smaller q (f ∷ l) e r h more =
+        let parts = and_parts (below_all R f.0 (l ++ e ∷ r)) (is_sorted R (l ++ e ∷ r)) h in
+        (turned o f.0 q Less (o.trans f.0 e.0 q (below_entry f.0 l e r parts.0) (turned o q e.0 Greater more)), past_smaller q l e r parts.1 more)
+
+    past_tied : (q : K) (l : List (K × X)) (e : K × X) (r : List (K × X)) → is_sorted R (l ++ e ∷ r) ≡ true → R q e.0 ≡ Equal → IsPast q l
+    past_tied q [] e r h tie = tt
+    past_tied q (f ∷ l) e r h tie =
+        let parts = and_parts (below_all R f.0 (l ++ e ∷ r)) (is_sorted R (l ++ e ∷ r)) h in
+        (o.congr q e.0 f.0 tie ∙ turned o f.0 e.0 Less (below_entry f.0 l e r parts.0), past_tied q l e r parts.1 tie)
+
+    pub below_smaller : (q x : K) (es : List (K × X)) → R q x ≡ Less → below_all R x es ≡ true → below_all R q es ≡ true
+    below_smaller q x [] low h = refl
+    below_smaller q x (e ∷ es) low h =
+        let parts = and_parts (is_lt (R x e.0)) (below_all R x es) h in
+        both _ _ (ap is_lt (o.trans q x e.0 low (less _ parts.0))) (below_smaller q x es low parts.1)
+
+    below_tied : (q x : K) (es : List (K × X)) → R q x ≡ Equal → below_all R x es ≡ true → below_all R q es ≡ true
+    below_tied q x [] tie h = refl
+    below_tied q x (e ∷ es) tie h =
+        let parts = and_parts (is_lt (R x e.0)) (below_all R x es) h in
+        both _ _ (ap is_lt (o.congr q x e.0 tie) ∙ parts.0) (below_tied q x es tie parts.1)
+
+    pub left_of : (q : K) (l : List (K × X)) (e : K × X) (r : List (K × X)) → is_sorted R (l ++ e ∷ r) ≡ true → R q e.0 ≡ Less → IsLeft q l e r
+    left_of q l e r h low =
+        let parts = and_parts (below_all R e.0 r) (is_sorted R r) (sorted_back l (e ∷ r) h) in
+        let below : below_all R q (e ∷ r) ≡ true = both (is_lt (R q e.0)) (below_all R q r) (ap is_lt low) (below_smaller q e.0 r low parts.0) in
+        record {
+          rising = sorted_front l (e ∷ r) h;
+          find_is = find_before q l (e ∷ r) below;
+          put_is = λ v. put_before q v l (e ∷ r) below;
+          without_is = without_before q l (e ∷ r) below;
+          above_is = above_before q l (e ∷ r) below;
+        }
+
+    pub here_at : (q : K) (l : List (K × X)) (e : K × X) (r : List (K × X)) → is_sorted R (l ++ e ∷ r) ≡ true → R q e.0 ≡ Equal → IsHere q l e r
+    here_at q l e r h tie =
+        let parts = and_parts (below_all R e.0 r) (is_sorted R r) (sorted_back l (e ∷ r) h) in
+        let past = past_tied q l e r h tie in
+        let below = below_tied q e.0 r tie parts.0 in
+        record {
+          find_is = find_past q l (e ∷ r) past ∙ ap (λ s. cond (is_eq s) (Some e.1) (find R q r)) tie;
+          put_is = λ v. put_past q v l (e ∷ r) past ∙ ap (λ s. l ++ by_order s ((q, v) ∷ e ∷ r) ((e.0, v) ∷ r) (e ∷ put R q v r)) tie;
+          without_is = without_past q l (e ∷ r) past
+              ∙ ap (λ s. l ++ cond (not (is_eq s)) (e ∷ without R q r) (without R q r)) tie
+              ∙ ap (λ es. l ++ es) (without_before q [] r below);
+          above_is = above_past q l (e ∷ r) past
+              ∙ ap (λ s. cond (is_lt s) (e ∷ above R q r) (above R q r)) tie
+              ∙ above_before q [] r below;
+        }
+
+    pub right_of : (q : K) (l : List (K × X)) (e : K × X) (r : List (K × X)) → is_sorted R (l ++ e ∷ r) ≡ true → R q e.0 ≡ Greater → IsRight q l e r
+    right_of q l e r h more =
+        let parts = and_parts (below_all R e.0 r) (is_sorted R r) (sorted_back l (e ∷ r) h) in
+        let past = past_smaller q l e r h more in
+        record {
+          rising = parts.1;
+          find_is = find_past q l (e ∷ r) past ∙ ap (λ s. cond (is_eq s) (Some e.1) (find R q r)) more;
+          put_is = λ v. put_past q v l (e ∷ r) past ∙ ap (λ s. l ++ by_order s ((q, v) ∷ e ∷ r) ((e.0, v) ∷ r) (e ∷ put R q v r)) more;
+          without_is = without_past q l (e ∷ r) past ∙ ap (λ s. l ++ cond (not (is_eq s)) (e ∷ without R q r) (without R q r)) more;
+          above_is = above_past q l (e ∷ r) past ∙ ap (λ s. cond (is_lt s) (e ∷ above R q r) (above R q r)) more;
+        }
+
+-- ---- both sides of an entry are shorter than the whole
+pub left_shorter : {A : Type 0} (es l : List A) (e : A) (r : List A) → es ≡ l ++ e ∷ r → length l < length es
+left_shorter es l e r whole = let size = ap length whole ∙ length-append l (e ∷ r) in omega (arith, size)
+
+pub right_shorter : {A : Type 0} (es l : List A) (e : A) (r : List A) → es ≡ l ++ e ∷ r → length r < length es
+right_shorter es l e r whole = let size = ap length whole ∙ length-append l (e ∷ r) in omega (arith, size)

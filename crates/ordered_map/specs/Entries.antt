@@ -1,0 +1,53 @@
+-- The entries of a tree, and what is left of entries without a key.
+use Rattle.std.specs.Prelude.{not, Option, None, Some, List, [], ◌∷◌, ◌++◌}
+use Rattle.std.specs.Borrow.{Bor}
+use Rattle.std.specs.Ordering.{eq_by_cmp, is_lt}
+use Rattle.std.specs.declared.cmp.Ordering.{Ordering}
+use Rattle.std.specs.FinMap.Entries.{where_key}
+use Rattle.ordered_map.specs.declared.tree.Tree.{Tree, Empty, Fork'}
+use Rattle.ordered_map.specs.declared.tree.Node.{Node, Blank, Full}
+
+-- from left to right
+abbrev mutual
+  pub entries_of : {K V : Type 0} → Tree K V → List (K × V)
+  entries_of Empty = []
+  entries_of (Fork' p node) = node_entries node
+
+  pub node_entries : {K V : Type 0} → Node K V → List (K × V)
+  node_entries Blank = []
+  node_entries (Full left key value height right) = entries_of left ++ (key, value) ∷ entries_of right
+
+-- the entries with other keys
+abbrev pub without : {K V : Type 0} → (K → K → Ordering) → K → List (K × V) → List (K × V)
+without R q es = where_key R (λ x. not (eq_by_cmp R q x)) es
+
+-- the entries with greater keys
+abbrev pub above : {K V : Type 0} → (K → K → Ordering) → K → List (K × V) → List (K × V)
+above R q es = where_key R (λ x. is_lt (R q x)) es
+
+-- the first of a list
+abbrev pub head_of : {A : Type 0} → List A → Option A
+head_of [] = None
+head_of (x ∷ xs) = Some x
+
+-- ---- the entry of a tree's root, and the others
+abbrev value_here : {K V : Type 0} → Node K V → Option V
+value_here Blank = None
+value_here (Full left key value height right) = Some value
+
+abbrev beside : {K V : Type 0} → Node K V → List (K × V)
+beside Blank = []
+beside (Full left key value height right) = entries_of left ++ entries_of right
+
+abbrev pub root_value : {K V : Type 0} → Tree K V → Option V
+root_value Empty = None
+root_value (Fork' p node) = value_here node
+
+abbrev pub beside_root : {K V : Type 0} → Tree K V → List (K × V)
+beside_root Empty = []
+beside_root (Fork' p node) = beside node
+
+-- the entries after the last that was given, and all where none was
+abbrev pub left_after : {K V : Type 0} → (K → K → Ordering) → Option (Bor K) → List (K × V) → List (K × V)
+left_after R None es = es
+left_after R (Some last) es = above R last.now es

@@ -1,0 +1,12 @@
+//! Maps over keys in an order, whose new entries go into memory that was reserved before.
+#![tactic(auto)]
+
+mod balance;
+mod change;
+mod iter;
+mod map;
+mod spare;
+mod tree;
+
+pub use iter::Iter;
+pub use map::OrderedMap;

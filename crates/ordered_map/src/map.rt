@@ -1,0 +1,151 @@
+//! The map: a tree of entries, and boxes that wait for more.
+
+ghost use Rattle.std.specs.Prelude.{◌≡◌, ◌≤◌, ◌<◌, ◌+◌, [], None, IsTrue, IsOk, OnOk, OnErr, IfOk, option_copied, is_some, length, if◌then◌else◌};
+ghost use Rattle.std.specs.Option.{option_map};
+ghost use Rattle.std.specs.Map.Iter.{deref_pair};
+ghost use Rattle.std.specs.FinMap.Entries.{find, put, is_sorted};
+ghost use Rattle.ordered_map.specs.Entries.{without, above, head_of};
+
+use crate::change::{put_in, take_from};
+use crate::iter::Iter;
+use crate::spare::fill;
+use crate::tree::{Node, Tree, first, next_after, value_of};
+use std::alloc::{AllocError, Global};
+use std::marker::Model;
+
+/// A map from keys to values, and room for a number of new keys.
+#[derive(Drop)]
+pub struct OrderedMap<K: Ord, V> {
+    alloc: Global,
+    tree: Tree<K, V>,
+    spare: Vec<Box<Node<K, V>>>,
+    count: usize,
+}
+
+impl<K: Ord, V> Model for OrderedMap<K, V> {
+    ghost use Rattle.std.specs.Vec.{vec_len};
+    ghost use Rattle.std.specs.Coded.{codes};
+    ghost use Rattle.ordered_map.specs.Held.{Held};
+
+    ghost Value = { Held K V };
+
+    ghost coded = { Prim.hlevel (codes, K.code, V.code) };
+
+    ghost use Rattle.ordered_map.specs.Entries.{entries_of};
+    ghost use Rattle.ordered_map.specs.Kept.{IsKept};
+
+    ghost view = { λ a. record { items = entries_of a.tree; room = vec_len a.spare } };
+
+    ghost invariant = { λ a. IsKept K.cmp (entries_of a.tree) (vec_len a.spare) a.count };
+}
+
+impl<K: Ord, V> OrderedMap<K, V> {
+    /// The empty map.
+    pub fn new(alloc: Global) -> OrderedMap<K, V>
+        ensures items { result.items ≡ [] }
+        ensures rising { IsTrue (is_sorted K.cmp result.items) }
+    {
+        OrderedMap {
+            alloc,
+            tree: Tree::Empty,
+            spare: Vec::new(alloc),
+            count: 0,
+        }
+    }
+
+    /// The value of a key, where it has one.
+    pub fn get(&self, key: &K) -> Option<&V>
+        ensures { option_copied result ≡ find K.cmp key.now self.now.items }
+    {
+        value_of(&self.tree, key)
+    }
+
+    /// How many keys have a value.
+    pub fn len(&self) -> usize
+        ensures { result ≡ length self.now.items }
+    {
+        self.count
+    }
+
+    /// The entry with the least key.
+    pub fn first(&self) -> Option<(&K, &V)>
+        ensures { option_map deref_pair result ≡ head_of self.now.items }
+    {
+        first(&self.tree)
+    }
+
+    /// The entry with the least key above this one. The key itself need not have a value.
+    pub fn next_after(&self, key: &K) -> Option<(&K, &V)>
+        ensures { option_map deref_pair result ≡ head_of (above K.cmp key.now self.now.items) }
+    {
+        next_after(&self.tree, key)
+    }
+
+    /// The entries in the order of their keys. It takes no memory, and each step walks down the tree once.
+    pub fn iter(&self) -> Iter<'_, K, V>
+        ensures { result ≡ self.now.items }
+    {
+        Iter::new(&self.tree)
+    }
+}
+
+impl<K: Ord + Drop, V: Drop> OrderedMap<K, V> {
+    /// Makes room for so many new keys. It takes memory only where there is less.
+    pub fn reserve(&mut self, keys: usize) -> Result<(), AllocError>
+        ensures items { self.new.items ≡ self.old.items }
+        ensures rising { IsTrue (is_sorted K.cmp self.new.items) }
+        ensures room { OnOk result (keys ≤ self.new.room) }
+        ensures kept { self.old.room ≤ self.new.room }
+        ensures enough { keys ≤ self.old.room → IsOk result }
+    {
+        if keys > usize::MAX - self.count {
+            return Err(AllocError);
+        }
+        fill(self.alloc, &mut self.spare, keys)
+    }
+
+    /// Gives a key a value, and answers the one before. It takes memory only for a new key without room, and after
+    /// want of it the map is as it was.
+    pub fn insert(&mut self, key: K, value: V) -> Result<Option<V>, AllocError>
+        ensures value { IfOk result (λ before. before ≡ find K.cmp key self.old.items) }
+        ensures items { OnOk result (self.new.items ≡ put K.cmp key value self.old.items) }
+        ensures unchanged { OnErr result (self.new.items ≡ self.old.items) }
+        ensures rising { IsTrue (is_sorted K.cmp self.new.items) }
+        ensures room { self.old.room ≤ self.new.room + (if is_some (find K.cmp key self.old.items) then 0 else 1) }
+        ensures enough { (find K.cmp key self.old.items ≡ None → 0 < self.old.room) → IsOk result }
+    {
+        if self.get(&key).is_none() {
+            self.reserve(1)?;
+        }
+        Ok(self.put(key, value))
+    }
+
+    /// Gives a key a value, and answers the one before. A new key needs room, and uses one place of it.
+    pub fn put(&mut self, key: K, value: V) -> Option<V>
+        requires room { find K.cmp key self.old.items ≡ None → 0 < self.old.room }
+        ensures value { result ≡ find K.cmp key self.old.items }
+        ensures items { self.new.items ≡ put K.cmp key value self.old.items }
+        ensures rising { IsTrue (is_sorted K.cmp self.new.items) }
+        ensures room { self.old.room ≤ self.new.room + (if is_some result then 0 else 1) }
+    {
+        let before = put_in(&mut self.tree, &mut self.spare, key, value);
+        if before.is_none() {
+            self.count += 1;
+        }
+        before
+    }
+
+    /// Takes a key out, and answers its value. It takes no memory.
+    pub fn remove(&mut self, key: &K) -> Option<V>
+        ensures value { result ≡ find K.cmp key.now self.old.items }
+        ensures items { self.new.items ≡ without K.cmp key.now self.old.items }
+        ensures rising { IsTrue (is_sorted K.cmp self.new.items) }
+        ensures room { self.old.room ≤ self.new.room }
+    {
+        let before = take_from(&mut self.tree, &mut self.spare, key);
+        if before.is_some() {
+            self.count -= 1;
+        }
+        before
+    }
+}

@@ -1,0 +1,103 @@
+//! A tree of entries whose keys rise from left to right, one box an entry.
+
+ghost use Rattle.std.specs.Prelude.{◌≡◌, IsTrue, option_copied};
+ghost use Rattle.std.specs.Option.{option_map};
+ghost use Rattle.std.specs.Map.Iter.{deref_pair};
+ghost use Rattle.std.specs.FinMap.Entries.{find, is_sorted};
+ghost use Rattle.ordered_map.specs.Entries.{entries_of, above, head_of};
+
+use std::cmp::Ordering;
+
+#[cycle(tree)]
+#[derive(Drop)]
+pub(crate) enum Tree<K, V> {
+    Empty,
+    Fork(Box<Node<K, V>>),
+}
+
+/// An entry between two trees, or nothing in a box that waits for an entry.
+#[cycle(tree)]
+#[derive(Drop)]
+pub(crate) enum Node<K, V> {
+    Blank,
+    Full {
+        left: Tree<K, V>,
+        key: K,
+        value: V,
+        height: u8,
+        right: Tree<K, V>,
+    },
+}
+
+/// The value of a key, where it has one.
+pub(crate) fn value_of<'a, K: Ord, V>(tree: &'a Tree<K, V>, key: &K) -> Option<&'a V>
+    requires rising { IsTrue (is_sorted K.cmp (entries_of tree.now)) }
+    ensures { option_copied result ≡ find K.cmp key.now (entries_of tree.now) }
+{
+    match tree {
+        Tree::Empty => None,
+        Tree::Fork(node) => match &**node {
+            Node::Blank => None,
+            Node::Full {
+                left,
+                key: held,
+                value,
+                height: _,
+                right,
+            } => match key.cmp(held) {
+                Ordering::Less => value_of(left, key),
+                Ordering::Equal => Some(value),
+                Ordering::Greater => value_of(right, key),
+            },
+        },
+    }
+}
+
+/// The entry with the least key.
+pub(crate) fn first<K, V>(tree: &Tree<K, V>) -> Option<(&K, &V)>
+    ensures { option_map deref_pair result ≡ head_of (entries_of tree.now) }
+{
+    match tree {
+        Tree::Empty => None,
+        Tree::Fork(node) => match &**node {
+            Node::Blank => None,
+            Node::Full {
+                left,
+                key,
+                value,
+                height: _,
+                right: _,
+            } => match first(left) {
+                None => Some((key, value)),
+                Some(entry) => Some(entry),
+            },
+        },
+    }
+}
+
+/// The entry with the least key above a key.
+pub(crate) fn next_after<'a, K: Ord, V>(tree: &'a Tree<K, V>, key: &K) -> Option<(&'a K, &'a V)>
+    requires rising { IsTrue (is_sorted K.cmp (entries_of tree.now)) }
+    ensures { option_map deref_pair result ≡ head_of (above K.cmp key.now (entries_of tree.now)) }
+{
+    match tree {
+        Tree::Empty => None,
+        Tree::Fork(node) => match &**node {
+            Node::Blank => None,
+            Node::Full {
+                left,
+                key: held,
+                value,
+                height: _,
+                right,
+            } => match key.cmp(held) {
+                Ordering::Less => match next_after(left, key) {
+                    None => Some((held, value)),
+                    Some(entry) => Some(entry),
+                },
+                Ordering::Equal => first(right),
+                Ordering::Greater => next_after(right, key),
+            },
+        },
+    }
+}
