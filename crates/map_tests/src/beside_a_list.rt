@@ -12,8 +12,7 @@ struct SlowMap {
 }
 
 impl SlowMap {
-    fn place(&self, key: u32) -> usize
-    {
+    fn place(&self, key: u32) -> usize {
         let mut at = 0;
         for entry in &self.entries {
             if key <= entry.0 {
@@ -81,7 +80,11 @@ fn the_map_answers_as_a_list(rt: HostRuntime) -> Result<(), Fail> {
         let after = slow.entries.get(slow.place(key.saturating_add(1))).copied();
         assert!(rt; map.next_after(&key).map(|entry| (*entry.0, *entry.1)) == after);
         if round % 100 == 0 {
-            assert!(rt; map.iter().map(|entry| (*entry.0, *entry.1)).eq(slow.entries.iter().copied()));
+            assert!(rt;
+                map.iter()
+                    .map(|entry| (*entry.0, *entry.1))
+                    .eq(slow.entries.iter().copied())
+            );
         }
     }
     Ok(())
