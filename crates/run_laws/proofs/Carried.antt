@@ -1,0 +1,76 @@
+-- What each line that no refusal stops carries on holds after every legal run.
+use Rattle.std.proofs.Common.{◌≡◌, Bool, true, false, cond, ◌&&◌, List, [], ◌∷◌, subst, sym, refl}
+use Rattle.std.specs.Prelude.{Option, Some, None}
+use Rattle.std.specs.FinMap.{FinMap}
+use Rattle.std.proofs.lemmas.Bool.{and_parts}
+use Rattle.events.specs.After.{after, next, next_by}
+use Rattle.events.specs.Fits.{FitsBy}
+use Rattle.events.specs.Legal.{Legal, LegalFrom, state_after, state_from}
+use Rattle.events.specs.Refusals.{if_known, is_placed, or_else, refusal, refusal_in_place, refused_if, suits_job}
+use Rattle.events.specs.State.{State, first}
+use Rattle.events.specs.declared.Event.{Event}
+use Rattle.events.specs.declared.Head.{Head}
+use Rattle.events.specs.declared.Head.TheVariants.{Fine, Working, Finished, Unrouted, Unresolved, Silent, Refused}
+use Rattle.events.specs.declared.Refusal.{Refusal}
+use Rattle.events.specs.declared.Refusal.TheVariants.{Misplaced}
+use Rattle.events.specs.declared.Reply.{Reply}
+use Rattle.net_types.specs.Keys.{pair_cmp}
+use Rattle.net_types.specs.declared.rule.Rule.{Rule}
+
+-- ---- no refusal
+
+pub not_stopped : (b : Bool) (why : Refusal) → refused_if b why ≡ None → b ≡ false
+not_stopped true why e = absurd (cc)
+not_stopped false why e = refl
+
+pub neither : (a b : Option Refusal) → or_else a b ≡ None → (a ≡ None) × (b ≡ None)
+neither None b e = (refl, e)
+neither (Some x) b e = absurd (cc)
+
+pub not_before : {A : Type 0} (b : Bool) (x : A) (o : Option A) → cond b (Some x) o ≡ None → o ≡ None
+not_before true x o e = absurd (cc)
+not_before false x o e = e
+
+pub known : {X : Type 0} (o : Option X) (f : X → Option Refusal) → if_known o f ≡ None → (x : X) × (o ≡ Some x) × (f x ≡ None)
+known None f e = absurd (cc)
+known (Some x) f e = (x, refl, e)
+
+in_place : (b : Bool) (o : Option Refusal) → cond b o (Some Misplaced) ≡ None → (b ≡ true) × (o ≡ None)
+in_place true o e = (refl, e)
+in_place false o e = absurd (cc)
+
+-- what no refusal stops is in place, and none of its own stops it
+pub passes : (s : State) (e : Event) → refusal s e ≡ None → (is_placed s.phase e ≡ true) × (refusal_in_place s e ≡ None)
+passes s e none =
+    let there = in_place (suits_job s.owed e && is_placed s.phase e) (refusal_in_place s e) none in
+    ((and_parts (suits_job s.owed e) (is_placed s.phase e) there.0).1, there.1)
+
+-- ---- runs
+
+-- it holds at the start, whatever the table is, and after each line that no refusal stops
+pub record IsCarried (P : State → Type 0) : Type 0 where
+  pub start : P first
+  pub tables : (s : State) (table : FinMap pair_cmp (List Rule)) → P s → P (record s { table = table })
+  pub lines : (s : State) (e : Event) → refusal s e ≡ None → P s → P (after s e)
+
+module _ (P : State → Type 0) (is : IsCarried P) where
+  next_holds : (s : State) (e : Event) (r : Reply) (h : Head) → P s → P (after s e) → P (next_by h s e r)
+  next_holds s e r (Refused why) here later = here
+  next_holds s e r Fine here later = is.tables (after s e) _ later
+  next_holds s e r (Working units) here later = is.tables (after s e) _ later
+  next_holds s e r Finished here later = is.tables (after s e) _ later
+  next_holds s e r Unrouted here later = is.tables (after s e) _ later
+  next_holds s e r (Unresolved ip) here later = is.tables (after s e) _ later
+  next_holds s e r Silent here later = is.tables (after s e) _ later
+
+  step_holds : (s : State) (e : Event) (r : Reply) (o : Option Refusal) → refusal s e ≡ o → FitsBy o s e r → P s → P (next s e r)
+  step_holds s e r (Some why) stopped fits here = subst (λ x. P (next s e x)) (sym fits) here
+  step_holds s e r None none fits here = next_holds s e r r.head here (is.lines s e none here)
+
+  from_holds : (s : State) (es : List Event) (rs : List Reply) → P s → LegalFrom s es rs → P (state_from s es rs)
+  from_holds s [] rs here legal = here
+  from_holds s (e ∷ es) [] here legal = here
+  from_holds s (e ∷ es) (r ∷ rs) here legal = from_holds (next s e r) es rs (step_holds s e r (refusal s e) refl legal.0 here) legal.1
+
+  pub runs_hold : (es : List Event) (rs : List Reply) → Legal es rs → P (state_after es rs)
+  runs_hold es rs legal = from_holds first es rs is.start legal

@@ -1,0 +1,406 @@
+-- The texts of the policies are read as policies that passed isolation, in every state that a legal run reaches.
+use Rattle.std.proofs.Common.{◌≡◌, ◌⊎◌, ℕ, zero, suc, Bool, true, false, cond, ◌&&◌, nat_lt, List, [], ◌∷◌, ◌++◌, length, sym, ap, subst, ◌∙◌, refl, inl, inr, arith}
+use Rattle.std.specs.Prelude.{◌+◌, map, take, Option, Some, None, Result, Ok, Err, codes, slice_get, slice_set, unwrap_or, ◌-◌}
+use Rattle.std.specs.FinMap.{FinMap}
+use Rattle.std.specs.Option.{option_map_or}
+use Rattle.std.proofs.lemmas.List.{length-append}
+use Rattle.events.proofs.DropText.{drop_is_read}
+use Rattle.events.specs.After.{after, bound_read, merged, received_by, ruled, running, sent_by, settled, taken, updated, with_known, with_named, with_outbound, with_participant, with_port, with_told, without_from, worked}
+use Rattle.events.specs.Legal.{state_after}
+use Rattle.events.specs.Pending.{pending}
+use Rattle.events.specs.Refusals.{if_known, if_short, inbound_refusal, is_placed, isolation_refusal, outbound_refusal, policy_refusal, refusal, refused_if, tags_refusal}
+use Rattle.events.specs.Resolving.{is_pool_request, port_place, resolved_at, unresolved, with_answer, with_resolved}
+use Rattle.events.specs.State.{State, AreRead, IsRead, first, owner_of, port_of, present}
+use Rattle.events.specs.Tags.{retagged}
+use Rattle.events.specs.declared.Event.{Event}
+use Rattle.events.specs.declared.Event.TheVariants.{Bad, Exchange, Participant as DeclaresParticipant, Port as DeclaresPort, Update, Down, Export, Outbound, Inbound, Take, Drain, Arp, Resolve, Packet, Frame, Recompile, Work, Table}
+use Rattle.events.specs.declared.Phase.{Phase}
+use Rattle.events.specs.declared.Phase.TheVariants.{Start, Declaring, Running}
+use Rattle.events.specs.declared.Refusal.{Refusal}
+use Rattle.events.specs.declared.Refusal.TheVariants.{TextLong, TooWide}
+use Rattle.grammar.specs.TextReading.{Fault as Misread}
+use Rattle.net_types.proofs.ValueLemmas.{no_entries}
+use Rattle.net_types.specs.Answers.{policy_of}
+use Rattle.net_types.specs.Arp.{asked_ip, asker_mac}
+use Rattle.net_types.specs.ExportReading.{rules_of_text}
+use Rattle.net_types.specs.Exports.{named_by, pid_of}
+use Rattle.net_types.specs.Isolation.{in_faults, out_faults}
+use Rattle.net_types.specs.Keys.{ip_cmp, pair_cmp, pid_cmp}
+use Rattle.net_types.specs.Maps.{ordered}
+use Rattle.net_types.specs.Naming.{named_in}
+use Rattle.net_types.specs.Octets.{same_octets}
+use Rattle.net_types.specs.Policies.{Policy, Drop}
+use Rattle.net_types.specs.PolicyReading.{policy_of_text}
+use Rattle.net_types.specs.UpdateReading.{decoded}
+use Rattle.net_types.specs.Widths.{is_too_wide}
+use Rattle.net_types.specs.declared.address.Ip.{Ip}
+use Rattle.net_types.specs.declared.address.Pid.{Pid}
+use Rattle.net_types.specs.declared.address.PortNo.{PortNo}
+use Rattle.net_types.specs.declared.export.ExportRule.{ExportRule}
+use Rattle.net_types.specs.declared.isolation.IsolateFault.{IsolateFault}
+use Rattle.net_types.specs.declared.route.Participant.{Participant}
+use Rattle.net_types.specs.declared.route.PortInfo.{PortInfo}
+use Rattle.net_types.specs.declared.update.Fault.{Fault}
+use Rattle.net_types.specs.declared.update.Update.{Update as Message}
+use Rattle.net_types.specs.declared.rule.Rule.{Rule}
+use Rattle.run_laws.proofs.Carried.{neither, not_before, passes, runs_hold}
+use Rattle.run_laws.specs.Promises.{PoliciesHavePassed}
+
+-- ---- lists
+
+-- the member at a place, or what stands for none
+abbrev at : {A : Type 0} → List A → ℕ → A → A
+at xs k none = unwrap_or (slice_get xs k) none
+
+-- one more of what stands for none changes nothing
+at_more : {A : Type 0} (xs : List A) (k : ℕ) (none : A) → at (xs ++ none ∷ []) k none ≡ at xs k none
+at_more [] zero none = refl
+at_more [] (suc k) none = refl
+at_more (x ∷ xs) zero none = refl
+at_more (x ∷ xs) (suc k) none = at_more xs k none
+
+set_length : {A : Type 0} (xs : List A) (k : ℕ) (x : A) → length (slice_set xs k x) ≡ length xs
+set_length [] k x = refl
+set_length (y ∷ xs) zero x = refl
+set_length (y ∷ xs) (suc k) x = ap suc (set_length xs k x)
+
+-- lists that are alike in length, with other members at a place: there stand these, and elsewhere what stood there
+set_both : {A B : Type 0} (xs : List A) (ys : List B) (k j : ℕ) (x d : A) (y e : B) → length ys ≡ length xs
+    → ((at (slice_set xs k x) j d ≡ at xs j d) × (at (slice_set ys k y) j e ≡ at ys j e)) ⊎ ((j ≡ k) × (at (slice_set xs k x) j d ≡ x) × (at (slice_set ys k y) j e ≡ y))
+set_both [] [] k j x d y e same = inl (refl, refl)
+set_both [] (b ∷ ys) k j x d y e same = absurd (omega arith)
+set_both (a ∷ xs) [] k j x d y e same = absurd (omega arith)
+set_both (a ∷ xs) (b ∷ ys) zero zero x d y e same = inr (refl, refl, refl)
+set_both (a ∷ xs) (b ∷ ys) zero (suc j) x d y e same = inl (refl, refl)
+set_both (a ∷ xs) (b ∷ ys) (suc k) zero x d y e same = inl (refl, refl)
+set_both (a ∷ xs) (b ∷ ys) (suc k) (suc j) x d y e same = elim (set_both xs ys k j x d y e (omega arith)) [ inl stays ↦ inl stays | inr here ↦ inr (ap suc here.0, here.1, here.2) ]
+
+-- ---- texts
+
+more_read : (texts : List (List ℕ)) (ps : List Policy) (text : List ℕ) (p : Policy) → AreRead texts ps → IsRead text p → AreRead (texts ++ text ∷ []) (ps ++ p ∷ [])
+more_read [] [] text p read is = (is, tt)
+more_read [] (q ∷ ps) text p read is = absurd read
+more_read (t ∷ texts) [] text p read is = absurd read
+more_read (t ∷ texts) (q ∷ ps) text p read is = (read.0, more_read texts ps text p read.1 is)
+
+set_read : (texts : List (List ℕ)) (ps : List Policy) (k : ℕ) (text : List ℕ) (p : Policy) → AreRead texts ps → IsRead text p → AreRead (slice_set texts k text) (slice_set ps k p)
+set_read [] [] k text p read is = tt
+set_read [] (q ∷ ps) k text p read is = absurd read
+set_read (t ∷ texts) [] k text p read is = absurd read
+set_read (t ∷ texts) (q ∷ ps) zero text p read is = (is, read.1)
+set_read (t ∷ texts) (q ∷ ps) (suc k) text p read is = (read.0, set_read texts ps k text p read.1 is)
+
+-- ---- states
+
+-- The texts are read as policies that passed isolation, and the routing has whom the outbound ones name. Until the exchange
+-- runs all policies drop.
+record IsPassing (s : State) : Type 0 where
+  outbound : List Policy
+  inbound : List Policy
+  read_outbound : AreRead s.outbound outbound
+  read_inbound : AreRead s.inbound inbound
+  passed_outbound : (who : Pid) → out_faults (pid_of s.routing) (owner_of s) who (policy_of outbound who) ≡ []
+  passed_inbound : (who : Pid) → in_faults (owner_of s) who (policy_of inbound who) ≡ []
+  named : (who : Pid) → named_by s.routing who ≡ named_in (pid_of s.routing) (policy_of outbound who)
+  as_many : length s.routing.named ≡ length outbound
+  drop_outbound : (s.phase ≡ Running → ⊥) → (who : Pid) → policy_of outbound who ≡ Drop
+  drop_inbound : (s.phase ≡ Running → ⊥) → (who : Pid) → policy_of inbound who ≡ Drop
+
+nobody : ordered pid_cmp [] ≡ []
+nobody = ap (map (λ (e : Pid × Pid). e.0)) (no_entries Pid Pid pid_cmp)
+
+no_policy : (who : Pid) → policy_of [] who ≡ Drop
+no_policy who = by who.0
+  where
+    by : (k : ℕ) → at [] k Drop ≡ Drop
+    by zero = refl
+    by (suc k) = refl
+
+no_names : (who : Pid) → named_by first.routing who ≡ []
+no_names who = by who.0
+  where
+    by : (k : ℕ) → let none : List (List Pid) = [] in at none k [] ≡ []
+    by zero = refl
+    by (suc k) = refl
+
+first_passing : IsPassing first
+first_passing = record {
+  outbound = [];
+  inbound = [];
+  read_outbound = tt;
+  read_inbound = tt;
+  passed_outbound = λ who. ap (out_faults (pid_of first.routing) (owner_of first) who) (no_policy who);
+  passed_inbound = λ who. ap (in_faults (owner_of first) who) (no_policy who);
+  named = λ who. no_names who ∙ sym nobody ∙ sym (ap (named_in (pid_of first.routing)) (no_policy who));
+  as_many = refl;
+  drop_outbound = λ later who. no_policy who;
+  drop_inbound = λ later who. no_policy who;
+}
+
+-- ---- lines
+
+not_at_start : (phase : Phase) → phase ≡ Start → phase ≡ Running → ⊥
+not_at_start phase e f = cc
+
+not_declaring : (phase : Phase) → phase ≡ Declaring → phase ≡ Running → ⊥
+not_declaring phase e f = cc
+
+at_start : (phase : Phase) (base : Ip) (size capacity : ℕ) → is_placed phase (Exchange base size capacity) ≡ true → phase ≡ Start
+at_start Start base size capacity e = refl
+at_start Declaring base size capacity e = cc
+at_start Running base size capacity e = cc
+
+declares_participant : (phase : Phase) (name : List ℕ) (asn : ℕ) (id : Ip) → is_placed phase (DeclaresParticipant name asn id) ≡ true → phase ≡ Declaring
+declares_participant Start name asn id e = cc
+declares_participant Declaring name asn id e = refl
+declares_participant Running name asn id e = cc
+
+declares_port : (phase : Phase) (name : List ℕ) (q : PortInfo) → is_placed phase (DeclaresPort name q.number q.ip q.mac) ≡ true → phase ≡ Declaring
+declares_port Start name q e = cc
+declares_port Declaring name q e = refl
+declares_port Running name q e = cc
+
+-- another table changes no policy
+retable : (s : State) (table : FinMap pair_cmp (List Rule)) → IsPassing s → IsPassing (record s { table = table })
+retable s table is = record {
+  outbound = is.outbound;
+  inbound = is.inbound;
+  read_outbound = is.read_outbound;
+  read_inbound = is.read_inbound;
+  passed_outbound = is.passed_outbound;
+  passed_inbound = is.passed_inbound;
+  named = is.named;
+  as_many = is.as_many;
+  drop_outbound = is.drop_outbound;
+  drop_inbound = is.drop_inbound;
+}
+
+pool_passing : (s : State) (base : Ip) (size capacity : ℕ) → s.phase ≡ Start → IsPassing s → IsPassing (after s (Exchange base size capacity))
+pool_passing s base size capacity start is = record {
+  outbound = is.outbound;
+  inbound = is.inbound;
+  read_outbound = is.read_outbound;
+  read_inbound = is.read_inbound;
+  passed_outbound = is.passed_outbound;
+  passed_inbound = is.passed_inbound;
+  named = is.named;
+  as_many = is.as_many;
+  drop_outbound = λ later. is.drop_outbound (not_at_start s.phase start);
+  drop_inbound = λ later. is.drop_inbound (not_at_start s.phase start);
+}
+
+-- a further participant's policies drop
+participant_passing : (s : State) (m : Participant) → s.phase ≡ Declaring → IsPassing s → IsPassing (with_participant s m)
+participant_passing s m declaring is =
+    let outbound : List Policy = is.outbound ++ Drop ∷ [] in
+    let inbound : List Policy = is.inbound ++ Drop ∷ [] in
+    let drops : (who : Pid) → policy_of outbound who ≡ Drop = λ who. at_more is.outbound who.0 Drop ∙ is.drop_outbound (not_declaring s.phase declaring) who in
+    let too : (who : Pid) → policy_of inbound who ≡ Drop = λ who. at_more is.inbound who.0 Drop ∙ is.drop_inbound (not_declaring s.phase declaring) who in
+    let s1 : State = with_participant s m in record {
+      outbound = outbound;
+      inbound = inbound;
+      read_outbound = more_read s.outbound is.outbound (codes "drop") Drop is.read_outbound drop_is_read;
+      read_inbound = more_read s.inbound is.inbound (codes "drop") Drop is.read_inbound drop_is_read;
+      passed_outbound = λ who. ap (out_faults (pid_of s1.routing) (owner_of s1) who) (drops who);
+      passed_inbound = λ who. ap (in_faults (owner_of s1) who) (too who);
+      named = λ who.
+          at_more s.routing.named who.0 [] ∙ is.named who
+          ∙ ap (named_in (pid_of s.routing)) (is.drop_outbound (not_declaring s.phase declaring) who)
+          ∙ sym (ap (named_in (pid_of s1.routing)) (drops who));
+      as_many = length-append s.routing.named ([] ∷ []) ∙ ap (λ n. n + 1) is.as_many ∙ sym (length-append is.outbound (Drop ∷ []));
+      drop_outbound = λ later. drops;
+      drop_inbound = λ later. too;
+    }
+
+-- a further port is declared while all policies drop
+port_passing : (s : State) (q : PortInfo) → s.phase ≡ Declaring → IsPassing s → IsPassing (with_port s q)
+port_passing s q declaring is =
+    let drops : (who : Pid) → policy_of is.outbound who ≡ Drop = is.drop_outbound (not_declaring s.phase declaring) in
+    let too : (who : Pid) → policy_of is.inbound who ≡ Drop = is.drop_inbound (not_declaring s.phase declaring) in
+    let s1 : State = with_port s q in record {
+      outbound = is.outbound;
+      inbound = is.inbound;
+      read_outbound = is.read_outbound;
+      read_inbound = is.read_inbound;
+      passed_outbound = λ who. ap (out_faults (pid_of s1.routing) (owner_of s1) who) (drops who);
+      passed_inbound = λ who. ap (in_faults (owner_of s1) who) (too who);
+      named = is.named;
+      as_many = is.as_many;
+      drop_outbound = λ later. drops;
+      drop_inbound = λ later. too;
+    }
+
+-- what isolation speaks of
+record Said : Type 0 where
+  outbound : List (List ℕ)
+  inbound : List (List ℕ)
+  participants : List Participant
+  ports : List PortInfo
+  named : List (List Pid)
+
+abbrev said : State → Said
+said s = record { outbound = s.outbound; inbound = s.inbound; participants = s.routing.participants; ports = s.routing.ports; named = s.routing.named }
+
+-- the exchange runs, with the policies and declarations that it had
+record Keeps (s s1 : State) : Type 0 where
+  same : said s1 ≡ said s
+  running : s1.phase ≡ Running
+
+kept_passing : (s s1 : State) → said s1 ≡ said s → s1.phase ≡ Running → IsPassing s → IsPassing s1
+kept_passing s s1 same running is =
+    let names : pid_of s1.routing ≡ pid_of s.routing = ap (λ (x : Said). pid_of (record s.routing { participants = x.participants })) same in
+    let owners : owner_of s1 ≡ owner_of s = ap (λ (x : Said). owner_of (record s { routing = record s.routing { ports = x.ports } })) same in record {
+      outbound = is.outbound;
+      inbound = is.inbound;
+      read_outbound = subst (λ (x : Said). AreRead x.outbound is.outbound) (sym same) is.read_outbound;
+      read_inbound = subst (λ (x : Said). AreRead x.inbound is.inbound) (sym same) is.read_inbound;
+      passed_outbound = λ who. ap (λ f. out_faults f (owner_of s1) who (policy_of is.outbound who)) names ∙ ap (λ f. out_faults (pid_of s.routing) f who (policy_of is.outbound who)) owners ∙ is.passed_outbound who;
+      passed_inbound = λ who. ap (λ f. in_faults f who (policy_of is.inbound who)) owners ∙ is.passed_inbound who;
+      named = λ who. ap (λ (x : Said). at x.named who.0 []) same ∙ is.named who ∙ sym (ap (λ f. named_in f (policy_of is.outbound who)) names);
+      as_many = ap (λ (x : Said). length x.named) same ∙ is.as_many;
+      drop_outbound = λ later. absurd (later running);
+      drop_inbound = λ later. absurd (later running);
+    }
+
+updated_passing : (s : State) (who : Pid) (read : Result Message Fault) → IsPassing s → IsPassing (updated s who read)
+updated_passing s who (Ok u) is = kept_passing s _ refl refl is
+updated_passing s who (Err fault) is = is
+
+ruled_passing : (s : State) (who : Pid) (rules : Option (List ExportRule)) → IsPassing s → IsPassing (ruled s who rules)
+ruled_passing s who (Some rules) is = kept_passing s _ refl refl is
+ruled_passing s who None is = is
+
+worked_passing : (s : State) (units owed : ℕ) (b : Bool) → IsPassing s → IsPassing (cond b (running (record s { owed = Some (owed - units) })) (merged s))
+worked_passing s units owed true is = kept_passing s _ refl refl is
+worked_passing s units owed false is = kept_passing s _ refl refl is
+
+resolved_keeps : (s : State) (n : PortNo) (ips : List Ip) → Keeps s (running (with_resolved s n ips))
+resolved_keeps s n ips = by (port_place s n)
+  where
+    by : (o : Option ℕ) → Keeps s (running (option_map_or (λ place. let x : State = record s { resolved = slice_set s.resolved place (ordered ip_cmp (resolved_at s n ++ ips)) } in x) o s))
+    by None = record { same = refl; running = refl }
+    by (Some place) = record { same = refl; running = refl }
+
+answer_keeps : (s : State) (q : PortInfo) (frame : List ℕ) → Keeps s (running (with_answer s q frame))
+answer_keeps s q frame = by (is_pool_request s frame && same_octets (asker_mac frame).0 q.mac.0)
+  where
+    by : (b : Bool) → Keeps s (running (cond b (with_resolved s q.number (asked_ip frame ∷ [])) s))
+    by true = resolved_keeps s q.number (asked_ip frame ∷ [])
+    by false = record { same = refl; running = refl }
+
+-- ---- policies
+
+-- a policy that isn't refused for isolation has no faults
+no_faults : (faults : List IsolateFault) → isolation_refusal faults ≡ None → faults ≡ []
+no_faults [] e = refl
+no_faults (fault ∷ faults) e = absurd (cc)
+
+free : (faults : List IsolateFault) (p : Policy) → policy_refusal faults p ≡ None → faults ≡ []
+free faults p none = no_faults faults (neither (isolation_refusal faults) (refused_if (is_too_wide p) TooWide) none).0
+
+same_pid : (w who : Pid) → w.0 ≡ who.0 → who ≡ w
+same_pid w who same = λ i. record { 0 = sym same i }
+
+sent_passing : (s : State) (who : Pid) (text : List ℕ) (o : Result Policy Misread) → policy_of_text text ≡ o → outbound_refusal s who text o ≡ None → IsPassing s → IsPassing (sent_by s who text o)
+sent_passing s who text (Err fault) read none is = absurd (cc)
+sent_passing s who text (Ok p) read none is =
+    let names : List Pid = named_in (pid_of s.routing) p in
+    let clear : out_faults (pid_of s.routing) (owner_of s) who p ≡ [] =
+    free (out_faults (pid_of s.routing) (owner_of s) who p) p (neither (policy_refusal (out_faults (pid_of s.routing) (owner_of s) who p) p) (tags_refusal (with_outbound s who text names) (with_named s.routing who names)) none).0 in
+    let there = λ (w : Pid). set_both is.outbound s.routing.named who.0 w.0 p Drop names [] is.as_many in record {
+      outbound = slice_set is.outbound who.0 p;
+      inbound = is.inbound;
+      read_outbound = set_read s.outbound is.outbound who.0 text p is.read_outbound read;
+      read_inbound = is.read_inbound;
+      passed_outbound = λ w. elim (there w) [
+        | inl stays ↦ ap (out_faults (pid_of s.routing) (owner_of s) w) stays.0 ∙ is.passed_outbound w
+        | inr here ↦ ap (out_faults (pid_of s.routing) (owner_of s) w) here.1 ∙ subst (λ (x : Pid). out_faults (pid_of s.routing) (owner_of s) x p ≡ []) (same_pid w who here.0) clear
+      ];
+      passed_inbound = is.passed_inbound;
+      named = λ w. elim (there w) [
+        | inl stays ↦ stays.1 ∙ is.named w ∙ sym (ap (named_in (pid_of s.routing)) stays.0)
+        | inr here ↦ here.2 ∙ sym (ap (named_in (pid_of s.routing)) here.1)
+      ];
+      as_many = set_length s.routing.named who.0 names ∙ is.as_many ∙ sym (set_length is.outbound who.0 p);
+      drop_outbound = λ later. absurd (later refl);
+      drop_inbound = λ later. absurd (later refl);
+    }
+
+received_passing : (s : State) (who : Pid) (text : List ℕ) (o : Result Policy Misread) → policy_of_text text ≡ o → inbound_refusal s who o ≡ None → IsPassing s → IsPassing (received_by s who text o)
+received_passing s who text (Err fault) read none is = absurd (cc)
+received_passing s who text (Ok p) read none is =
+    let clear : in_faults (owner_of s) who p ≡ [] = free (in_faults (owner_of s) who p) p none in
+    let there = λ (w : Pid). set_both is.inbound is.inbound who.0 w.0 p Drop p Drop refl in record {
+      outbound = is.outbound;
+      inbound = slice_set is.inbound who.0 p;
+      read_outbound = is.read_outbound;
+      read_inbound = set_read s.inbound is.inbound who.0 text p is.read_inbound read;
+      passed_outbound = is.passed_outbound;
+      passed_inbound = λ w. elim (there w) [
+        | inl stays ↦ ap (in_faults (owner_of s) w) stays.0 ∙ is.passed_inbound w
+        | inr here ↦ ap (in_faults (owner_of s) w) here.1 ∙ subst (λ (x : Pid). in_faults (owner_of s) x p ≡ []) (same_pid w who here.0) clear
+      ];
+      named = is.named;
+      as_many = is.as_many;
+      drop_outbound = λ later. absurd (later refl);
+      drop_inbound = λ later. absurd (later refl);
+    }
+
+-- ---- each line
+
+known_passing : {X : Type 0} (s : State) (o : Option X) (f : X → State) → IsPassing s → ((x : X) → o ≡ Some x → IsPassing (f x)) → IsPassing (with_known s o f)
+known_passing s None f is then = is
+known_passing s (Some x) f is then = then x refl
+
+-- where something is known, and no refusal stops the line
+free_passing : {X : Type 0} (s : State) (o : Option X) (g : X → Option Refusal) (f : X → State) → if_known o g ≡ None → ((x : X) → g x ≡ None → IsPassing (f x)) → IsPassing (with_known s o f)
+free_passing s None g f none then = absurd (cc)
+free_passing s (Some x) g f none then = then x none
+
+after_passing : (s : State) (e : Event) → refusal s e ≡ None → IsPassing s → IsPassing (after s e)
+after_passing s Bad none is = is
+after_passing s (Exchange base size capacity) none is = pool_passing s base size capacity (at_start s.phase base size capacity (passes s (Exchange base size capacity) none).0) is
+after_passing s (DeclaresParticipant name asn id) none is =
+    participant_passing s (record { name = name; asn = asn; id = id }) (declares_participant s.phase name asn id (passes s (DeclaresParticipant name asn id) none).0) is
+after_passing s (DeclaresPort name number ip mac) none is =
+    known_passing s (pid_of s.routing name) (λ who. with_port s (record { owner = who; number = number; ip = ip; mac = mac })) is (λ who there.
+    let q : PortInfo = record { owner = who; number = number; ip = ip; mac = mac } in
+    port_passing s q (declares_port s.phase name q (passes s (DeclaresPort name number ip mac) none).0) is)
+after_passing s (Update name bytes) none is = known_passing s (pid_of s.routing name) (λ who. updated s who (decoded bytes)) is (λ who there. updated_passing s who (decoded bytes) is)
+after_passing s (Down name) none is =
+    known_passing s (pid_of s.routing name) (λ who. retagged s (without_from s.routing who)) is (λ who there.
+    kept_passing s _ refl refl is)
+after_passing s (Export name text) none is =
+    known_passing s (pid_of s.routing name) (λ who. ruled s who (bound_read s.routing (rules_of_text text))) is (λ who there. ruled_passing s who (bound_read s.routing (rules_of_text text)) is)
+after_passing s (Outbound name text) none is =
+    free_passing s (pid_of s.routing name) (λ who. if_short text (outbound_refusal s who text (policy_of_text text))) (λ who. sent_by s who text (policy_of_text text)) (passes s (Outbound name text) none).1 (λ who short.
+    sent_passing s who text (policy_of_text text) refl (not_before (nat_lt 8192 (length text)) TextLong (outbound_refusal s who text (policy_of_text text)) short) is)
+after_passing s (Inbound name text) none is =
+    free_passing s (pid_of s.routing name) (λ who. if_short text (inbound_refusal s who (policy_of_text text))) (λ who. received_by s who text (policy_of_text text)) (passes s (Inbound name text) none).1 (λ who short.
+    received_passing s who text (policy_of_text text) refl (not_before (nat_lt 8192 (length text)) TextLong (inbound_refusal s who (policy_of_text text)) short) is)
+after_passing s (Take name count) none is =
+    known_passing s (pid_of s.routing name) (λ who. settled (running (taken s who (take count (pending s who))))) is (λ who there.
+    kept_passing s _ refl refl is)
+after_passing s (Drain name) none is =
+    known_passing s (pid_of s.routing name) (λ who. settled (running (with_told s who (present s who)))) is (λ who there.
+    kept_passing s _ refl refl is)
+after_passing s (Arp n bytes) none is =
+    known_passing s (port_of s n) (λ q. running (with_answer s q bytes)) is (λ q there.
+    let keeps = answer_keeps s q bytes in kept_passing s (running (with_answer s q bytes)) keeps.same keeps.running is)
+after_passing s (Resolve n) none is =
+    known_passing s (port_of s n) (λ q. running (with_resolved s n (unresolved s q))) is (λ q there.
+    let keeps = resolved_keeps s n (unresolved s q) in kept_passing s (running (with_resolved s n (unresolved s q))) keeps.same keeps.running is)
+after_passing s (Packet n bytes) none is = kept_passing s _ refl refl is
+after_passing s (Frame n bytes) none is = kept_passing s _ refl refl is
+after_passing s Recompile none is = kept_passing s _ refl refl is
+after_passing s (Work units) none is = known_passing s s.owed (worked s units) is (λ owed there. worked_passing s units owed (nat_lt units owed) is)
+after_passing s Table none is = kept_passing s _ refl refl is
+
+pub policies_have_passed : PoliciesHavePassed
+policies_have_passed es rs legal =
+    let s : State = state_after es rs in
+    let is : IsPassing s = runs_hold IsPassing (record { start = first_passing; tables = retable; lines = after_passing }) es rs legal in (
+      record { named = pid_of s.routing; outbound = is.outbound; inbound = is.inbound },
+      record { names = refl; outbound = is.read_outbound; inbound = is.read_inbound },
+      record { outbound = is.passed_outbound; inbound = is.passed_inbound; named = is.named },
+    )
