@@ -5,5 +5,6 @@ pub mod Fields
 pub mod Rules
 pub mod Heads
 pub mod Lines
-pub mod Replies
 pub mod Portless
+pub mod LegalRules
+pub mod Replies

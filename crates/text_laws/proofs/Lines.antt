@@ -14,6 +14,7 @@ use Rattle.net_types.specs.declared.address.Tag.{Tag}
 use Rattle.net_types.specs.declared.prefix.Prefix.{Prefix}
 use Rattle.net_types.specs.declared.rule.Pair.{Pair}
 use Rattle.net_types.specs.declared.rule.Rule.{Rule}
+use Rattle.text_laws.specs.Naming.{IsOfNoPort}
 use Rattle.text_laws.specs.Widths.{AreOctets, Each, IfThere, IsExchange, IsFlow, IsFrame, IsNumber, IsPair, IsTagChange}
 use Rattle.text_laws.proofs.Alike.{Alike, Anything, behind, closed, decimals, gives, is_hex, next, starts}
 use Rattle.text_laws.proofs.Joined.{cons_is}
@@ -101,22 +102,31 @@ drops_told p q one two = closed end_line (λ s. refl) (behind (codes "  drop ") 
 flow_is : (f g : Flow) → f.pair ≡ g.pair → f.rule ≡ g.rule → f ≡ g
 flow_is f g d e = ap₂ (λ (p : Pair) (r : Rule). let x : Flow = record { pair = p; rule = r } in x) d e
 
-module _ (f g : Flow) (one : IsFlow f) (two : IsFlow g) where
+-- a rule whose numbers fit, and whose cube is of no port
+pub record IsPlainFlow (f : Flow) : Type 0 where
+  pub widths : IsFlow f
+  pub of_no_port : IsOfNoPort f.rule.cube
+
+pub plain_flows : (fs : List Flow) → Each IsFlow fs → Each (λ (f : Flow). IsOfNoPort f.rule.cube) fs → Each IsPlainFlow fs
+plain_flows [] widths frees = tt
+plain_flows (f ∷ fs) widths frees = (record { widths = widths.0; of_no_port = frees.0 }, plain_flows fs widths.1 frees.1)
+
+module _ (f g : Flow) (one : IsPlainFlow f) (two : IsPlainFlow g) where
   adds_told : Alike Anything (f ≡ g) (add_text f) (add_text g)
   adds_told =
       gives (λ is. flow_is f g is.0 is.1)
-      (closed end_line (λ s. (s, refl)) (next (closed (codes " ") (λ s. refl) (behind (codes "  add ") (pairs f.pair g.pair one.pair two.pair))) (rules f.rule g.rule one.rule two.rule)))
+      (closed end_line (λ s. (s, refl)) (next (closed (codes " ") (λ s. refl) (behind (codes "  add ") (pairs f.pair g.pair one.widths.pair two.widths.pair))) (rules f.rule g.rule one.widths.rule two.widths.rule one.of_no_port two.of_no_port)))
 
   flows_told : Alike Anything (f ≡ g) (flow_text f) (flow_text g)
   flows_told =
       gives (λ is. flow_is f g is.0 is.1)
-      (closed end_line (λ s. (s, refl)) (next (closed (codes " ") (λ s. refl) (behind (codes "  flow ") (pairs f.pair g.pair one.pair two.pair))) (rules f.rule g.rule one.rule two.rule)))
+      (closed end_line (λ s. (s, refl)) (next (closed (codes " ") (λ s. refl) (behind (codes "  flow ") (pairs f.pair g.pair one.widths.pair two.widths.pair))) (rules f.rule g.rule one.widths.rule two.widths.rule one.of_no_port two.of_no_port)))
 
 pub rule_begins : (e : Event) (f : Flow) (s : List ℕ) → part (rule_line e f ++ s) ≡ 3
 rule_begins Table f s = refl
 rule_begins e f s = refl
 
-pub rules_told : (e : Event) (f g : Flow) → IsFlow f → IsFlow g → Alike Anything (f ≡ g) (rule_line e f) (rule_line e g)
+pub rules_told : (e : Event) (f g : Flow) → IsPlainFlow f → IsPlainFlow g → Alike Anything (f ≡ g) (rule_line e f) (rule_line e g)
 rules_told Table f g one two = flows_told f g one two
 rules_told e f g one two = adds_told f g one two
 

@@ -15,12 +15,13 @@ use Rattle.events.specs.declared.Head.{Head}
 use Rattle.events.specs.declared.Reply.{Reply}
 use Rattle.events.specs.declared.TagChange.{TagChange}
 use Rattle.net_types.specs.declared.rule.Pair.{Pair}
-use Rattle.text_laws.specs.Naming.{HasAsMany, TextsNameReplies, WritableTextsNameReplies}
-use Rattle.text_laws.specs.Widths.{AreOctets, IsExchange, IsFlow, IsFrame, IsPair, IsTagChange, IsWritable}
+use Rattle.text_laws.specs.Naming.{AddsNoPort, HasAsMany, IsWritable, TextsNameReplies, WritableTextsNameReplies}
+use Rattle.text_laws.specs.Widths.{AreOctets, Each, HasWidths, IsExchange, IsFrame, IsPair, IsTagChange}
 use Rattle.text_laws.proofs.Alike.{Alike, Anything, behind, closed, is_hex, starts}
 use Rattle.text_laws.proofs.Heads.{heads}
 use Rattle.text_laws.proofs.Joined.{cons_is}
-use Rattle.text_laws.proofs.Lines.{advert_begins, adverts_told, drop_begins, drops_told, exchange_begins, exchanges_told, frame_begins, frames_told, head_part, part, part_over, part_told, rule_begins, rules_told, tag_begins, tags_told}
+use Rattle.text_laws.proofs.LegalRules.{legal_rules_are_of_no_port}
+use Rattle.text_laws.proofs.Lines.{advert_begins, adverts_told, drop_begins, drops_told, exchange_begins, exchanges_told, frame_begins, frames_told, IsPlainFlow, head_part, part, part_over, part_told, plain_flows, rule_begins, rules_told, tag_begins, tags_told}
 
 -- ---- one reply
 
@@ -77,7 +78,7 @@ module _ (e : Event) (r : Reply) (s : List ℕ) (ends : part s ≡ 7) where
   behind_adds j low = part_over advert_text AreOctets 4 advert_begins j r.adverts (asks_on r s) low (behind_adverts j (omega (arith, low)))
 
   behind_drops : (j : ℕ) → j < 3 → j < part (adds_on e r s)
-  behind_drops j low = part_over (rule_line e) IsFlow 3 (rule_begins e) j r.adds (adverts_on r s) low (behind_adds j (omega (arith, low)))
+  behind_drops j low = part_over (rule_line e) IsPlainFlow 3 (rule_begins e) j r.adds (adverts_on r s) low (behind_adds j (omega (arith, low)))
 
   behind_tags : (j : ℕ) → j < 2 → j < part (drops_on e r s)
   behind_tags j low = part_over drop_text IsPair 2 drop_begins j r.drops (adds_on e r s) low (behind_drops j (omega (arith, low)))
@@ -89,18 +90,18 @@ reply_told n e r q s t one two ends stops same =
     let nested : head ++ tags_on e r s ≡ other ++ tags_on e q t =
     sym (right_nested head (flat_map tag_text r.tags) (flat_map drop_text r.drops) (flat_map (rule_line e) r.adds) (flat_map advert_text r.adverts) (flat_map exchange_text r.asks) (flat_map frame_text r.frames) s)
     ∙ same ∙ right_nested other (flat_map tag_text q.tags) (flat_map drop_text q.drops) (flat_map (rule_line e) q.adds) (flat_map advert_text q.adverts) (flat_map exchange_text q.asks) (flat_map frame_text q.frames) t in
-    let first = (head_line n r.head q.head (heads r.head q.head one.head two.head)).is (tags_on e r s) (tags_on e q t) tt tt nested in
+    let first = (head_line n r.head q.head (heads r.head q.head one.widths.head two.widths.head)).is (tags_on e r s) (tags_on e q t) tt tt nested in
     let tags =
-    part_told tag_text IsTagChange 1 tag_begins tags_told r.tags q.tags (drops_on e r s) (drops_on e q t) one.tags two.tags (behind_tags e r s ends 1 (omega arith)) (behind_tags e q t stops 1 (omega arith)) first.1 in
+    part_told tag_text IsTagChange 1 tag_begins tags_told r.tags q.tags (drops_on e r s) (drops_on e q t) one.widths.tags two.widths.tags (behind_tags e r s ends 1 (omega arith)) (behind_tags e q t stops 1 (omega arith)) first.1 in
     let drops =
-    part_told drop_text IsPair 2 drop_begins drops_told r.drops q.drops (adds_on e r s) (adds_on e q t) one.drops two.drops (behind_drops e r s ends 2 (omega arith)) (behind_drops e q t stops 2 (omega arith)) tags.1 in
+    part_told drop_text IsPair 2 drop_begins drops_told r.drops q.drops (adds_on e r s) (adds_on e q t) one.widths.drops two.widths.drops (behind_drops e r s ends 2 (omega arith)) (behind_drops e q t stops 2 (omega arith)) tags.1 in
     let adds =
-    part_told (rule_line e) IsFlow 3 (rule_begins e) (rules_told e) r.adds q.adds (adverts_on r s) (adverts_on q t) one.adds two.adds (behind_adds e r s ends 3 (omega arith)) (behind_adds e q t stops 3 (omega arith)) drops.1 in
+    part_told (rule_line e) IsPlainFlow 3 (rule_begins e) (rules_told e) r.adds q.adds (adverts_on r s) (adverts_on q t) (plain_flows r.adds one.widths.adds one.of_no_port) (plain_flows q.adds two.widths.adds two.of_no_port) (behind_adds e r s ends 3 (omega arith)) (behind_adds e q t stops 3 (omega arith)) drops.1 in
     let adverts =
-    part_told advert_text AreOctets 4 advert_begins adverts_told r.adverts q.adverts (asks_on r s) (asks_on q t) one.adverts two.adverts (behind_adverts e r s ends 4 (omega arith)) (behind_adverts e q t stops 4 (omega arith)) adds.1 in
+    part_told advert_text AreOctets 4 advert_begins adverts_told r.adverts q.adverts (asks_on r s) (asks_on q t) one.widths.adverts two.widths.adverts (behind_adverts e r s ends 4 (omega arith)) (behind_adverts e q t stops 4 (omega arith)) adds.1 in
     let asks =
-    part_told exchange_text IsExchange 5 exchange_begins exchanges_told r.asks q.asks (frames_on r s) (frames_on q t) one.asks two.asks (behind_asks e r s ends 5 (omega arith)) (behind_asks e q t stops 5 (omega arith)) adverts.1 in
-    let frames = part_told frame_text IsFrame 6 frame_begins frames_told r.frames q.frames s t one.frames two.frames (behind_frames e r s ends 6 (omega arith)) (behind_frames e q t stops 6 (omega arith)) asks.1 in
+    part_told exchange_text IsExchange 5 exchange_begins exchanges_told r.asks q.asks (frames_on r s) (frames_on q t) one.widths.asks two.widths.asks (behind_asks e r s ends 5 (omega arith)) (behind_asks e q t stops 5 (omega arith)) adverts.1 in
+    let frames = part_told frame_text IsFrame 6 frame_begins frames_told r.frames q.frames s t one.widths.frames two.widths.frames (behind_frames e r s ends 6 (omega arith)) (behind_frames e q t stops 6 (omega arith)) asks.1 in
     (reply_is r q first.0 tags.0 drops.0 adds.0 adverts.0 asks.0 frames.0, frames.1)
 
 -- ---- lists of replies
@@ -164,5 +165,11 @@ legal_many s [] (r ∷ rs) legal = absurd legal
 legal_many s (n ∷ ns) [] legal = absurd legal
 legal_many s (n ∷ ns) (r ∷ rs) legal = legal_many (state_next s n.event r) ns rs legal.1
 
+writable : (rs : List Reply) → Each HasWidths rs → Each AddsNoPort rs → Each IsWritable rs
+writable [] widths frees = tt
+writable (r ∷ rs) widths frees = (record { widths = widths.0; of_no_port = frees.0 }, writable rs widths.1 frees.1)
+
 pub texts_name_replies : TextsNameReplies
-texts_name_replies ns rs qs legal also = writable_texts_name_replies ns rs qs (legal_many first_state ns rs legal) (legal_many first_state ns qs also)
+texts_name_replies ns rs qs legal also widths wide =
+    writable_texts_name_replies ns rs qs (legal_many first_state ns rs legal) (legal_many first_state ns qs also) (writable rs widths (legal_rules_are_of_no_port (bare_events ns) rs legal))
+    (writable qs wide (legal_rules_are_of_no_port (bare_events ns) qs also))

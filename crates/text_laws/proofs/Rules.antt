@@ -264,7 +264,7 @@ actions_alike ls bs each also = record {
 rule_is : (r q : Rule) → r.cube ≡ q.cube → r.actions ≡ q.actions → r ≡ q
 rule_is r q e f = ap₂ (λ (c : Cube) (ls : List Action). let x : Rule = record { cube = c; actions = ls } in x) e f
 
-pub rules : (r q : Rule) → IsRule r → IsRule q → Alike (Begins 10) (r ≡ q) (rule_text r) (rule_text q)
-rules r q one two =
+pub rules : (r q : Rule) → IsRule r → IsRule q → r.cube.inport ≡ None → q.cube.inport ≡ None → Alike (Begins 10) (r ≡ q) (rule_text r) (rule_text q)
+rules r q one two here there =
     gives (λ is. rule_is r q is.0 is.1)
-    (next (closed (codes " -> ") (λ s. (codes "-> " ++ s, refl)) (cubes r.cube q.cube one.cube two.cube one.of_no_port two.of_no_port)) (actions_alike r.actions q.actions one.actions two.actions))
+    (next (closed (codes " -> ") (λ s. (codes "-> " ++ s, refl)) (cubes r.cube q.cube one.cube two.cube here there)) (actions_alike r.actions q.actions one.actions two.actions))

@@ -10,8 +10,10 @@ use Rattle.events.specs.Lines.{Numbered, bare_events}
 use Rattle.events.specs.Sound.{IsRight}
 use Rattle.events.specs.State.{State, ArePassed}
 use Rattle.events.specs.Text.{text}
+use Rattle.events.specs.declared.Event.{Event}
+use Rattle.events.specs.declared.Flow.{Flow}
 use Rattle.events.specs.declared.Reply.{Reply}
-use Rattle.text_laws.specs.Widths.{Each, IsWritable}
+use Rattle.text_laws.specs.Widths.{Each, HasWidths}
 
 -- a reply for each line
 abbrev pub HasAsMany : List Numbered → List Reply → Type 0
@@ -20,21 +22,34 @@ HasAsMany (n ∷ ns) (r ∷ rs) = HasAsMany ns rs
 HasAsMany [] (r ∷ rs) = ⊥
 HasAsMany (n ∷ ns) [] = ⊥
 
+-- a cube without an inport
+abbrev pub IsOfNoPort : Cube → Type 0
+IsOfNoPort c = c.inport ≡ None
+
+-- no rule of a reply has a cube with an inport
+abbrev pub AddsNoPort : Reply → Type 0
+AddsNoPort r = Each (λ (f : Flow). IsOfNoPort f.rule.cube) r.adds
+
+-- a reply can be written where its numbers fit their types, and no rule has an inport
+pub record IsWritable (r : Reply) : Type 0 where
+  pub widths : HasWidths r
+  pub of_no_port : AddsNoPort r
+
 -- for given lines, replies of which each can be written are the same where their texts are
 abbrev pub WritableTextsNameReplies : Type 0
 WritableTextsNameReplies =
     (ns : List Numbered) (rs qs : List Reply) → HasAsMany ns rs → HasAsMany ns qs → Each IsWritable rs → Each IsWritable qs → text ns rs ≡ text ns qs → rs ≡ qs
 
--- so legal replies to given lines, of which each can be written, are named by their text
+-- so legal replies to given lines are named by their text, where their numbers fit their types
 abbrev pub TextsNameReplies : Type 0
 TextsNameReplies =
-    (ns : List Numbered) (rs qs : List Reply) → Legal (bare_events ns) rs → Legal (bare_events ns) qs → Each IsWritable rs → Each IsWritable qs → text ns rs ≡ text ns qs → rs ≡ qs
-
--- a cube without an inport
-abbrev pub IsOfNoPort : Cube → Type 0
-IsOfNoPort c = c.inport ≡ None
+    (ns : List Numbered) (rs qs : List Reply) → Legal (bare_events ns) rs → Legal (bare_events ns) qs → Each HasWidths rs → Each HasWidths qs → text ns rs ≡ text ns qs → rs ≡ qs
 
 -- where the policies passed isolation, the cubes of right rules are of no port
 abbrev pub RightRulesAreOfNoPort : Type 0
 RightRulesAreOfNoPort =
     (s : State) (ps : Policies) → ArePassed s ps → (part : Part) (port : PortNo) (rules : List Rule) → IsRight ps part port rules → Each (λ (r : Rule). IsOfNoPort r.cube) rules
+
+-- so no rule of a legal reply has a cube with an inport
+abbrev pub LegalRulesAreOfNoPort : Type 0
+LegalRulesAreOfNoPort = (es : List Event) (rs : List Reply) → Legal es rs → Each AddsNoPort rs

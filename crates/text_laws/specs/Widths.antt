@@ -1,5 +1,5 @@
 -- Which numbers replies have: each one fits its type (this exchange's own rule).
-use Rattle.std.specs.Prelude.{◌≡◌, ℕ, ◌^◌, ◌<◌, List, [], ◌∷◌, Option, Some, None}
+use Rattle.std.specs.Prelude.{ℕ, ◌^◌, ◌<◌, List, [], ◌∷◌, Option, Some, None}
 use Rattle.net_types.specs.declared.address.Ip.{Ip}
 use Rattle.net_types.specs.declared.address.Tag.{Tag}
 use Rattle.net_types.specs.declared.actions.Action.{Action}
@@ -60,10 +60,9 @@ pub record IsCube (c : Cube) : Type 0 where
   pub sport : IfThere IsNumber c.sport
   pub dport : IfThere IsNumber c.dport
 
--- a rule, whose cube is of no port
+-- a rule's cube and actions
 pub record IsRule (r : Rule) : Type 0 where
   pub cube : IsCube r.cube
-  pub of_no_port : r.cube.inport ≡ None
   pub actions : Each IsAction r.actions
 
 pub record IsFlow (f : Flow) : Type 0 where
@@ -111,8 +110,8 @@ IsHead (Unresolved ip) = IsAddress ip
 IsHead Silent = Unit {0}
 IsHead (Refused why) = IsRefusal why
 
--- the numbers of a reply
-pub record IsWritable (r : Reply) : Type 0 where
+-- the numbers of a reply, as all values of the program have them
+pub record HasWidths (r : Reply) : Type 0 where
   pub head : IsHead r.head
   pub tags : Each IsTagChange r.tags
   pub drops : Each IsPair r.drops

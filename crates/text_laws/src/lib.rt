@@ -2,7 +2,7 @@
 //! laws.
 #![tactic(auto)]
 
-ghost use Rattle.text_laws.specs.Naming.{RightRulesAreOfNoPort, TextsNameReplies, WritableTextsNameReplies};
+ghost use Rattle.text_laws.specs.Naming.{LegalRulesAreOfNoPort, RightRulesAreOfNoPort, TextsNameReplies, WritableTextsNameReplies};
 
 /// For given lines, two lists with a reply for each line and with the same text are the same list, where each number fits its
 /// type and no rule's cube is of a port.
@@ -10,7 +10,7 @@ pub fn writable_texts_name_replies()
     ensures { WritableTextsNameReplies }
 {}
 
-/// So the text of legal replies names them.
+/// So the text of legal replies names them, where each number fits its type.
 pub fn texts_name_replies()
     ensures { TextsNameReplies }
 {}
@@ -18,4 +18,9 @@ pub fn texts_name_replies()
 /// Where the policies passed isolation, the cubes of rules that are right for a part are of no port.
 pub fn right_rules_are_of_no_port()
     ensures { RightRulesAreOfNoPort }
+{}
+
+/// In a legal run no rule of a reply has a cube of a port.
+pub fn legal_rules_are_of_no_port()
+    ensures { LegalRulesAreOfNoPort }
 {}
