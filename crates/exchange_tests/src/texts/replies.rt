@@ -230,7 +230,7 @@ fn a_reply_has_its_details_in_order(rt: HostRuntime) -> Result<(), Fail> {
 }
 
 /// What stands behind the number of a line.
-const HEADS: [(Head, &str); 41] = [
+const HEADS: [(Head, &str); 42] = [
     (Head::Fine, "ok"),
     (Head::Working(9), "working 9"),
     (
