@@ -4,8 +4,7 @@ use Rattle.events.specs.Lines.{is_name, is_utf8}
 use Rattle.events.specs.declared.Event.{Event}
 use Rattle.events.specs.declared.Event.TheVariants.{Bad, Exchange, Participant as DeclaresParticipant, Port as DeclaresPort, Update, Down, Export, Outbound, Inbound, Take, Drain, Arp, Resolve, Packet, Frame, Recompile, Work, Table}
 
--- What is so of the events that lines give. The lines of policies, of takes and of jobs aren't read yet, so nothing gives their
--- events.
+-- What is so of the events that lines give. The lines of jobs aren't read yet, so nothing gives their events.
 abbrev pub IsWellFormed : Event → Type 0
 IsWellFormed Bad = Unit {0}
 IsWellFormed (Exchange base size capacity) = (1 ≤ size) × (size ≤ 65536) × (1 ≤ capacity) × (capacity ≤ 1000000) × (16777215 ≤ base.0) × (base.0 + size ≤ 3758096383)
@@ -14,9 +13,9 @@ IsWellFormed (DeclaresPort name number ip mac) = IsTrue (is_name name) × (1 ≤
 IsWellFormed (Update name bytes) = IsTrue (is_name name)
 IsWellFormed (Down name) = IsTrue (is_name name)
 IsWellFormed (Export name text) = IsTrue (is_name name) × IsTrue (is_utf8 text)
-IsWellFormed (Outbound name text) = ⊥
-IsWellFormed (Inbound name text) = ⊥
-IsWellFormed (Take name count) = ⊥
+IsWellFormed (Outbound name text) = IsTrue (is_name name) × IsTrue (is_utf8 text)
+IsWellFormed (Inbound name text) = IsTrue (is_name name) × IsTrue (is_utf8 text)
+IsWellFormed (Take name count) = IsTrue (is_name name) × (1 ≤ count) × (count ≤ 1000000)
 IsWellFormed (Drain name) = IsTrue (is_name name)
 IsWellFormed (Arp port bytes) = (1 ≤ port.0) × (port.0 ≤ 65279)
 IsWellFormed (Resolve port) = (1 ≤ port.0) × (port.0 ≤ 65279)

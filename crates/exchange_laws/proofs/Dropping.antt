@@ -2,7 +2,7 @@
 use Rattle.std.proofs.Common.{◌≡◌, ℕ, List, [], ◌∷◌, map, subst, inl, inr}
 use Rattle.std.specs.Prelude.{codes}
 use Rattle.events.proofs.DropText.{drop_is_read}
-use Rattle.events.proofs.Routed.{TextsDrop}
+use Rattle.exchange_laws.proofs.Answering.{TextsDrop}
 use Rattle.events.specs.State.{State, AreRead}
 use Rattle.net_types.specs.Policies.{Drop}
 use Rattle.net_types.specs.Sets.{Member}

@@ -3,7 +3,8 @@ use Rattle.std.proofs.Common.{◌≡◌, ℕ, ◌<◌, ◌^◌, Bool, true, nat_
 use Rattle.std.specs.Prelude.{Some, find, slice_index}
 use Rattle.std.specs.FinMap.{get}
 use Rattle.std.proofs.lemmas.Bool.{eqb-true}
-use Rattle.events.proofs.Routed.{routed, valid_headers}
+use Rattle.events.proofs.Routed.{valid_headers}
+use Rattle.exchange_laws.proofs.Answering.{routed}
 use Rattle.events.specs.Fits.{IsForwarded, bare, by_table, tagged_frame}
 use Rattle.events.specs.Refusals.{is_datagram}
 use Rattle.events.specs.State.{State, port_of, told_to}

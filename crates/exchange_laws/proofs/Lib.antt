@@ -1,3 +1,4 @@
+mod Answering
 pub mod Lists
 pub mod Sames
 pub mod FreshTags

@@ -3,7 +3,7 @@ use Rattle.std.proofs.Common.{◌≡◌, ◌≤◌, List, [], ◌∷◌, ◌++�
 use Rattle.std.specs.Prelude.{None, is_some}
 use Rattle.std.proofs.lemmas.Bool.{eqb-true}
 use Rattle.events.specs.Sound.{IsRight, cubes_of}
-use Rattle.events.proofs.Routed.{TextsDrop, all_drop}
+use Rattle.exchange_laws.proofs.Answering.{TextsDrop, all_drop}
 use Rattle.events.specs.State.{State, ArePolicies}
 use Rattle.exchange_laws.proofs.Dropping.{texts_drop}
 use Rattle.exchange_laws.proofs.LivePairs.{live_at}

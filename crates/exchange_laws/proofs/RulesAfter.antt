@@ -4,7 +4,7 @@ use Rattle.std.specs.Prelude.{Option, Some, None, is_some}
 use Rattle.std.specs.FinMap.{get}
 use Rattle.std.specs.Option.{option_and_then, option_map}
 use Rattle.std.proofs.lemmas.Bool.{or_cases, or_left}
-use Rattle.events.proofs.Routed.{TextsDrop, dropped_answer}
+use Rattle.exchange_laws.proofs.Answering.{TextsDrop, dropped_answer}
 use Rattle.events.specs.Sound.{IsRight, IsSound, owners_part, part_of, rule_count}
 use Rattle.events.specs.State.{State, ArePolicies, AreRead, port_of, present, told_to}
 use Rattle.events.specs.Table.{done_by}
