@@ -7,7 +7,7 @@ use Rattle.events.specs.Fits.{destination, tagged_frame}
 use Rattle.events.specs.Refusals.{is_datagram}
 use Rattle.events.specs.Table.{tag_at}
 use Rattle.exchange_laws.proofs.Octets.{octets_more}
-use Rattle.exchange_laws.specs.Replying.{AreOctets}
+use Rattle.exchange_laws.specs.Octets.{AreOctets}
 use Rattle.net_types.specs.Frames.{has_headers, headers_of, tag_mac, framed}
 use Rattle.net_types.specs.Octets.{address_at}
 use Rattle.net_types.specs.declared.address.Mac.{Mac}

@@ -27,4 +27,3 @@ pub mod PoolTags
 pub mod Octets
 pub mod Framing
 pub mod Forwarded
-pub mod EveryLine

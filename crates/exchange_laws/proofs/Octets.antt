@@ -1,6 +1,6 @@
 -- Lists of octets.
 use Rattle.std.proofs.Common.{zero, suc, ◌<◌, ℕ, List, [], ◌∷◌, ◌++◌, arith}
-use Rattle.exchange_laws.specs.Replying.{AreOctets}
+use Rattle.exchange_laws.specs.Octets.{AreOctets}
 
 pub no_octets : AreOctets []
 no_octets k = omega arith

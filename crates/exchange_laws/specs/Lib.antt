@@ -11,4 +11,6 @@ pub mod Listed
 pub mod Rerouting
 pub mod Quiet
 pub mod Fitting
-pub mod Replying
+pub mod Octets
+pub mod Whole
+pub mod Editing

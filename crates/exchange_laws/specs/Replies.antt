@@ -1,15 +1,17 @@
 -- What the reply to a line that builds rules puts into the table (this exchange's own rule).
-use Rattle.std.specs.Prelude.{◌≡◌, Bool, true, false, ◌||◌, List, [], Some, is_none}
+use Rattle.std.specs.Prelude.{◌≡◌, ◌<◌, ◌^◌, Bool, true, false, ◌||◌, List, [], Some, is_none}
 use Rattle.std.specs.FinMap.{FinMap, get}
 use Rattle.events.specs.After.{put_flows, without_pairs}
-use Rattle.events.specs.Fits.{added, dropped, none_rebuilt}
-use Rattle.events.specs.Sound.{IsSound}
+use Rattle.events.specs.Fits.{added, dropped}
+use Rattle.events.specs.Sound.{IsRight}
 use Rattle.events.specs.State.{State}
-use Rattle.events.specs.Tags.{is_live_pair, retagged}
-use Rattle.exchange_laws.specs.Retagging.{TagsArePooled}
-use Rattle.exchange_laws.specs.Rules.{IsTableAfter, table_after}
+use Rattle.events.specs.Tags.{retagged}
+use Rattle.exchange_laws.specs.Rules.{IsTableAfter, IsTagged, is_new}
+use Rattle.net_types.specs.Answers.{Policies}
 use Rattle.net_types.specs.Keys.{pair_cmp}
 use Rattle.net_types.specs.Exports.{Routing}
+use Rattle.net_types.specs.declared.address.PortNo.{PortNo}
+use Rattle.net_types.specs.declared.route.Part.{Part}
 use Rattle.net_types.specs.declared.rule.Pair.{Pair}
 use Rattle.net_types.specs.declared.rule.Rule.{Rule}
 
@@ -24,16 +26,16 @@ RepliesBuildTables =
     (s s1 : State) (is_rebuilt : Pair → Bool) → IsBuiltOn s s1 is_rebuilt
     → put_flows (without_pairs s.table (dropped s s1 is_rebuilt)) (added s s1 is_rebuilt) ≡ s1.table
 
--- a pair that becomes live has rules
-abbrev pub HasNewRules : State → FinMap pair_cmp (List Rule) → Type 0
-HasNewRules s table = (pair : Pair) → is_live_pair s pair ≡ false → get table pair ≡ Some [] → ⊥
+-- a pair that is new has rules
+abbrev pub HasNewRules : State → (Pair → Bool) → FinMap pair_cmp (List Rule) → Type 0
+HasNewRules s is_rebuilt table = (pair : Pair) → is_new s is_rebuilt pair ≡ true → get table pair ≡ Some [] → ⊥
 
--- a change of routes builds no pair anew
+-- what a line that builds rules puts into the table
 abbrev pub ChangesAreBuilt : Type 0
 ChangesAreBuilt =
-    (s : State) (r : Routing) (table : FinMap pair_cmp (List Rule)) → IsSound s → IsTableAfter s (retagged s r) table → HasNewRules s table
-    → IsBuiltOn s (record (retagged s r) { table = table }) none_rebuilt
+    (s : State) (r : Routing) (is_rebuilt : Pair → Bool) (table : FinMap pair_cmp (List Rule)) → IsTagged s → IsTableAfter s (retagged s r) is_rebuilt table
+    → HasNewRules s is_rebuilt table → IsBuiltOn s (record (retagged s r) { table = table }) is_rebuilt
 
--- the default rules are rules
-abbrev pub DefaultsAreRules : Type 0
-DefaultsAreRules = (s : State) (r : Routing) → TagsArePooled s → HasNewRules s (table_after s (retagged s r))
+-- right rules are some rules
+abbrev pub RightRulesAreSome : Type 0
+RightRulesAreSome = (ps : Policies) (part : Part) (port : PortNo) (rules : List Rule) → port.0 < 2 ^ 16 → IsRight ps part port rules → rules ≡ [] → ⊥

@@ -67,20 +67,6 @@ ExportsReroute =
     (s : State) (name text : List ℕ) (who : Pid) (rules : List ExportRule) → pid_of s.routing name ≡ Some who
     → bound_read s.routing (rules_of_text text) ≡ Some rules → after s (Export name text) ≡ retagged s (with_rules s.routing who rules)
 
--- in a sound state such a line is a change of routes for which there are enough tags
-abbrev pub ReroutingsAreChanges : Type 0
-ReroutingsAreChanges =
-    (s : State) (e : Event) (r : Routing) → IsSound s → TagsArePooled s → OwnersAreDeclared s.routing → IsRerouting s e r → IsChange s r
-
--- It is accepted with the reply that says what is dropped and added, where the rules fit the table, and the state is the one
--- with the new routes and rules.
-abbrev pub ReroutingsAreAccepted : Type 0
-ReroutingsAreAccepted =
-    (s : State) (e : Event) (r : Routing) (table : FinMap pair_cmp (List Rule)) (reply : Reply) → IsRerouting s e r → IsChange s r
-    → IsTableAfter s (retagged s r) table → HasNewRules s table
-    → let s1 = record (retagged s r) { table = table } in rule_count s1 ≤ s.capacity → IsBuilt s s1 none_rebuilt reply
-    → (next s e reply ≡ s1) × Fits s e reply
-
 -- where it leaves the routes as they were, it is accepted without a word
 abbrev pub NothingIsRerouted : Type 0
 NothingIsRerouted =

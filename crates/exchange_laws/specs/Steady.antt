@@ -1,32 +1,39 @@
 -- What holds of the state between any two lines (this exchange's own rule).
-use Rattle.std.specs.Prelude.{◌≡◌, ℕ, ◌+◌, ◌≤◌, ◌<◌, List, length, slice_get, Some, None}
+use Rattle.std.specs.Prelude.{◌≡◌, ℕ, ◌+◌, ◌≤◌, List, [], codes, length, map, slice_get, Some, None}
 use Rattle.std.specs.FinMap.{FinMap, empty}
 use Rattle.events.specs.After.{next}
 use Rattle.events.specs.Forms.{IsWellFormed}
 use Rattle.events.specs.Fits.{Fits}
 use Rattle.events.specs.Legal.{Legal, state_after}
 use Rattle.events.specs.Sound.{IsSound, HopsAreOwn}
-use Rattle.events.specs.State.{State, first}
+use Rattle.events.specs.State.{State, ArePassed, ArePolicies, first}
 use Rattle.events.specs.declared.Entry.{Entry}
 use Rattle.events.specs.declared.Event.{Event}
 use Rattle.events.specs.declared.Phase.TheVariants.{Running, Start}
 use Rattle.events.specs.declared.Reply.{Reply}
 use Rattle.exchange_laws.specs.Retagging.{KeptAreLive, LiveAreKept, TagsArePooled}
--- each participant's policies drop
-pub use Rattle.exchange_laws.specs.Rules.{AllDrop}
 use Rattle.exchange_laws.specs.Rules.{OwnersAreDeclared}
-use Rattle.net_types.specs.Exports.{Routing, route}
+use Rattle.exchange_laws.specs.Whole.{KeptAreWhole, RoutesAreDeclared}
+use Rattle.net_types.specs.Answers.{Policies}
 use Rattle.net_types.specs.Keys.{prefix_cmp, is_ip_before}
 use Rattle.net_types.specs.Sets.{IsRising, Member}
 use Rattle.net_types.specs.declared.address.Ip.{Ip}
-use Rattle.net_types.specs.declared.address.Pid.{Pid}
-use Rattle.net_types.specs.declared.prefix.Prefix.{Prefix}
-use Rattle.net_types.specs.declared.route.Attrs.{Attrs}
 use Rattle.net_types.specs.declared.route.PortInfo.{PortInfo}
 
--- each route is a declared participant's
-abbrev pub RoutesAreDeclared : Routing → Type 0
-RoutesAreDeclared r = (who : Pid) (p : Prefix) (attrs : Attrs) → route r who p ≡ Some attrs → who.0 < length r.participants
+-- each participant's policies are the text `drop`, which names nobody
+pub record AllDrop (s : State) : Type 0 where
+  pub outbound : s.outbound ≡ map (λ m. codes "drop") s.routing.participants
+  pub inbound : s.inbound ≡ map (λ m. codes "drop") s.routing.participants
+  pub named : s.routing.named ≡ map (λ m. []) s.routing.participants
+
+-- Each participant has a text each way. They are read as policies that passed isolation, and the routing has whom they name.
+pub record HavePassed (s : State) : Type 0 where
+  pub policies : Policies
+  pub read : ArePolicies s policies
+  pub passed : ArePassed s policies
+  pub outbound : length s.outbound ≡ length s.routing.participants
+  pub inbound : length s.inbound ≡ length s.routing.participants
+  pub named : length s.routing.named ≡ length s.routing.participants
 
 -- two ports differ in number and in address
 pub record PortsDiffer (ports : List PortInfo) : Type 0 where
@@ -45,12 +52,13 @@ pub record IsSized (s : State) : Type 0 where
   pub high : s.base.0 + s.size ≤ 3758096383
   pub room : s.capacity ≤ 1000000
 
--- there are no routes and no tags, and nobody was told anything
+-- there are no routes and no tags, nobody was told anything, and all policies drop
 pub record IsNew (s : State) : Type 0 where
   pub routes : s.routing.routes ≡ empty
   pub tag : s.tag ≡ empty
   pub kept : s.kept ≡ empty
   pub told : (entries : FinMap prefix_cmp Entry) → Member entries s.told → entries ≡ empty
+  pub drop : AllDrop s
 
 -- The state is sound. The live tags are the pool's, and exactly they are kept. Each port, each route and each map of what
 -- was told is a declared participant's, ports differ, and each NEXT_HOP is at a port of its route's participant. The lists
@@ -70,7 +78,8 @@ pub record IsSteady (s : State) : Type 0 where
   pub resolved : length s.resolved ≡ length s.routing.ports
   pub rising : (ips : List Ip) → Member ips s.resolved → IsRising is_ip_before ips
   pub few : length s.routing.participants ≤ 256
-  pub drop : AllDrop s
+  pub policies : HavePassed s
+  pub whole : KeptAreWhole s
   pub idle : s.owed ≡ None
   pub sized : IsSized s
   pub new : (s.phase ≡ Running → ⊥) → IsNew s

@@ -2,12 +2,11 @@
 use Rattle.std.specs.Prelude.{◌≡◌, ◌<◌, true, false, ◌&&◌, not, List, length, map, filter, Some, is_some}
 use Rattle.std.specs.FinMap.{get}
 use Rattle.events.specs.Fits.{tag_changes}
-use Rattle.events.specs.Sound.{IsSound}
 use Rattle.events.specs.State.{State, port_of, present}
 use Rattle.net_types.specs.Maps.{each_once}
 use Rattle.events.specs.Tags.{Group, group_of, groups, is_carried, is_changed, is_live_pair, new_tag, retagged, same_group, same_tag}
 use Rattle.events.specs.declared.TagChange.{TagChange}
-use Rattle.exchange_laws.specs.Rules.{IsDeclaredAlike, OwnersAreDeclared}
+use Rattle.exchange_laws.specs.Rules.{IsDeclaredAlike, IsTagged, OwnersAreDeclared}
 use Rattle.net_types.specs.Attributes.{same_option}
 use Rattle.net_types.specs.Changes.{AreTouched}
 use Rattle.net_types.specs.Exports.{Routing}
@@ -28,7 +27,7 @@ tag_changes_among s r ps = map (λ p. record { prefix = p; tag = new_tag s r p }
 
 -- the routings differ at exactly these prefixes, and the same is declared
 pub record IsTouching (s : State) (r : Routing) (ps : List Prefix) : Type 0 where
-  pub sound : IsSound s
+  pub tagged : IsTagged s
   pub owners : OwnersAreDeclared s.routing
   pub alike : IsDeclaredAlike s.routing r
   pub touched : AreTouched s.routing r ps

@@ -7,7 +7,7 @@ pub fn accepted_lines_fit()
     ensures { AcceptedLinesFit }
 {}
 
-/// Where there is no room for the default rules after a change of routes, the line is refused.
+/// Where a line would leave more rules than the table has room for, though no more than the cells, it is refused.
 pub fn full_tables_are_refused()
     ensures { FullTablesAreRefused }
 {}

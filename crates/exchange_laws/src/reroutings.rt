@@ -1,6 +1,6 @@
 //! Lines that change the routes: an UPDATE, a participant whose routes go, and export rules.
 
-ghost use Rattle.exchange_laws.specs.Rerouting.{DownsReroute, ExportsReroute, NothingIsRerouted, ReroutingsAreAccepted, ReroutingsAreChanges, UpdatesReroute};
+ghost use Rattle.exchange_laws.specs.Rerouting.{DownsReroute, ExportsReroute, NothingIsRerouted, UpdatesReroute};
 
 /// An UPDATE leaves the routes that it says.
 pub fn updates_reroute()
@@ -15,16 +15,6 @@ pub fn downs_reroute()
 /// Export rules are those that were read.
 pub fn exports_reroute()
     ensures { ExportsReroute }
-{}
-
-/// In a sound state such a line is a change of routes for which there are enough tags.
-pub fn reroutings_are_changes()
-    ensures { ReroutingsAreChanges }
-{}
-
-/// Where the rules fit the table, such a line is accepted with the reply that says what is dropped and added.
-pub fn reroutings_are_accepted()
-    ensures { ReroutingsAreAccepted }
 {}
 
 /// Where it leaves the routes as they were, it is accepted without a word.

@@ -1,6 +1,6 @@
 //! What becomes of a sound state where a participant is told anew.
 
-ghost use Rattle.exchange_laws.specs.Telling.{DrainsAreAccepted, GonePairsWereTold, GoneTagsWereTold, PresentAreKnown, TellingKeepsLive, TellingStaysKept, TellingStaysPooled, TellingStaysSound};
+ghost use Rattle.exchange_laws.specs.Telling.{DrainsAreAccepted, GonePairsWereTold, GoneTagsWereTold, NewsAreKnown, PresentAreKnown, TakesAreAccepted, TellingKeepsLive, TellingStaysKept, TellingStaysPooled, TellingStaysSound};
 
 /// What is present for a participant is known to it.
 pub fn present_are_known()
@@ -40,4 +40,14 @@ pub fn gone_tags_were_told()
 /// A participant takes all that is pending with the reply that says so.
 pub fn drains_are_accepted()
     ensures { DrainsAreAccepted }
+{}
+
+/// A participant that takes some of what is pending is told what is known to it.
+pub fn news_are_known()
+    ensures { NewsAreKnown }
+{}
+
+/// It takes the first that are pending with the reply that says so.
+pub fn takes_are_accepted()
+    ensures { TakesAreAccepted }
 {}

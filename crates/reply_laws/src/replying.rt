@@ -1,6 +1,6 @@
 //! Each line has a reply.
 
-ghost use Rattle.exchange_laws.specs.Replying.{LinesHaveReplies, RunsGoOn};
+ghost use Rattle.reply_laws.specs.Replying.{LinesHaveReplies, RunsGoOn};
 
 /// In a steady state whose ports have MACs, some reply fits each line that can be written.
 pub fn lines_have_replies()

@@ -11,15 +11,7 @@ use Rattle.exchange_laws.specs.Steady.{IsSteady}
 use Rattle.net_types.specs.Sets.{Member}
 use Rattle.net_types.specs.declared.address.Mac.{Mac}
 use Rattle.net_types.specs.declared.route.PortInfo.{PortInfo}
-
--- each is an octet
-abbrev pub AreOctets : List ℕ → Type 0
-AreOctets xs = (k : ℕ) → slice_index xs k < 256
-
--- a MAC is six octets
-pub record IsMac (mac : Mac) : Type 0 where
-  pub six : length mac.0 ≡ 6
-  pub octets : AreOctets mac.0
+use Rattle.exchange_laws.specs.Octets.{AreOctets, IsMac}
 
 -- what a line says in hexadecimal of a port or a datagram are octets
 abbrev pub HasOctets : Event → Type 0

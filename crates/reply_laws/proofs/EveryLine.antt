@@ -37,7 +37,8 @@ use Rattle.exchange_laws.proofs.RulesAfter.{defaults_are_tables}
 use Rattle.exchange_laws.proofs.SteadySteps.{starts_steady, steps_stay_steady}
 use Rattle.exchange_laws.proofs.ToldAnew.{drains_are_accepted}
 use Rattle.exchange_laws.specs.Quiet.{is_quiet}
-use Rattle.exchange_laws.specs.Replying.{AreOctets, HasOctets, IsMac, LinesHaveReplies, PortsHaveMacs, RunsGoOn}
+use Rattle.exchange_laws.specs.Octets.{AreOctets, IsMac}
+use Rattle.reply_laws.specs.Replying.{HasOctets, LinesHaveReplies, PortsHaveMacs, RunsGoOn}
 use Rattle.exchange_laws.specs.Rerouting.{IsRerouting, is_rerouting}
 use Rattle.exchange_laws.specs.Rules.{IsChange, table_after, with_default_rules}
 use Rattle.exchange_laws.specs.Steady.{IsSteady}

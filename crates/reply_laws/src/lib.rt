@@ -1,0 +1,6 @@
+//! Laws of replies: each line has one. The functions have empty bodies, and their contracts are the laws.
+#![tactic(auto)]
+
+mod replying;
+
+pub use replying::{lines_have_replies, runs_go_on};
