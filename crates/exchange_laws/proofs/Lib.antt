@@ -28,3 +28,4 @@ pub mod Octets
 pub mod Framing
 pub mod Forwarded
 pub mod EveryLine
+pub mod Parts

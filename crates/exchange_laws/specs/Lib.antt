@@ -12,3 +12,4 @@ pub mod Rerouting
 pub mod Quiet
 pub mod Fitting
 pub mod Replying
+pub mod Whole
