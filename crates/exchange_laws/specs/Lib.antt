@@ -14,3 +14,4 @@ pub mod Fitting
 pub mod Octets
 pub mod Whole
 pub mod Editing
+pub mod Replying
