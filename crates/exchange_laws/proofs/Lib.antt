@@ -27,7 +27,6 @@ pub mod PoolTags
 pub mod Octets
 pub mod Framing
 pub mod Forwarded
-pub mod EveryLine
 pub mod Parts
 pub mod ReadPolicies
 pub mod Sending

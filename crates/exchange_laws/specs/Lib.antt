@@ -14,4 +14,3 @@ pub mod Fitting
 pub mod Octets
 pub mod Whole
 pub mod Editing
-pub mod Replying
