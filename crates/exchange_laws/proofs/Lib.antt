@@ -27,3 +27,4 @@ pub mod PoolTags
 pub mod Octets
 pub mod Framing
 pub mod Forwarded
+pub mod Parts
