@@ -13,6 +13,7 @@ pub mod AcceptedChanges
 pub mod Edited
 pub mod Trimmed
 pub mod Bases
+pub mod PolicyEdits
 pub mod ToldAnew
 pub mod Untouched
 pub mod SameRoutes
