@@ -31,7 +31,7 @@ use Rattle.fast_path.specs.Emptied.{emptied, is_left, old_tags}
 use Rattle.fast_path.specs.LiveOnly.{AreDead, AreEmptied, group_signatures, group_tags, registered}
 use Rattle.fast_path.specs.Pairs.{flow_of, gone_pairs, new_flows, rule_by, untold}
 use Rattle.fast_path.specs.declared.forward.Forward.{Forward}
-use Rattle.fast_path.specs.declared.forward.Fresh.{Fresh}
+use Rattle.fast_path.specs.declared.fresh.Fresh.{Fresh}
 use Rattle.fast_path.proofs.DeadTags.{untold_are_dead}
 use Rattle.fast_path.proofs.EmptiedTags.{emptied_are_those}
 use Rattle.fast_path.proofs.GonePairs.{gone_pairs_are_those}
