@@ -20,8 +20,10 @@ pub mod CommittedSignatures
 pub mod CommittedTags
 pub mod CommittedPool
 pub mod CommittedTable
+pub mod CommittedRules
 pub mod CommittedReplies
 pub mod CommittedSteps
 pub mod TagOrder
+pub mod TrimmedKept
 pub mod PlanFound
 pub mod CommittedPlans
