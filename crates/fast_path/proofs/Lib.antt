@@ -24,6 +24,8 @@ pub mod CommittedRules
 pub mod CommittedReplies
 pub mod CommittedSteps
 pub mod TagOrder
+pub mod KnownSignatures
+pub mod ClassSearch
+pub mod BlockLemmas
 pub mod TrimmedKept
-pub mod PlanFound
 pub mod CommittedPlans

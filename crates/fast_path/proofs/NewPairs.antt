@@ -2,6 +2,7 @@
 use Rattle.std.proofs.Common.{◌≡◌, ℕ, zero, suc, ◌<◌, Bool, true, false, cond, not, List, [], ◌∷◌, length, filter, map, nat_eq, sym, ap, subst, ◌∙◌, refl, inl, inr}
 use Rattle.std.specs.Prelude.{◌⊎◌, Option, Some, None, find, slice_get, is_some}
 use Rattle.std.specs.FinMap.{get}
+use Rattle.std.specs.List.{list_any}
 use Rattle.std.specs.Option.{option_and_then, option_map, option_map_or}
 use Rattle.std.proofs.lemmas.Bool.{false_from_ne_true, or_cases, or_left, or_right}
 use Rattle.std.proofs.lemmas.Option.{slice_get_within}
@@ -65,13 +66,13 @@ turned false e = cc
 pub kept_place : (ts : List Tag) (sigs : List (List Part)) (x : Kept) → Member x (kept_of ts sigs) → (k : ℕ) × (slice_get ts k ≡ Some x.0) × (slice_get sigs k ≡ Some x.1)
 kept_place [] sigs x m = elim m [ ]
 kept_place (t ∷ ts) [] x m = elim m [ ]
-kept_place (t ∷ ts) (sig ∷ sigs) x (inl e) = (0, (λ i. Some (e i).0), (λ i. Some (e i).1))
+kept_place (t ∷ ts) (sig ∷ sigs) x (inl e) = (0, ap (λ (y : Kept). Some y.0) (sym e), ap (λ (y : Kept). Some y.1) (sym e))
 kept_place (t ∷ ts) (sig ∷ sigs) x (inr m) = let later = kept_place ts sigs x m in (suc later.0, later.1, later.2)
 
 pub place_kept : (ts : List Tag) (sigs : List (List Part)) (k : ℕ) (t : Tag) (sig : List Part) → slice_get ts k ≡ Some t → slice_get sigs k ≡ Some sig → Member (t, sig) (kept_of ts sigs)
 place_kept [] sigs k t sig e h = absurd (cc)
 place_kept (u ∷ ts) [] k t sig e h = absurd (cc)
-place_kept (u ∷ ts) (ps ∷ sigs) zero t sig e h = inl (λ i. (some_of u t e (~ i), some_of ps sig h (~ i)))
+place_kept (u ∷ ts) (ps ∷ sigs) zero t sig e h = inl (sym (λ i. let y : Kept = (some_of u t e i, some_of ps sig h i) in y))
 place_kept (u ∷ ts) (ps ∷ sigs) (suc k) t sig e h = inr (place_kept ts sigs k t sig e h)
 
 -- the signature in which a part is found
@@ -248,10 +249,9 @@ module _ (s : State) (r : Routing) (change : IsChange s r) (own : PortsDiffer s.
         }
 
     none_made : (t : Tag) → find (is_class_of t) made ≡ None → (c : Class) → Member c made → c.tag ≡ t → ⊥
-    none_made t e c m same = not_found made e m
-      where
-        not_found : (xs : List Class) → find (is_class_of t) xs ≡ None → Member c xs → ⊥
-        not_found xs none stands = clash (sym (is_some-any (is_class_of t) xs) ∙ any_at (is_class_of t) xs c stands (ap (λ u. same_tag u t) same ∙ tag_itself t)) (sym (is_some-any (is_class_of t) xs) ∙ ap is_some none)
+    none_made t e c m same =
+        let any : list_any (is_class_of t) made ≡ true = any_at (is_class_of t) made c m (ap (λ u. same_tag u t) same ∙ tag_itself t) in
+        clash any (sym (is_some-any (is_class_of t) made) ∙ ap is_some e)
 
     sig_is : (t : Tag) → is_live s1 t ≡ true → (o : Option Class) → find (is_class_of t) made ≡ o → option_map_or (λ (c : Class). Some c.sig) o (get s.kept t) ≡ get s1.kept t
     sig_is t live None e = sym (live_tags_stay s r change.pooled t (not_fresh t live (none_made t e)) live)

@@ -37,12 +37,12 @@ tags_in_order = deduped_is tag_cmp tags_total (same_from_tie tag_cmp tag_cmp-IsA
 
 -- ---- search
 
-backward : (r s : Ordering) → r ≡ ordering_reverse s → is_lt r ≡ true → is_lt s ≡ false
+pub backward : (r s : Ordering) → r ≡ ordering_reverse s → is_lt r ≡ true → is_lt s ≡ false
 backward r Less e h = let k : is_lt r ≡ false = ap is_lt e in absurd (false≢true (sym k ∙ h))
 backward r Equal e h = refl
 backward r Greater e h = refl
 
-not_tied : (r : Ordering) → r ≡ Equal → (r ≡ Less) ⊎ (r ≡ Greater) → ⊥
+pub not_tied : (r : Ordering) → r ≡ Equal → (r ≡ Less) ⊎ (r ≡ Greater) → ⊥
 not_tied r e (inl h) = cc
 not_tied r e (inr h) = cc
 

@@ -2,6 +2,7 @@
 use Rattle.std.specs.Prelude.{◌≡◌, ℕ, ◌+◌, ◌-◌, ◌^◌, ◌≤◌, ◌<◌, min, Bool, List, ◌∷◌, ◌++◌, length, map, find, sum_by, Option, Some}
 use Rattle.std.specs.FinMap.{FinMap, get}
 use Rattle.std.specs.Option.{option_and_then, option_map_or}
+use Rattle.std.specs.Ordering.{is_lt}
 use Rattle.block_build.specs.Installed.{count_at, rule_count}
 use Rattle.block_build.specs.Lent.{AreOf, Lent}
 use Rattle.block_build.specs.declared.block.BuildFault.{BuildFault}
@@ -17,9 +18,10 @@ use Rattle.fast_path.specs.declared.planned.FastFault.{FastFault}
 use Rattle.fast_path.specs.declared.planned.FastFault.TheVariants.{NoNextHop, TableFull, Memory}
 use Rattle.net_types.specs.Answers.{Policies}
 use Rattle.net_types.specs.Cells.{cell_atoms}
-use Rattle.net_types.specs.Keys.{pair_cmp}
+use Rattle.net_types.specs.Keys.{pair_cmp, tag_cmp}
 use Rattle.net_types.specs.Meets.{meets}
-use Rattle.net_types.specs.Sets.{Member}
+use Rattle.net_types.specs.Sets.{IsRising, Member}
+use Rattle.net_types.specs.declared.address.PortNo.{PortNo}
 use Rattle.net_types.specs.declared.address.Tag.{Tag}
 use Rattle.net_types.specs.declared.route.Part.{Part}
 use Rattle.net_types.specs.declared.route.PortInfo.{PortInfo}
@@ -27,9 +29,13 @@ use Rattle.net_types.specs.declared.rule.Pair.{Pair}
 use Rattle.net_types.specs.declared.rule.Rule.{Rule}
 use Rattle.registry.specs.Registered.{Registered, port_of}
 
--- the fresh tags
-abbrev pub class_tags : List Class → List Tag
-class_tags cs = map (λ (c : Class). c.tag) cs
+-- the tag of one class comes before that of another
+abbrev pub is_class_before : Class → Class → Bool
+is_class_before c d = is_lt (tag_cmp c.tag d.tag)
+
+-- the tags of classes rise
+abbrev pub AreInOrder : List Class → Type 0
+AreInOrder cs = IsRising is_class_before cs
 
 -- the class is that of the tag
 abbrev pub is_class_of : Tag → Class → Bool
@@ -68,6 +74,11 @@ pub record IsWithinCells (site : Site) (pair : Pair) (count : ℕ) : Type 0 wher
   pub part : Part
   pub is : site.part pair ≡ Some part
   pub within : (ps : Policies) → AreOf ps site.all → count ≤ length (meets (cell_atoms ps pair.port part))
+
+-- more rules of a part than the room, and no more than its cells, by all policies whose classifiers these are
+abbrev pub IsWideBy : List Lent → PortNo → Part → ℕ → BuildFault → Type 0
+IsWideBy all port part room (build.Wide rules) = (room < rules) × ((ps : Policies) → AreOf ps all → rules ≤ length (meets (cell_atoms ps port part)))
+IsWideBy all port part room build.Memory = Unit {0}
 
 -- more rules than the room: those that were built, and those of the pair, which are within its cells
 pub record IsOver (site : Site) (pair : Pair) (built room rules : ℕ) : Type 0 where

@@ -32,11 +32,11 @@ pub record IsDraft (names : Registered) (classes : Classes) (pool : Tags) (was_t
   pub dead : draft.dead.items ≡ untold was_told (emptied classes.tag draft.tags)
 
 -- the plan is the draft with the blocks of its pairs
-pub record IsDrafted (draft : Draft) (proposal : Proposed) (blocks : List Block) (plan : Plan) : Type 0 where
+pub record IsDrafted (draft : Draft) (proposal : Proposed) (built : List Block) (plan : Plan) : Type 0 where
   pub tags : plan.tags ≡ draft.tags
   pub drops : plan.drops ≡ draft.drops
-  pub adds : plan.adds ≡ union_over flows_of blocks
-  pub blocks : plan.blocks.items ≡ blocks
+  pub adds : plan.adds ≡ union_over flows_of built
+  pub blocks : plan.blocks.items ≡ built
   pub fresh : plan.fresh.items ≡ draft.fresh.items
   pub dead : plan.dead.items ≡ draft.dead.items
   pub named : plan.named ≡ proposal.named

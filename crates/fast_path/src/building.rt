@@ -3,18 +3,14 @@
 ghost use Rattle.std.specs.Prelude.{◌≡◌, ◌≤◌, ◌<◌, ◌+◌, ◌-◌, ◌^◌, ◌++◌, ◌∷◌, [], length, map, sum_by, IfOk, IfErr, OnOk, MatchResult, option_copied, find};
 ghost use Rattle.std.specs.Option.{option_and_then};
 ghost use Rattle.net_types.specs.Answers.{Policies};
-ghost use Rattle.net_types.specs.Cells.{cell_atoms};
-ghost use Rattle.net_types.specs.Meets.{meets};
-ghost use Rattle.net_types.specs.Sets.{IsRising, Member, union_over};
+ghost use Rattle.net_types.specs.Sets.{Member, union_over};
 ghost use Rattle.net_types.specs.declared.rule.Pair.{Pair as AnyPair};
 ghost use Rattle.events.specs.Fits.{flows_of};
 ghost use Rattle.events.specs.Sound.{IsRight, part_of};
 ghost use Rattle.exchange_laws.specs.Whole.{IsWhole};
 ghost use Rattle.block_build.specs.Installed.{count_at, rule_count};
 ghost use Rattle.block_build.specs.Lent.{AreOf};
-ghost use Rattle.block_build.specs.Right.{IsWide};
-ghost use Rattle.fast_path.specs.Building.{AreBlocksFor, HasPart, IsBlockFor, IsFaultBeside, IsFaultFor, IsRefusedFor, class_tags, is_class_of, part_at, rules_left, sig_after, site_of};
-ghost use Rattle.fast_path.specs.Planned.{is_tag_below};
+ghost use Rattle.fast_path.specs.Building.{AreBlocksFor, AreInOrder, HasPart, IsBlockFor, IsFaultBeside, IsFaultFor, IsRefusedFor, IsWideBy, is_class_of, part_at, refused, rules_left, sig_after, site_of};
 
 use crate::known::{KnownClasses, part_in};
 use crate::planned::{Class, FastFault};
@@ -31,7 +27,7 @@ use std::sync::ledger::Ledger;
 
 /// The class of a tag that is fresh.
 fn class_of(fresh: &[Class], tag: Tag) -> Option<&Class>
-    requires { IsRising is_tag_below (class_tags fresh.now) }
+    requires { AreInOrder fresh.now }
     ensures { option_copied result ≡ find (is_class_of tag) fresh.now }
 {
     match fresh.binary_search_by_key(&tag, |class| class.tag) {
@@ -47,7 +43,7 @@ fn part_after(
     tag: Tag,
     who: Pid,
 ) -> Result<Option<Part>, Memory>
-    requires { IsRising is_tag_below (class_tags fresh.now) }
+    requires { AreInOrder fresh.now }
     ensures { IfOk result (λ part. part ≡ option_and_then (λ sig. part_of sig who) (sig_after known.now fresh.now tag)) }
 {
     let Some(class) = class_of(fresh, tag) else {
@@ -66,7 +62,7 @@ fn part_at(
     fresh: &[Class],
     pair: Pair,
 ) -> Result<Option<Part>, Memory>
-    requires { IsRising is_tag_below (class_tags fresh.now) }
+    requires { AreInOrder fresh.now }
     ensures { IfOk result (λ part. part ≡ part_at names.now known.now fresh.now pair) }
 {
     match names.port(pair.port) {
@@ -88,7 +84,7 @@ fn block_of<L: Ledger>(
     ensures steps { steps.new ≤ steps.old + 1 }
     ensures right { IfOk result (λ block. (ps : Policies) → AreOf ps views.now → IsRight ps part.now port block) }
     ensures room { IfOk result (λ block. length block ≤ room) }
-    ensures wide { IfErr result (λ fault. (ps : Policies) → AreOf ps views.now → IsWide room (length (meets (cell_atoms ps port part.now))) fault) }
+    ensures wide { IfErr result (IsWideBy views.now port part.now room) }
 {
     offers_differ();
     views_are_of();
@@ -112,7 +108,7 @@ fn block_beside<L: Ledger>(
     steps: &mut Steps<L>,
 ) -> Result<Block, BuildFault>
     requires part { HasPart (site_of names.now known.now fresh.now views.now) pair }
-    requires rising { IsRising is_tag_below (class_tags fresh.now) }
+    requires rising { AreInOrder fresh.now }
     requires within { built ≤ room }
     requires small { room < 2 ^ 32 }
     ensures steps { steps.new ≤ steps.old + 1 }
@@ -152,7 +148,7 @@ fn blocks_for<L: Ledger>(
     steps: &mut Steps<L>,
 ) -> Result<Vec<(Pair, Block)>, BuildFault>
     requires parts { (pair : AnyPair) → Member pair pairs.now → HasPart (site_of names.now known.now fresh.now views.now) pair }
-    requires rising { IsRising is_tag_below (class_tags fresh.now) }
+    requires rising { AreInOrder fresh.now }
     requires small { room < 2 ^ 32 }
     ensures steps { steps.new ≤ steps.old + length pairs.now }
     ensures built { IfOk result (λ blocks. AreBlocksFor (site_of names.now known.now fresh.now views.now) pairs.now room blocks.items) }
@@ -161,7 +157,11 @@ fn blocks_for<L: Ledger>(
     let mut blocks = Vec::new(alloc);
     let mut built = 0;
     for &pair in pairs {
-        let block = block_beside(alloc, names, known, fresh, views, pair, built, room, steps)?;
+        let block =
+            match block_beside(alloc, names, known, fresh, views, pair, built, room, steps) {
+                Ok(block) => block,
+                Err(fault) => return Err(fault),
+            };
         built += block.rules().len();
         put_last(&mut blocks, pair, block)?;
     }
@@ -215,7 +215,7 @@ pub fn rules_for<L: Ledger>(
     steps: &mut Steps<L>,
 ) -> Result<Vec<(Pair, Block)>, FastFault>
     requires parts { (pair : AnyPair) → Member pair pairs.now → HasPart (site_of names.now known.now fresh.now views.now) pair }
-    requires rising { IsRising is_tag_below (class_tags fresh.now) }
+    requires rising { AreInOrder fresh.now }
     ensures steps { steps.new ≤ steps.old + length pairs.now }
     ensures built { IfOk result (λ blocks. AreBlocksFor (site_of names.now known.now fresh.now views.now) pairs.now (switch.now.capacity - rules_left switch.now.table drops.now) blocks.items) }
     ensures full { IfErr result (IsRefusedFor (site_of names.now known.now fresh.now views.now) pairs.now (rules_left switch.now.table drops.now) switch.now.capacity) }

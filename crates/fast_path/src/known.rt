@@ -1,11 +1,11 @@
 //! The tags of prefixes and the signatures of tags, as a line finds them.
 
-ghost use Rattle.std.specs.Prelude.{◌≡◌, IfOk, map, nat_eq, option_copied};
+ghost use Rattle.std.specs.Prelude.{◌≡◌, List, IfOk, nat_eq, option_copied};
 ghost use Rattle.std.specs.FinMap.{get};
 ghost use Rattle.std.specs.List.{list_any};
 ghost use Rattle.std.specs.Option.{option_and_then, option_map};
 ghost use Rattle.net_types.specs.declared.address.Pid.{Pid as AnyPid};
-ghost use Rattle.net_types.specs.Signatures.{counts, trimmed};
+ghost use Rattle.net_types.specs.Signatures.{counts, trimmed, trimmed_part};
 ghost use Rattle.events.specs.Sound.{part_of};
 ghost use Rattle.fast_path.specs.Grouping.{is_kept_sig, known_by, part_by};
 
@@ -25,10 +25,14 @@ pub struct KnownClasses<'a> {
 }
 
 impl<'a> Model for KnownClasses<'a> {
+    ghost use Rattle.std.specs.Coded.{codes};
+    ghost use Rattle.std.specs.FinMap as map;
     ghost use Rattle.std.specs.Option.{option_map};
     ghost use Rattle.fast_path.specs.Grouping.{Known, known_by};
 
     ghost Value = { Known };
+
+    ghost coded = { Prim.hlevel (codes, map.code) };
 
     ghost view = { λ k. known_by (option_map (λ e. (e.0, e.1.now)) k.named) k.classes.now };
 }
@@ -46,19 +50,29 @@ fn is_named(named: &[Pid], who: Pid) -> bool
     named.iter().any(|other| other.0 == who.0)
 }
 
+/// Takes the offers out of a part of the sender's that don't count.
+fn trim(part: &mut Part, who: Pid, pids: &[Pid])
+    ensures { part.new ≡ trimmed_part who pids.now part.old }
+{
+    if part.sender.0 == who.0 {
+        let best = part.best;
+        part.offers
+            .retain(|offer| counts(pids, best, offer.exporter));
+    }
+}
+
 /// The part without the offers that don't count any more, where there are new names.
 fn part_by(named: Option<(Pid, &[Pid])>, part: &Part) -> Result<Part, Memory>
-    ensures { IfOk result (λ copy. copy ≡ part_by (option_map (λ e. (e.0, e.1.now)) named) part.now) }
+    ensures { IfOk result (λ copy. copy ≡ part_by (option_map (λ e. let names : AnyPid × List AnyPid = (e.0, e.1.now) in names) named.entry) part.now) }
 {
-    let mut copy = part.copy()?;
-    if let Some((who, pids)) = named {
-        if part.sender.0 == who.0 {
-            let best = part.best;
-            copy.offers
-                .retain(|offer| counts(pids, best, offer.exporter));
+    match named {
+        None => part.copy(),
+        Some((who, pids)) => {
+            let mut copy = part.copy()?;
+            trim(&mut copy, who, pids);
+            Ok(copy)
         }
     }
-    Ok(copy)
 }
 
 /// The signature without the offers that don't count any more.
