@@ -1,4 +1,4 @@
-mod Answering
+pub mod Answering
 pub mod Lists
 pub mod Sames
 pub mod FreshTags
@@ -27,3 +27,7 @@ pub mod PoolTags
 pub mod Octets
 pub mod Framing
 pub mod Forwarded
+pub mod Parts
+pub mod ReadPolicies
+pub mod Sending
+pub mod OwnPorts
