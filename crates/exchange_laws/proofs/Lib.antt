@@ -18,6 +18,7 @@ pub mod Counted
 pub mod OwnHops
 pub mod NewStates
 pub mod LineSteps
+pub mod PassedSteps
 pub mod SteadySteps
 pub mod QuietLines
 pub mod ListedPairs

@@ -106,7 +106,7 @@ module _ (s : State) (who : Pid) (es : FinMap prefix_cmp Entry) where
   s1 = told_anew s who es
 
   -- the signature of a live tag is kept, and no other's
-  kept_is : (t : Tag) → get s1.kept t ≡ cond (is_live s1 t) (get s.kept t) None
+  pub kept_is : (t : Tag) → get s1.kept t ≡ cond (is_live s1 t) (get s.kept t) None
   kept_is t = get-retain_keys s.kept (is_live s1) t (λ x e. ap (is_live s1) (sym (tag_cmp-IsAntisymmetric t x e)))
 
   table_is : (pair : Pair) → get s1.table pair ≡ cond (is_live_pair s1 pair) (get s.table pair) None
