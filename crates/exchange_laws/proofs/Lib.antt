@@ -10,6 +10,7 @@ pub mod Flows
 pub mod Built
 pub mod Rerouted
 pub mod AcceptedChanges
+pub mod Edited
 pub mod ToldAnew
 pub mod Untouched
 pub mod SameRoutes
@@ -22,7 +23,6 @@ pub mod PassedSteps
 pub mod SteadySteps
 pub mod QuietLines
 pub mod ListedPairs
-pub mod OneRuleEach
 pub mod FullTables
 pub mod PoolTags
 pub mod Octets
