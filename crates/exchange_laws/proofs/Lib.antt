@@ -11,6 +11,9 @@ pub mod Built
 pub mod Rerouted
 pub mod AcceptedChanges
 pub mod Edited
+pub mod Trimmed
+pub mod Bases
+pub mod PolicyEdits
 pub mod ToldAnew
 pub mod Untouched
 pub mod SameRoutes
