@@ -1,13 +1,13 @@
 -- Any line with a reply that fits leaves a steady state steady.
 use Rattle.std.proofs.Common.{◌≡◌, ◌⊎◌, ℕ, zero, suc, ◌+◌, ◌≤◌, ◌<◌, Bool, true, false, cond, ◌||◌, List, [], ◌∷◌, ◌++◌, length, sym, ap, subst, ◌∙◌, refl, arith, inl, inr}
 use Rattle.std.specs.Prelude.{Option, Some, None, codes, is_some, slice_get, slice_set}
-use Rattle.std.specs.FinMap.{FinMap, empty, get, get-empty, keys, values}
+use Rattle.std.specs.FinMap.{FinMap, empty, get, get-empty, values}
 use Rattle.std.specs.List.{list_any}
 use Rattle.std.specs.Option.{option_map}
 use Rattle.std.proofs.lemmas.Bool.{or_right}
 use Rattle.std.proofs.lemmas.List.{length-append}
 use Rattle.events.proofs.Reached.{first_sound, step_sound}
-use Rattle.events.specs.After.{accepted, after, all_units, next, next_by, restarted, running, trimmed_kept, with_named, with_outbound, with_participant}
+use Rattle.events.specs.After.{accepted, after, all_units, next, next_by, restarted, running, with_named, with_outbound, with_participant}
 use Rattle.events.specs.Forms.{IsWellFormed}
 use Rattle.events.specs.Fits.{FitsBy}
 use Rattle.events.specs.Legal.{LegalFrom, state_from}
@@ -22,11 +22,12 @@ use Rattle.events.specs.declared.Head.TheVariants.{Fine, Working, Finished, Unro
 use Rattle.events.specs.declared.Phase.TheVariants.{Start, Declaring, Running}
 use Rattle.events.specs.declared.Refusal.{Refusal}
 use Rattle.events.specs.declared.Reply.{Reply}
+use Rattle.exchange_laws.proofs.Bases.{kept_there, kept_whole}
 use Rattle.exchange_laws.proofs.LineSteps.{AllRise, QuietStep, Step, participant, pool, port, quiet, receives, receiving, resolved, resolving, routes, sending, sends, step_of, told, told_so}
-use Rattle.exchange_laws.proofs.Lists.{TableOf, clash, get_tabulated, key_Member, some_of}
+use Rattle.exchange_laws.proofs.Lists.{TableOf, clash, some_of}
 use Rattle.exchange_laws.proofs.NewStates.{new_passed, no_live, no_route, nobody, not_there, nothing_told}
 use Rattle.exchange_laws.proofs.OwnHops.{own_hop, stay_apart}
-use Rattle.exchange_laws.proofs.Parts.{signature_whole, trimmed_whole}
+use Rattle.exchange_laws.proofs.Parts.{signature_whole}
 use Rattle.exchange_laws.proofs.PassedSteps.{retabled_passed, step_passed}
 use Rattle.exchange_laws.proofs.Rerouted.{HasOwnHop, set_length}
 use Rattle.exchange_laws.proofs.TagsAfter.{kept_stay_live, live_cases, live_stay_kept, live_tags_stay, signatures_are_kept, tags_stay_pooled}
@@ -36,15 +37,13 @@ use Rattle.exchange_laws.specs.Rules.{IsDeclaredAlike, OwnersAreDeclared}
 use Rattle.exchange_laws.specs.Steady.{HavePassed, IsNew, IsSized, IsSteady, PortsAreNumbered, PortsDiffer, RunsStaySteady, StartsSteady, StepsStaySteady}
 use Rattle.exchange_laws.specs.Telling.{AreKnownTo}
 use Rattle.exchange_laws.specs.Whole.{IsWhole, KeptAreWhole, RoutesAreDeclared}
-use Rattle.net_types.proofs.OrderLemmas.{tags_total}
 use Rattle.net_types.proofs.PassLemmas.{any_more}
-use Rattle.net_types.proofs.SetLemmas.{Member-append_cases, map-Member, map-append}
-use Rattle.net_types.proofs.TieLemmas.{same_from_tie, tag_cmp-IsAntisymmetric}
+use Rattle.net_types.proofs.SetLemmas.{Member-append_cases, map-append}
 use Rattle.net_types.specs.Exports.{Routing, pid_of, route}
 use Rattle.net_types.specs.Keys.{prefix_cmp, tag_cmp, is_ip_before}
 use Rattle.net_types.specs.Naming.{named_in}
 use Rattle.net_types.specs.Sets.{IsRising, Member}
-use Rattle.net_types.specs.Signatures.{port_with, signature, trimmed, trimmed_part}
+use Rattle.net_types.specs.Signatures.{port_with, signature}
 use Rattle.net_types.specs.declared.address.Pid.{Pid}
 use Rattle.net_types.specs.declared.address.Tag.{Tag}
 use Rattle.net_types.specs.declared.prefix.Prefix.{Prefix}
@@ -267,7 +266,7 @@ quiet_tidy s {s1} (resolved lists later long rising) yet is = record {
 -- ---- other routes
 
 -- the signature of a tag that is live after a change of routes is a prefix's, or was kept before
-retagged_whole : (s : State) (r : Routing) → r.participants ≡ s.routing.participants → TagsArePooled s → KeptAreWhole s → KeptAreWhole (retagged s r)
+pub retagged_whole : (s : State) (r : Routing) → r.participants ≡ s.routing.participants → TagsArePooled s → KeptAreWhole s → KeptAreWhole (retagged s r)
 retagged_whole s r alike pooled whole t sig is part m = elim (live_cases (retagged s r) t live) [
   | inl has ↦
       let same : sig ≡ signature r has.prefix = some_of sig (signature r has.prefix) (sym is ∙ signatures_are_kept s r pooled has.prefix t has.tagged) in
@@ -329,51 +328,26 @@ restarted_tidy s is = record {
   sized = record { start = is.sized.start; small = is.sized.small; low = is.sized.low; high = is.sized.high; room = is.sized.room };
 }
 
--- a signature is kept trimmed where it was kept
-trimmed_is : (s : State) (who : Pid) (named : List Pid) (t : Tag) → get (trimmed_kept s who named) t ≡ option_map (trimmed who named) (get s.kept t)
-trimmed_is s who named t =
-    get_tabulated tag_cmp tags_total (same_from_tie tag_cmp tag_cmp-IsAntisymmetric) (λ u. option_map (trimmed who named) (get s.kept u)) (keys s.kept) (λ u there.
-    key_Member tag_cmp tags_total (same_from_tie tag_cmp tag_cmp-IsAntisymmetric) s.kept u (was (get s.kept u) there)) t
-  where
-    was : (o : Option (List Part)) → is_some (option_map (trimmed who named) o) ≡ true → is_some o ≡ true
-    was None e = e
-    was (Some sig) e = refl
-
--- trimmed signatures are whole
-trimmed_kept_whole : (s : State) (who : Pid) (text : List ℕ) (named : List Pid) → KeptAreWhole s → KeptAreWhole (with_outbound s who text named)
-trimmed_kept_whole s who text named whole t sig is part m = by (get s.kept t) refl (sym (trimmed_is s who named t) ∙ is)
-  where
-    by : (o : Option (List Part)) → get s.kept t ≡ o → option_map (trimmed who named) o ≡ Some sig → IsWhole (length s.routing.participants) part
-    by None none e = absurd (cc)
-    by (Some old) there e =
-        let image = map-Member (trimmed_part who named) old part (subst (Member part) (sym (some_of (trimmed who named old) sig e)) m) in
-        subst (IsWhole (length s.routing.participants)) (sym image.is) (trimmed_whole (length s.routing.participants) who named image.of (whole t old there image.of image.stands))
-
-still_some : {A B : Type 0} (f : A → B) (o : Option A) → is_some (option_map f o) ≡ is_some o
-still_some f None = refl
-still_some f (Some x) = refl
-
 -- another text, and the signatures trimmed
 outbound_tidy : (s : State) (who : Pid) (text : List ℕ) (named : List Pid) → IsTidy s → IsTidy (with_outbound s who text named)
-outbound_tidy s who text named is =
-    let same : (t : Tag) → is_some (get (trimmed_kept s who named) t) ≡ is_some (get s.kept t) = λ t. ap is_some (trimmed_is s who named t) ∙ still_some (trimmed who named) (get s.kept t) in record {
-      pooled = is.pooled;
-      kept = λ t there. is.kept t (sym (same t) ∙ there);
-      live = λ t live. same t ∙ is.live t live;
-      whole = trimmed_kept_whole s who text named is.whole;
-      owners = is.owners;
-      told = is.told;
-      hops = is.hops;
-      routed = is.routed;
-      apart = is.apart;
-      numbered = is.numbered;
-      rules = is.rules;
-      resolved = is.resolved;
-      rising = is.rising;
-      few = is.few;
-      idle = is.idle;
-      sized = record { start = is.sized.start; small = is.sized.small; low = is.sized.low; high = is.sized.high; room = is.sized.room };
-    }
+outbound_tidy s who text named is = record {
+  pooled = is.pooled;
+  kept = λ t there. is.kept t (sym (kept_there s who text named t) ∙ there);
+  live = λ t live. kept_there s who text named t ∙ is.live t live;
+  whole = kept_whole s who text named is.whole;
+  owners = is.owners;
+  told = is.told;
+  hops = is.hops;
+  routed = is.routed;
+  apart = is.apart;
+  numbered = is.numbered;
+  rules = is.rules;
+  resolved = is.resolved;
+  rising = is.rising;
+  few = is.few;
+  idle = is.idle;
+  sized = record { start = is.sized.start; small = is.sized.small; low = is.sized.low; high = is.sized.high; room = is.sized.room };
+}
 
 sends_tidy : (s : State) (who : Pid) (text : List ℕ) (named : List Pid) → (s.phase ≡ Start → ⊥) → IsTidy s → IsTidy (sending s who text named)
 sends_tidy s who text named later is =
