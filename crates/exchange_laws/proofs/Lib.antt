@@ -4,7 +4,6 @@ pub mod Sames
 pub mod FreshTags
 pub mod TagsAfter
 pub mod LivePairs
-pub mod Dropping
 pub mod RulesAfter
 pub mod Flows
 pub mod Built

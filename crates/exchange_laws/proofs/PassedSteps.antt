@@ -6,7 +6,7 @@ use Rattle.events.specs.Tags.{retagged}
 use Rattle.events.specs.declared.Event.{Event}
 use Rattle.events.specs.declared.Phase.{Phase}
 use Rattle.events.specs.declared.Phase.TheVariants.{Declaring, Running}
-use Rattle.exchange_laws.proofs.LineSteps.{QuietStep, Step, participant, pool, port, quiet, receives, receiving, resolved, resolving, routes, sending, sends, told}
+use Rattle.exchange_laws.proofs.LineSteps.{QuietStep, Step, participant, pool, port, quiet, receives, receiving, resolved, routes, sending, sends, told}
 use Rattle.exchange_laws.proofs.Lists.{TableOf}
 use Rattle.exchange_laws.proofs.NewStates.{new_passed}
 use Rattle.exchange_laws.proofs.Rerouted.{Rerouted, set_length}
