@@ -23,7 +23,7 @@ use Rattle.exchange_laws.proofs.Lists.{TableOf, get_tabulated}
 use Rattle.exchange_laws.proofs.LivePairs.{live_at}
 use Rattle.exchange_laws.proofs.ReadPolicies.{policies_are_one}
 use Rattle.exchange_laws.proofs.RulesAfter.{live_pairs_have_parts, rules_right, same_policies}
-use Rattle.exchange_laws.proofs.SteadySteps.{retagged_whole}
+use Rattle.exchange_laws.proofs.TidySteps.{retagged_whole}
 use Rattle.exchange_laws.proofs.TagsAfter.{tags_stay_pooled}
 use Rattle.exchange_laws.specs.Editing.{IsBase, IsEdit}
 use Rattle.exchange_laws.specs.Fitting.{AreWithinCells}
