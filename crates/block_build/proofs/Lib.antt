@@ -9,3 +9,4 @@ pub mod ViewLemmas
 pub mod BoundLemmas
 pub mod InportLemmas
 pub mod TightLemmas
+mod LentLemmas

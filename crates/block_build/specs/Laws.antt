@@ -1,5 +1,5 @@
 -- What is right for a view is right for the policies that its classifiers were made of, and the other way round.
-use Rattle.std.specs.Prelude.{◌≡◌, ◌≤◌, true, List, length, None}
+use Rattle.std.specs.Prelude.{◌≡◌, ◌<◌, ◌≤◌, true, List, length, None}
 use Rattle.classifier.specs.Meaning as lines
 use Rattle.events.specs.Sound.{IsRight, IsRightBy, cubes_of}
 use Rattle.net_types.specs.Answers.{Policies, is_offered, policy_of}
@@ -14,6 +14,7 @@ use Rattle.net_types.specs.declared.headers.Loc.TheVariants.{Stay}
 use Rattle.net_types.specs.declared.route.Offer.{Offer}
 use Rattle.net_types.specs.declared.route.Part.{Part}
 use Rattle.net_types.specs.declared.rule.Rule.{Rule}
+use Rattle.block_build.specs.Lent.{AreOf, Lent, inbound_at, outbound_at}
 use Rattle.block_build.specs.Right.{IsRightFor, view_answer, view_cells}
 use Rattle.block_build.specs.Views.{Viewed, inbound_of}
 
@@ -49,3 +50,9 @@ NoInports =
     (v : Viewed) (port : PortNo) (part : Part) (rules : List Rule) → IsRightFor v port part rules
     → ((o : Offer) → Member o part.offers → (c : Cube) → Member c (lines.cubes_of (inbound_of v o.exporter)) → c.inport ≡ None)
     → (c : Cube) → Member c (cubes_of rules) → c.inport ≡ None
+
+-- a view of the classifiers of all participants is one of the policies that they do
+abbrev pub ViewsAreOf : Type 0
+ViewsAreOf =
+    (ps : Policies) (all : List Lent) (part : Part) (v : Viewed) → AreOf ps all → part.sender.0 < length all → ((o : Offer) → Member o part.offers → o.exporter.0 < length all)
+    → v.outbound ≡ outbound_at all part.sender → ((o : Offer) → Member o part.offers → inbound_of v o.exporter ≡ inbound_at all o.exporter) → IsViewOf ps part v

@@ -1,6 +1,6 @@
 //! What is right for a view is right for the policies, and the other way round. The functions have empty bodies, and their contracts are the laws.
 
-ghost use Rattle.block_build.specs.Laws.{NoInports, NoMoreCells, RightForPolicies, RightForViews};
+ghost use Rattle.block_build.specs.Laws.{NoInports, NoMoreCells, RightForPolicies, RightForViews, ViewsAreOf};
 
 /// Rules that are right for a view are right for the policies that its classifiers were made of.
 pub fn right_for_policies()
@@ -20,4 +20,9 @@ pub fn no_more_cells()
 /// Where no cube of a receiver has an inport, no cube of right rules has one.
 pub fn no_inports()
     ensures { NoInports }
+{}
+
+/// A view of the classifiers of all participants is one of the policies that they do.
+pub fn views_are_of()
+    ensures { ViewsAreOf }
 {}

@@ -16,7 +16,7 @@ mod views;
 pub use block::{Block, BuildFault};
 pub use blocks::Blocks;
 pub use building::build;
-pub use laws::{no_inports, no_more_cells, right_for_policies, right_for_views};
+pub use laws::{no_inports, no_more_cells, right_for_policies, right_for_views, views_are_of};
 pub use tight::build_tight;
 pub use view::View;
 pub use views::Views;

@@ -1,10 +1,9 @@
-mod Answering
+pub mod Answering
 pub mod Lists
 pub mod Sames
 pub mod FreshTags
 pub mod TagsAfter
 pub mod LivePairs
-pub mod Dropping
 pub mod RulesAfter
 pub mod Flows
 pub mod Built
@@ -22,6 +21,7 @@ pub mod Counted
 pub mod OwnHops
 pub mod NewStates
 pub mod LineSteps
+pub mod PassedSteps
 pub mod SteadySteps
 pub mod QuietLines
 pub mod ListedPairs
@@ -31,3 +31,6 @@ pub mod Octets
 pub mod Framing
 pub mod Forwarded
 pub mod Parts
+pub mod ReadPolicies
+pub mod Sending
+pub mod OwnPorts

@@ -29,6 +29,6 @@ KeptAreWhole s = (t : Tag) (sig : List Part) → get s.kept t ≡ Some sig → (
 abbrev pub RoutesAreDeclared : Routing → Type 0
 RoutesAreDeclared r = (who : Pid) (p : Prefix) (attrs : Attrs) → route r who p ≡ Some attrs → who.0 < length r.participants
 
--- the parts of the signatures of declared routes are so
+-- the parts of signatures are so
 abbrev pub SignaturesAreWhole : Type 0
-SignaturesAreWhole = (r : Routing) → RoutesAreDeclared r → (p : Prefix) (part : Part) → Member part (signature r p) → IsWhole (length r.participants) part
+SignaturesAreWhole = (r : Routing) (p : Prefix) (part : Part) → Member part (signature r p) → IsWhole (length r.participants) part

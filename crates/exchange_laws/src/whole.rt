@@ -2,7 +2,7 @@
 
 ghost use Rattle.exchange_laws.specs.Whole.{SignaturesAreWhole};
 
-/// The parts of the signatures of declared routes can be built.
+/// Rules can be built of the parts of signatures.
 pub fn signatures_are_whole()
     ensures { SignaturesAreWhole }
 {}

@@ -1,5 +1,5 @@
 -- What committing a plan does to the classes, the pool and the table.
-use Rattle.std.specs.Prelude.{◌≡◌, ℕ, ◌≤◌, ◌<◌, ◌+◌, ◌^◌, Bool, true, false, List, [], ◌∷◌, length, map, Option, Some, None, is_some, IfSome, if◌then◌else◌}
+use Rattle.std.specs.Prelude.{◌≡◌, ℕ, ◌≤◌, ◌+◌, Bool, true, false, List, [], ◌∷◌, length, map, Option, Some, None, is_some, IfSome, sum_by, if◌then◌else◌}
 use Rattle.std.specs.FinMap.{FinMap, get, insert, remove}
 use Rattle.net_types.specs.Attributes.{same_option}
 use Rattle.net_types.specs.Keys.{pair_cmp, prefix_cmp, tag_cmp}
@@ -9,6 +9,7 @@ use Rattle.net_types.specs.declared.prefix.Prefix.{Prefix}
 use Rattle.net_types.specs.declared.route.Part.{Part}
 use Rattle.net_types.specs.declared.rule.Pair.{Pair}
 use Rattle.net_types.specs.declared.rule.Rule.{Rule}
+use Rattle.events.specs.After.{without_pairs}
 use Rattle.events.specs.Tags.{same_tag}
 use Rattle.events.specs.declared.TagChange.{TagChange}
 use Rattle.next_hop_pool.specs.Free.{IsTag, Tags, is_taken, marked}
@@ -135,10 +136,9 @@ abbrev pub with_blocks : FinMap pair_cmp (List Rule) → List Block → FinMap p
 with_blocks m [] = m
 with_blocks m (b ∷ bs) = with_blocks (insert m b.0 b.1) bs
 
--- each pair has one rule
-abbrev pub HaveOneRule : List Block → Type 0
-HaveOneRule [] = Unit {0}
-HaveOneRule (b ∷ bs) = (length b.1 ≡ 1) × HaveOneRule bs
+-- how many rules blocks have
+abbrev pub block_count : List Block → ℕ
+block_count bs = sum_by (λ (b : Block). length b.1) bs
 
 -- The plan can be committed: its fresh tags are free and not kept, each prefix whose tag becomes another is a member of the
 -- fresh tag that it gets, or gets none, its dead tags will be taken and no prefix's, and there is room for all that is put in.
@@ -153,5 +153,4 @@ pub record CanCommit (plan : Plan) (classes : Classes) (pool : Tags) (switch : I
   pub free : AreFree pool (tags_of (signed plan.fresh.items))
   pub taken : AreTaken (marked_all pool (tags_of (signed plan.fresh.items)) true) plan.dead.items
   pub pairs_room : length plan.blocks.items ≤ switch.room
-  pub one : HaveOneRule plan.blocks.items
-  pub few : rule_count switch.table + length plan.blocks.items < 2 ^ 64
+  pub few : rule_count (without_pairs switch.table plan.drops) + block_count plan.blocks.items ≤ switch.capacity

@@ -1,11 +1,14 @@
 -- The groups of the prefixes that a change of routes touches, by what is known of each: its tag, the signature kept for
 -- that tag, and its signature afterwards.
 use Rattle.std.specs.Prelude.{Bool, true, false, ◌&&◌, not, List, [], ◌∷◌, ◌++◌, map, slice_get, Option, Some, None, if◌then◌else◌}
-use Rattle.std.specs.FinMap.{FinMap, get}
+use Rattle.std.specs.FinMap.{FinMap, get, keys}
 use Rattle.std.specs.List.{list_any, position_from}
-use Rattle.std.specs.Option.{option_and_then}
+use Rattle.std.specs.Option.{option_and_then, option_map}
 use Rattle.net_types.specs.Attributes.{same_option, same_signature}
 use Rattle.net_types.specs.Keys.{prefix_cmp, tag_cmp}
+use Rattle.net_types.specs.Maps.{tabulate}
+use Rattle.net_types.specs.Signatures.{trimmed}
+use Rattle.net_types.specs.declared.address.Pid.{Pid}
 use Rattle.net_types.specs.declared.address.Tag.{Tag}
 use Rattle.net_types.specs.declared.prefix.Prefix.{Prefix}
 use Rattle.net_types.specs.declared.route.Part.{Part}
@@ -22,6 +25,11 @@ pub record Known : Type 0 where
 -- what classes know
 abbrev pub known : Classes → Known
 known c = record { tag = c.tag; kept = c.kept }
+
+-- what they know once a participant's policy names these, where the line is one that says so: the signatures are trimmed
+abbrev pub known_by : Option (Pid × List Pid) → Classes → Known
+known_by None c = known c
+known_by (Some (who, named)) c = record { tag = c.tag; kept = tabulate tag_cmp (keys c.kept) (λ t. option_map (trimmed who named) (get c.kept t)) }
 
 -- no participant has a best route
 abbrev pub is_empty : List Part → Bool

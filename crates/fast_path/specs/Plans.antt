@@ -1,73 +1,94 @@
 -- What a plan says, and why there is none (this exchange's own rule).
-use Rattle.std.specs.Prelude.{◌≡◌, ℕ, ◌+◌, ◌-◌, ◌^◌, min, ◌≤◌, ◌<◌, nat_le, List, length, map, take, Option, Some, None, if◌then◌else◌}
+use Rattle.std.specs.Prelude.{◌≡◌, ℕ, ◌+◌, ◌≤◌, ◌<◌, Bool, ◌&&◌, List, length, filter, map, Some}
 use Rattle.std.specs.FinMap.{FinMap}
-use Rattle.net_types.specs.Exports.{Routing}
-use Rattle.net_types.specs.Keys.{prefix_cmp}
-use Rattle.net_types.specs.Sets.{IsRising}
-use Rattle.events.specs.Fits.{tag_changes}
+use Rattle.block_build.specs.Lent.{AreOf, Lent}
+use Rattle.events.specs.After.{without_pairs}
+use Rattle.events.specs.Fits.{flows_of, tag_changes}
 use Rattle.events.specs.Sound.{rule_count}
-use Rattle.events.specs.State.{State}
+use Rattle.events.specs.State.{State, ArePolicies}
 use Rattle.events.specs.Tags as events
-use Rattle.events.specs.Tags.{groups, retagged}
+use Rattle.events.specs.Tags.{groups, is_live_pair, live_pairs, retagged}
 use Rattle.events.specs.declared.Entry.{Entry}
+use Rattle.exchange_laws.specs.Editing.{IsBase}
+use Rattle.exchange_laws.specs.Fitting.{AreWithinCells}
 use Rattle.exchange_laws.specs.Fresh.{HasEnoughTags}
-use Rattle.exchange_laws.specs.Rules.{IsDeclaredAlike, with_default_rules}
-use Rattle.exchange_laws.specs.Steady.{IsSteady}
-use Rattle.match_switch.specs.Installed.{Installed}
-use Rattle.next_hop_pool.specs.Free.{Tags, free_tags}
-use Rattle.fast_path.specs.Emptied.{emptied}
-use Rattle.fast_path.specs.Pairs.{gone_pairs, new_flows, untold}
-use Rattle.fast_path.specs.declared.forward.Fresh.{Fresh}
-use Rattle.fast_path.specs.Committing.{classes_of, kept_of}
-use Rattle.fast_path.specs.Grouping.{changes_of, known}
-use Rattle.prefix_classes.specs.Classes.{Classes}
-use Rattle.registry.specs.Registered.{Registered}
-use Rattle.route_server.specs.Proposed.{IsProposal, Proposed}
-use Rattle.exchange_laws.specs.Listed.{AreLiveOnly}
+use Rattle.exchange_laws.specs.Listed.{AreThose, comes, goes}
+use Rattle.exchange_laws.specs.Rules.{IsDeclaredAlike, IsRightAt}
+use Rattle.fast_path.specs.Committing.{Block, classes_of, with_blocks}
+use Rattle.fast_path.specs.Grouping.{known_by}
 use Rattle.fast_path.specs.LiveOnly.{AreDead}
-use Rattle.fast_path.specs.Planned.{AreNewFlows, blocks_of, group_kept, is_tag_below}
+use Rattle.fast_path.specs.Planned.{group_kept, is_tag_below}
 use Rattle.fast_path.specs.Shown.{AreShown}
 use Rattle.fast_path.specs.declared.planned.FastFault.{FastFault}
 use Rattle.fast_path.specs.declared.planned.FastFault.TheVariants.{NoNextHop, TableFull, Memory}
 use Rattle.fast_path.specs.declared.planned.Plan.{Plan}
+use Rattle.match_switch.specs.Installed.{Installed}
+use Rattle.net_types.specs.Answers.{Policies}
+use Rattle.net_types.specs.Exports.{Routing}
+use Rattle.net_types.specs.Keys.{prefix_cmp}
+use Rattle.net_types.specs.Sets.{IsRising, Member, union_over}
+use Rattle.net_types.specs.declared.rule.Pair.{Pair}
+use Rattle.next_hop_pool.specs.Free.{Tags}
+use Rattle.registry.specs.Registered.{Registered}
+use Rattle.prefix_classes.specs.Classes.{Classes}
+use Rattle.route_server.specs.Proposed.{IsProposal, Proposed}
 
--- The parts of an exchange show a steady state, and the proposal leads to the routing.
-pub record IsAsked (s : State) (r : Routing) (names : Registered) (classes : Classes) (pool : Tags) (was_told : List (FinMap prefix_cmp Entry)) (switch : Installed) (proposal : Proposed) : Type 0 where
-  pub shown : AreShown s names classes pool was_told
+-- a live pair is built anew
+abbrev pub is_rebuilt_live : State → (Pair → Bool) → Pair → Bool
+is_rebuilt_live s is_rebuilt pair = is_live_pair s pair && is_rebuilt pair
+
+-- The parts of an exchange show a state on which a line builds, with the signatures trimmed as the line does; the proposal
+-- leads to the routing, the classifiers are those of the policies, and the pairs that are built anew are listed, in order.
+pub record IsAsked (s : State) (r : Routing) (is_rebuilt : Pair → Bool) (names : Registered) (classes : Classes) (pool : Tags) (was_told : List (FinMap prefix_cmp Entry)) (switch : Installed) (all : List Lent) (proposal : Proposed) (rebuild : List Pair) : Type 0 where
+  pub shown : AreShown s names (known_by proposal.named classes) pool was_told
   pub table : s.table ≡ switch.table
   pub capacity : s.capacity ≡ switch.capacity
-  pub steady : IsSteady s
+  pub base : IsBase s is_rebuilt
   pub alike : IsDeclaredAlike s.routing r
   pub proposes : IsProposal s.routing r proposal
+  pub lent : length all ≡ length s.routing.participants
+  pub views : (ps : Policies) → ArePolicies s ps → AreOf ps all
+  pub rebuilt : AreThose (is_rebuilt_live s is_rebuilt) rebuild
 
--- what the parts give for a proposal, by the groups that get fresh tags
-pub record IsDraft (names : Registered) (classes : Classes) (pool : Tags) (was_told : List (FinMap prefix_cmp Entry)) (proposal : Proposed) (fs : List Fresh) (plan : Plan) : Type 0 where
-  pub tags : plan.tags ≡ changes_of (known classes) fs (take (length fs) (free_tags pool)) proposal.touched proposal.sigs
-  pub drops : plan.drops ≡ gone_pairs names classes.kept was_told (emptied classes.tag plan.tags)
-  pub adds : plan.adds ≡ new_flows names (map (λ (f : Fresh). f.sig) fs) (take (length fs) (free_tags pool))
-  pub blocks : plan.blocks.items ≡ blocks_of plan.adds
-  pub fresh : plan.fresh.items ≡ classes_of plan.tags (kept_of (take (length fs) (free_tags pool)) (map (λ (f : Fresh). f.sig) fs))
-  pub dead : plan.dead.items ≡ untold was_told (emptied classes.tag plan.tags)
+-- some state, routing and test for which the parts are asked
+abbrev pub IsAskedFor : Registered → Classes → Tags → List (FinMap prefix_cmp Entry) → Installed → List Lent → Proposed → List Pair → Type 0
+IsAskedFor names classes pool was_told switch all proposal rebuild =
+    (s : State) × (r : Routing) × (is_rebuilt : Pair → Bool) × IsAsked s r is_rebuilt names classes pool was_told switch all proposal rebuild
 
--- the rules that there would be, where they are more than there is room for
-abbrev pub too_many : ℕ → ℕ → ℕ → ℕ → Option ℕ
-too_many rules capacity drops adds = if nat_le (rules + adds) (capacity + drops) then None else Some (min (rules + adds - drops) (2 ^ 64 - 1))
+-- the pair of a block
+abbrev pub pair_of : Block → Pair
+pair_of b = b.0
+
+-- the state with the tags of a routing, and the table that the plan leaves
+abbrev pub planned : State → Routing → Plan → State
+planned s r plan = record (retagged s r) { table = with_blocks (without_pairs s.table plan.drops) plan.blocks.items }
 
 -- The plan has what becomes of tags and rules, the fresh tags with their signatures and members, and the tags that are live
--- no more.
-pub record IsPlan (s : State) (r : Routing) (plan : Plan) : Type 0 where
+-- no more. The rules that come are right, and fit the table.
+pub record IsPlan (s : State) (r : Routing) (is_rebuilt : Pair → Bool) (plan : Plan) : Type 0 where
   pub tags : plan.tags ≡ tag_changes s.tag (retagged s r).tag
-  pub gone : AreLiveOnly s (retagged s r) plan.drops
-  pub new : AreNewFlows s (retagged s r) plan.adds
-  pub blocks : plan.blocks.items ≡ blocks_of plan.adds
+  pub gone : AreThose (goes s (retagged s r) is_rebuilt) plan.drops
+  pub new : AreThose (comes s (retagged s r) is_rebuilt) (map pair_of plan.blocks.items)
+  pub right : (b : Block) → Member b plan.blocks.items → (ps : Policies) → ArePolicies s ps → IsRightAt ps (retagged s r) b.0 b.1
+  pub adds : plan.adds ≡ union_over flows_of plan.blocks.items
   pub fresh : plan.fresh.items ≡ classes_of plan.tags (group_kept s r)
   pub dead : AreDead s (retagged s r) plan.dead.items
   pub rising : IsRising is_tag_below plan.dead.items
   pub enough : HasEnoughTags s r
-  pub fits : rule_count (with_default_rules s (retagged s r)) ≤ s.capacity
+  pub fits : rule_count (planned s r plan) ≤ s.capacity
 
--- More fresh tags are needed than are free; or there are enough, and the rules are more than the table has room for.
+-- More fresh tags are needed than are free; or there are enough, and the rules are more than the table has room for, though
+-- no more than the cells of the pairs that are live then.
 abbrev pub IsFault : State → Routing → FastFault → Type 0
 IsFault s r (NoNextHop need free) = (need ≡ length (groups s r)) × (free ≡ length (events.free_tags s)) × (free < need)
-IsFault s r (TableFull rules capacity) = HasEnoughTags s r × (rules ≡ rule_count (with_default_rules s (retagged s r))) × (capacity ≡ s.capacity) × (capacity < rules)
+IsFault s r (TableFull rules capacity) = HasEnoughTags s r × AreWithinCells (retagged s r) rules × (capacity ≡ s.capacity) × (capacity < rules)
 IsFault s r Memory = Unit {0}
+
+-- how many pairs a line builds
+abbrev pub build_count : State → Routing → (Pair → Bool) → ℕ
+build_count s r is_rebuilt = length (filter (comes s (retagged s r) is_rebuilt) (live_pairs (retagged s r)))
+
+-- each pair that is built is a step at most, and where tags are missing none is built
+pub record IsWithinSteps (s : State) (r : Routing) (is_rebuilt : Pair → Bool) (before after : ℕ) : Type 0 where
+  pub most : after ≤ before + build_count s r is_rebuilt
+  pub short : length (events.free_tags s) < length (groups s r) → after ≡ before

@@ -1,4 +1,3 @@
-pub mod Compiled
 pub mod Sets
 pub mod Narrow
 pub mod Apart

@@ -11,7 +11,7 @@ ghost use Rattle.net_types.specs.Sets.{Member, SameMembers};
 ghost use Rattle.net_types.specs.Policies.{Fwd, den, atoms, mods};
 ghost use Rattle.classifier.specs.Classifiers.{meaning, cubes_of, assigns_of};
 ghost use Rattle.policy_syntax.specs.Views.{policy_of, target_of};
-ghost use Rattle.policy_compile.specs.Compiled.{IsCompiled};
+ghost use Rattle.classifier.specs.Compiled.{IsCompiled};
 
 use crate::preds::{compile_pred, unchanged};
 use classifier::{Classifier, Results, parallel, sequence, single};

@@ -5,7 +5,7 @@ ghost use Rattle.net_types.specs.Headers.{no_change};
 ghost use Rattle.net_types.specs.declared.headers.Loc.TheVariants.{Stay};
 ghost use Rattle.net_types.specs.Policies.{plain, test_cube};
 ghost use Rattle.policy_syntax.specs.Views.{pred_of, test_of};
-ghost use Rattle.policy_compile.specs.Compiled.{Filters, KeepsFound};
+ghost use Rattle.classifier.specs.Compiled.{Filters, KeepsFound};
 
 use classifier::{Classifier, Results, negate, parallel, sequence, single};
 use net_types::{Assign, Cube, Loc, Memory};

@@ -7,8 +7,8 @@ use Rattle.net_types.specs.Headers.{no_change}
 use Rattle.net_types.specs.Policies as model
 use Rattle.net_types.specs.declared.headers.Loc.TheVariants.{To, Out}
 use Rattle.policy_syntax.specs.Views.{target_of}
-use Rattle.policy_compile.specs.Compiled.{IsCompiled}
-use Rattle.policy_compile.proofs.CompileLemmas
+use Rattle.classifier.specs.Compiled.{IsCompiled}
+use Rattle.classifier.proofs.CompileLemmas
 use Rattle.policy_compile.proofs.policies.forward.Goals as goal
 
 abbrev only : Assign → Loc → List Item

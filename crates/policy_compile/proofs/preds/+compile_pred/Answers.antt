@@ -7,8 +7,8 @@ use Rattle.net_types.specs.declared.headers.Loc.TheVariants.{Stay}
 use Rattle.net_types.proofs.CubeLemmas.{has_option}
 use Rattle.net_types.proofs.PolicyLemmas.{has-test_cube}
 use Rattle.policy_syntax.specs.Views.{pred_of, test_of}
-use Rattle.policy_compile.specs.Compiled.{Filters}
-use Rattle.policy_compile.proofs.CompileLemmas
+use Rattle.classifier.specs.Compiled.{Filters}
+use Rattle.classifier.proofs.CompileLemmas
 use Rattle.policy_compile.proofs.preds.+compile_pred.Goals as goal
 
 pub returns-in_ok-all-in-Yes : goal.returns-in_ok-all-in-Yes

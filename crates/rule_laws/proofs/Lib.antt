@@ -1,0 +1,5 @@
+pub mod CompiledPreds
+pub mod CompiledPolicies
+pub mod PolicyViews
+pub mod FirstOffers
+pub mod RightRules

@@ -1,0 +1,6 @@
+-- The law.
+use Rattle.rule_laws.proofs.RightRules.{right_rules_are_few}
+use Rattle.rule_laws.proofs.rules.right_rules_are_few.Goals as goal
+
+pub returns : goal.returns
+returns c = right_rules_are_few
