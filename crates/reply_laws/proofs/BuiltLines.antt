@@ -27,10 +27,9 @@ use Rattle.exchange_laws.proofs.TidySteps.{retagged_whole}
 use Rattle.exchange_laws.proofs.TagsAfter.{tags_stay_pooled}
 use Rattle.exchange_laws.specs.Editing.{IsBase, IsEdit}
 use Rattle.exchange_laws.specs.Fitting.{AreWithinCells}
-use Rattle.exchange_laws.specs.Fresh.{HasEnoughTags}
 use Rattle.exchange_laws.specs.Replies.{HasNewRules}
 use Rattle.exchange_laws.specs.Retagging.{TagsArePooled}
-use Rattle.exchange_laws.specs.Rules.{IsChange, IsDeclaredAlike, IsRightAt, IsTableAfter, is_new}
+use Rattle.exchange_laws.specs.Rules.{IsChange, IsRightAt, IsTableAfter, is_new}
 use Rattle.exchange_laws.specs.Whole.{KeptAreWhole}
 use Rattle.net_types.proofs.FindLemmas.{find-IsFound}
 use Rattle.net_types.proofs.OrderLemmas.{pairs_total}
@@ -82,18 +81,15 @@ record IsMade (s0 s1 : State) (is_rebuilt : Pair → Bool) (ps : Policies) (pair
   old : (rules : List Rule) → is_new s0 is_rebuilt pair ≡ false → o ≡ Some rules → get s0.table pair ≡ Some rules
   new : (rules : List Rule) → is_new s0 is_rebuilt pair ≡ true → o ≡ Some rules → IsRightAt ps s1 pair rules
 
-module _ (s0 : State) (r : Routing) (is_rebuilt : Pair → Bool) (base : IsBase s0 is_rebuilt) (alike : IsDeclaredAlike s0.routing r) (enough : HasEnoughTags s0 r) where
+module _ (s0 : State) (r : Routing) (is_rebuilt : Pair → Bool) (base : IsBase s0 is_rebuilt) (change : IsChange s0 r) where
   abbrev s1 : State
   s1 = retagged s0 r
 
   abbrev ps : Policies
   ps = base.right.policies
 
-  change : IsChange s0 r
-  change = record { tagged = base.tagged; pooled = base.pooled; owners = base.owners; alike = alike; enough = enough }
-
   are : ArePolicies s1 ps
-  are = same_policies s0 s1 ps alike.participants refl refl base.right.read
+  are = same_policies s0 s1 ps change.alike.participants refl refl base.right.read
 
   pooled : TagsArePooled s1
   pooled = tags_stay_pooled s0 r base.pooled
@@ -101,7 +97,7 @@ module _ (s0 : State) (r : Routing) (is_rebuilt : Pair → Bool) (base : IsBase 
   -- the best of an owner's part is one of its offers
   best_offered : (pair : Pair) (part : Part) → owners_part s1 pair ≡ Some part → is_offered part.offers part.best ≡ true
   best_offered pair part is =
-      let whole : KeptAreWhole s1 = retagged_whole s0 r alike.participants base.pooled base.whole in
+      let whole : KeptAreWhole s1 = retagged_whole s0 r change.alike.participants base.pooled base.whole in
       option_and_then_some (λ (q : PortInfo). option_and_then (λ sig. part_of sig q.owner) (get s1.kept pair.tag)) (port_of s1 pair.port) part is (λ q at is.
       option_and_then_some (λ sig. part_of sig q.owner) (get s1.kept pair.tag) part is (λ sig keeps is.
       (whole pair.tag sig keeps part (find-IsFound (λ (x : Part). nat_eq x.sender.0 q.owner.0) sig part is).stands).best))
@@ -150,7 +146,7 @@ module _ (s0 : State) (r : Routing) (is_rebuilt : Pair → Bool) (base : IsBase 
       let at = live_at s1 pair live in
       let q : PortInfo = at.0 in
       let found = find-IsFound (λ (x : PortInfo). nat_eq x.number.0 pair.port.0) s1.routing.ports q at.1.port in
-      let high : q.number.0 ≤ 65279 = (base.numbered q (subst (Member q) alike.ports found.stands)).1 in
+      let high : q.number.0 ≤ 65279 = (base.numbered q (subst (Member q) change.alike.ports found.stands)).1 in
       let same : q.number.0 ≡ pair.port.0 = eqb-true q.number.0 pair.port.0 found.passes in
       omega (arith, high, same)
 

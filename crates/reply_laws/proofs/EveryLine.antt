@@ -3,44 +3,41 @@ use Rattle.std.proofs.Common.{◌≡◌, ◌&&◌, nat_eq, nat_lt, ℕ, ◌<◌,
 use Rattle.std.specs.Prelude.{Option, Some, None, Result, Ok, Err, is_some, MatchOption, slice_get, slice_set, take, unwrap_or}
 use Rattle.std.specs.FinMap.{FinMap, contains_key-keys, empty, get, get-empty, keys}
 use Rattle.std.specs.Option.{option_map_or}
-use Rattle.std.proofs.lemmas.Bool.{false≢true, ltb-false}
+use Rattle.std.proofs.lemmas.Bool.{false≢true}
 use Rattle.events.proofs.Reached.{declared_pid}
-use Rattle.events.specs.After.{after, next, next_by, received_by, running, sent_by, settled, taken, with_known, with_named, with_outbound, with_port, with_told}
+use Rattle.events.specs.After.{after, next, next_by, received_by, running, sent_by, settled, taken, with_known, with_named, with_port, with_told}
 use Rattle.events.specs.Forms.{IsWellFormed}
 use Rattle.events.specs.Fits.{Fits, FitsBy, IsAnswer, IsSent, IsTagged, adverts, asks_for, bare, by_table, all_flows, destination, dropped, is_receivers, is_senders, none_rebuilt, responder_reply, tagged_frame}
 use Rattle.events.specs.Legal.{LegalFrom}
 use Rattle.events.specs.Pending.{pending, with_all_news}
-use Rattle.events.specs.Refusals.{if_short, inbound_refusal, is_datagram, outbound_refusal, policy_refusal, refusal, refused_if, tags_refusal}
+use Rattle.events.specs.Refusals.{if_short, inbound_refusal, is_datagram, outbound_refusal, refusal, refused_if}
 use Rattle.events.specs.Resolving.{is_pool_request, is_resolved, port_place, resolved_at, tag_address, unresolved, with_answer, with_resolved}
-use Rattle.events.specs.State.{State, first, owner_of, port_of, present, told_to}
-use Rattle.events.specs.Tags.{free_tags, groups}
+use Rattle.events.specs.State.{State, first, port_of, present, told_to}
 use Rattle.events.specs.declared.Entry.{Entry}
 use Rattle.events.specs.declared.Event.{Event}
 use Rattle.events.specs.declared.Event.TheVariants.{Bad, Exchange, Participant as DeclaresParticipant, Port as DeclaresPort, Update, Down, Export, Outbound, Inbound, Take, Drain, Arp, Resolve, Packet, Frame, Recompile, Work, Table}
 use Rattle.events.specs.declared.Head.{Head}
 use Rattle.events.specs.declared.Head.TheVariants.{Fine, Working, Finished, Unrouted, Unresolved, Silent, Refused}
 use Rattle.events.specs.declared.Refusal.{Refusal}
-use Rattle.events.specs.declared.Refusal.TheVariants.{BadPacket, NoNextHop}
+use Rattle.events.specs.declared.Refusal.TheVariants.{BadPacket}
 use Rattle.events.specs.declared.Reply.{Reply}
 use Rattle.exchange_laws.proofs.Bases.{inbound_bases, outbound_bases, steady_are_bases}
-use Rattle.exchange_laws.proofs.Edited.{reroutings_are_edits}
+use Rattle.exchange_laws.proofs.Edited.{reroutings_are_changes, reroutings_are_edits}
 use Rattle.exchange_laws.proofs.Forwarded.{forwarded}
 use Rattle.exchange_laws.proofs.Framing.{readdressed, tagged_octets}
 use Rattle.exchange_laws.proofs.FullTables.{accepted_lines_fit}
 use Rattle.exchange_laws.proofs.LineSteps.{short}
 use Rattle.exchange_laws.proofs.Octets.{no_octets, octets_append, octets_more}
-use Rattle.exchange_laws.proofs.PolicyEdits.{inbounds_are_edits, outbounds_are_edits}
+use Rattle.exchange_laws.proofs.PolicyEdits.{inbounds_are_changes, inbounds_are_edits, outbounds_are_changes, outbounds_are_edits}
 use Rattle.exchange_laws.proofs.PoolTags.{told_small}
 use Rattle.exchange_laws.proofs.QuietLines.{quiet_lines_are_accepted}
-use Rattle.exchange_laws.proofs.Rerouted.{Rerouted, known, neither, not_stopped as not_refused, passes, rerouted}
-use Rattle.exchange_laws.proofs.SameRoutes.{no_groups}
+use Rattle.exchange_laws.proofs.Rerouted.{Rerouted, known, passes, rerouted}
 use Rattle.exchange_laws.proofs.SteadySteps.{starts_steady, steps_stay_steady}
 use Rattle.exchange_laws.proofs.ToldAnew.{drains_are_accepted, takes_are_accepted}
 use Rattle.exchange_laws.specs.Editing.{IsBase, inbound_base, outbound_base}
-use Rattle.exchange_laws.specs.Fresh.{HasEnoughTags}
 use Rattle.exchange_laws.specs.Octets.{AreOctets, IsMac}
 use Rattle.exchange_laws.specs.Quiet.{is_quiet}
-use Rattle.exchange_laws.specs.Rerouting.{is_rerouting}
+use Rattle.exchange_laws.specs.Rerouting.{IsRerouting, is_rerouting}
 use Rattle.exchange_laws.specs.Steady.{IsSteady}
 use Rattle.exchange_laws.specs.Telling.{told_anew}
 use Rattle.grammar.specs.TextReading.{Fault as Misread}
@@ -50,9 +47,8 @@ use Rattle.net_types.proofs.OrderLemmas.{prefix_tie, prefixes_total}
 use Rattle.net_types.proofs.OrderedLemmas.{member_any}
 use Rattle.net_types.proofs.SetLemmas.{Member-append_cases}
 use Rattle.net_types.specs.Arp.{asked_ip, asker_mac, no_mac}
-use Rattle.net_types.specs.Exports.{Routing, pid_of}
+use Rattle.net_types.specs.Exports.{pid_of}
 use Rattle.net_types.specs.Frames.{framed}
-use Rattle.net_types.specs.Isolation.{out_faults}
 use Rattle.net_types.specs.Keys.{ip_cmp, prefix_cmp}
 use Rattle.net_types.specs.Maps.{ordered}
 use Rattle.net_types.specs.Naming.{named_in}
@@ -247,33 +243,26 @@ take_reply s name count steady none =
 rerouting_reply : (s : State) (e : Event) → IsSteady s → is_rerouting e ≡ true → refusal s e ≡ None → (r : Reply) × Fits s e r
 rerouting_reply s e steady rerouting none =
     let to : Rerouted s e = rerouted s e rerouting none in
-    built_reply s to.routing none_rebuilt (steady_are_bases s steady) to.alike to.enough s e (reroutings_are_edits s e to.routing (record { passes = none; building = rerouting; leaves = to.leaves }))
+    let is : IsRerouting s e to.routing = record { passes = none; building = rerouting; leaves = to.leaves } in
+    let base : IsBase s none_rebuilt = steady_are_bases s steady in
+    built_reply s to.routing none_rebuilt base (reroutings_are_changes s e to.routing base is) s e (reroutings_are_edits s e to.routing is)
 
 -- ---- policies
-
-enough_tags : (s : State) (r : Routing) → tags_refusal s r ≡ None → HasEnoughTags s r
-enough_tags s r e = ltb-false (length (free_tags s)) (length (groups s r)) (not_refused (nat_lt (length (free_tags s)) (length (groups s r))) (NoNextHop (length (groups s r)) (length (free_tags s))) e)
 
 read_outbound_reply : (s : State) (name text : List ℕ) (who : Pid) → IsSteady s → pid_of s.routing name ≡ Some who → refusal s (Outbound name text) ≡ None → (o : Result Policy Misread) → policy_of_text text ≡ o → outbound_refusal s who text o ≡ None
     → (r : Reply) × Fits s (Outbound name text) r
 read_outbound_reply s name text who steady declared none (Err fault) read free = absurd (cc)
 read_outbound_reply s name text who steady declared none (Ok p) read free =
     let named : List Pid = named_in (pid_of s.routing) p in
-    let s0 : State = outbound_base s who text named in
-    let r : Routing = with_named s.routing who named in
-    let enough : HasEnoughTags (with_outbound s who text named) r =
-    enough_tags (with_outbound s who text named) r (neither (policy_refusal (out_faults (pid_of s.routing) (owner_of s) who p) p) (tags_refusal (with_outbound s who text named) r) free).1 in
-    built_reply s0 r (is_senders s who) (outbound_bases s who text p steady (declared_pid s.routing name who declared) read) (record { participants = refl; ports = refl }) enough s (Outbound name text)
-    (outbounds_are_edits s name text who p steady declared read none)
+    built_reply (outbound_base s who text named) (with_named s.routing who named) (is_senders s who) (outbound_bases s who text p steady (declared_pid s.routing name who declared) read)
+    (outbounds_are_changes s name text who p steady declared read none) s (Outbound name text) (outbounds_are_edits s name text who p steady declared read none)
 
 read_inbound_reply : (s : State) (name text : List ℕ) (who : Pid) → IsSteady s → pid_of s.routing name ≡ Some who → refusal s (Inbound name text) ≡ None → (o : Result Policy Misread) → policy_of_text text ≡ o → inbound_refusal s who o ≡ None
     → (r : Reply) × Fits s (Inbound name text) r
 read_inbound_reply s name text who steady declared none (Err fault) read free = absurd (cc)
 read_inbound_reply s name text who steady declared none (Ok p) read free =
-    let s0 : State = inbound_base s who text in
-    let base : IsBase s0 (is_receivers s who) = inbound_bases s who text p steady (declared_pid s.routing name who declared) read in
-    let no_more : length (groups s0 s.routing) ≡ 0 = ap length (no_groups s0 base.tagged) in
-    built_reply s0 s.routing (is_receivers s who) base (record { participants = refl; ports = refl }) (omega (arith, no_more)) s (Inbound name text) (inbounds_are_edits s name text who p steady declared read none)
+    built_reply (inbound_base s who text) s.routing (is_receivers s who) (inbound_bases s who text p steady (declared_pid s.routing name who declared) read)
+    (inbounds_are_changes s who text p steady read) s (Inbound name text) (inbounds_are_edits s name text who p steady declared read none)
 
 outbound_reply : (s : State) (name text : List ℕ) → IsSteady s → refusal s (Outbound name text) ≡ None → (r : Reply) × Fits s (Outbound name text) r
 outbound_reply s name text steady none =
