@@ -1,5 +1,5 @@
 -- Maps after several values are put in or taken out, members with their places, and lists that rise.
-use Rattle.std.proofs.Common.{◌≡◌, ℕ, zero, suc, ◌<◌, ◌≤◌, ◌⊎◌, Bool, true, false, cond, ◌||◌, List, [], ◌∷◌, filter, length, map, take, sym, ap, subst, ◌∙◌, refl, arith, inl, inr}
+use Rattle.std.proofs.Common.{◌≡◌, ℕ, zero, suc, ◌<◌, ◌⊎◌, Bool, true, false, cond, ◌||◌, List, [], ◌∷◌, filter, map, take, sym, ap, subst, ◌∙◌, refl, arith, inl, inr}
 use Rattle.std.specs.Prelude.{Option, Some, None, slice_get}
 use Rattle.std.specs.Cmp.{IsTotalOrder}
 use Rattle.std.specs.FinMap.{FinMap, get, get-insert, get-remove, insert, remove}
@@ -41,14 +41,6 @@ pub filter_alike : {A : Type 0} (f g : A → Bool) (xs : List A) → ((x : A) �
 filter_alike f g [] same = refl
 filter_alike f g (x ∷ xs) same =
     ap (λ b. cond b (x ∷ filter f xs) (filter f xs)) (same x (inl refl)) ∙ ap (λ ys. cond (g x) (x ∷ ys) ys) (filter_alike f g xs (λ y m. same y (inr m)))
-
-pub filter-le : {A : Type 0} (f : A → Bool) (xs : List A) → length (filter f xs) ≤ length xs
-filter-le f [] = omega arith
-filter-le f (x ∷ xs) = by (f x) (filter-le f xs)
-  where
-    by : (b : Bool) → length (filter f xs) ≤ length xs → length (cond b (x ∷ filter f xs) (filter f xs)) ≤ suc (length xs)
-    by true few = omega arith
-    by false few = omega arith
 
 -- ---- maps
 

@@ -6,6 +6,6 @@ use Rattle.fast_path.proofs.parts.trim_named.Goals as goal
 
 pub returns-in-Some-clause-kept : goal.returns-in-Some-clause-kept
 returns-in-Some-clause-kept c =
-    trimmed_is c.args.classes.now.kept c.trim.new.self.kept c.in-Some.who c.items.result.now c.trim.ensures.kept
+    trimmed_is c.args.classes.now c.trim.new.self.kept c.in-Some.who c.items.result.now c.trim.ensures.kept
     ∙ ap (λ pids. (known_by (Some (c.in-Some.who, pids)) c.args.classes.now).kept) c.items.ensures
     ∙ ap (λ named. (known_by named c.args.classes.now).kept) (sym c.in-Some.is)
