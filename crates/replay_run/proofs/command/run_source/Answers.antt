@@ -25,7 +25,7 @@ returns-in_default-clause-replay g c =
         few,
         (
           p.refused,
-          whole_run i.0 i.1 p c.loop-taken.sdx (along first (take limit i.0) i.1 i.0 i.1 p c.loop-taken.sdx (kept_whole limit i.0 few) refl i.5),
+          whole_run i.0 i.1 p c.loop-taken.sdx c.args.steps.now c.loop-taken.steps (along first (take limit i.0) i.1 i.0 i.1 p c.loop-taken.sdx c.args.steps.now c.loop-taken.steps (kept_whole limit i.0 few) refl i.5),
         ),
       ),
     )
@@ -35,7 +35,7 @@ returns-then-count-eq0-clause-replay g c =
     let i = c.loop-taken.invariant.run in
     let p = c.loop-taken.progress in
     let few : length i.0 ≤ limit = omega (arith, i.4) in
-    let end = c.finish.ensures.end i.0 i.1 (along first (take limit i.0) i.1 i.0 i.1 p c.loop-taken.sdx (kept_whole limit i.0 few) refl i.5) in
+    let end = c.finish.ensures.end i.0 i.1 c.args.steps.now (along first (take limit i.0) i.1 i.0 i.1 p c.loop-taken.sdx c.args.steps.now c.loop-taken.steps (kept_whole limit i.0 few) refl i.5) in
     let buffer = c.read_at_most.new.buffer in
     let none : i.0 ++ take c.in-Ok.count buffer ≡ i.0 = ap (λ k. i.0 ++ take k buffer) c.if-count-eq0.true ∙ append-nil i.0 in (
       i.0,
@@ -43,7 +43,7 @@ returns-then-count-eq0-clause-replay g c =
       subst (λ b. Consumes (g.S.Source.left c.args.source.now) (g.S.Source.left c.read_at_most.new.source) b) none (Consumes_then _ _ _ i.0 (take c.in-Ok.count buffer) i.2 c.in-Ok.ensures.bytes.0),
       Appends_then _ _ _ i.1 end.0 i.3 end.1,
       omega (arith, few),
-      replayed_end c.finish.result i.0 (i.1 ++ end.0) (g.S.Source.left c.read_at_most.new.source) c.finish.new.sdx (c.in-Ok.ensures.bytes.1 c.if-count-eq0.true (omega arith)) few end.2,
+      replayed_end c.runs_go_on.ensures c.finish.result i.0 (i.1 ++ end.0) (g.S.Source.left c.read_at_most.new.source) c.finish.new.sdx c.args.steps.now c.finish.new.steps (c.in-Ok.ensures.bytes.1 c.if-count-eq0.true (omega arith)) few end.2,
     )
 
 pub returns-then-count-eq0-clause-read : goal.returns-then-count-eq0-clause-read
@@ -51,8 +51,8 @@ returns-then-count-eq0-clause-read g c is =
     let i = c.loop-taken.invariant.run in
     let p = c.loop-taken.progress in
     let few : length i.0 ≤ limit = omega (arith, i.4) in
-    let end = c.finish.ensures.end i.0 i.1 (along first (take limit i.0) i.1 i.0 i.1 p c.loop-taken.sdx (kept_whole limit i.0 few) refl i.5) in
-    absurd (no_read_fault c.finish.result i.0 (i.1 ++ end.0) c.finish.new.sdx is end.2)
+    let end = c.finish.ensures.end i.0 i.1 c.args.steps.now (along first (take limit i.0) i.1 i.0 i.1 p c.loop-taken.sdx c.args.steps.now c.loop-taken.steps (kept_whole limit i.0 few) refl i.5) in
+    absurd (no_read_fault c.finish.result i.0 (i.1 ++ end.0) c.finish.new.sdx c.args.steps.now c.finish.new.steps is end.2)
 
 pub loop-taken-preserved : goal.loop-taken-preserved
 loop-taken-preserved g c =
@@ -61,7 +61,7 @@ loop-taken-preserved g c =
     let buffer = c.read_at_most.new.buffer in
     let count = c.in-Ok.count in
     let within : c.min-within.result ≡ min count (limit - length i.0) = omega (arith, i.4, c.min-within.ensures) in
-    let more = c.in-Ok-run_piece.ensures.ok first (take limit i.0) i.1 i.5 in
+    let more = c.in-Ok-run_piece.ensures.ok first (take limit i.0) i.1 c.args.steps.now i.5 in
     record {
       run = (
         i.0 ++ take count buffer,
@@ -69,12 +69,11 @@ loop-taken-preserved g c =
         Consumes_then _ _ _ i.0 (take count buffer) i.2 c.in-Ok.ensures.bytes.0,
         Appends_then _ _ _ i.1 more.0 i.3 more.1,
         (let held : length (take count buffer) ≡ count = length_take count buffer c.in-Ok.ensures.bound in omega (arith, i.4, length-append i.0 (take count buffer))),
-        along first (take limit i.0 ++ take c.min-within.result buffer) (i.1 ++ more.0) (take limit (i.0 ++ take count buffer)) (i.1 ++ more.0) c.run_piece.new.progress c.run_piece.new.sdx
+        along first (take limit i.0 ++ take c.min-within.result buffer) (i.1 ++ more.0) (take limit (i.0 ++ take count buffer)) (i.1 ++ more.0) c.run_piece.new.progress c.run_piece.new.sdx c.args.steps.now c.run_piece.new.steps
             (limited limit i.0 buffer count c.min-within.result few within) refl more.2,
       );
       few = omega (arith, c.in-Ok.ensures.most);
       room = omega (arith, c.in-Ok.ensures.len, c.loop-taken.invariant.room);
-      steps = c.in-Ok-run_piece.ensures.steps ∙ c.loop-taken.invariant.steps;
       number =
           (let room : c.min-within.result ≤ count = omega (arith, c.min-within.ensures) in
           let inside : c.min-within.result ≤ length buffer = omega (arith, c.in-Ok.ensures.bound) in
@@ -91,14 +90,14 @@ returns-in-Err-Failed-clause-replay g c =
     let buffer = c.read_at_most.new.buffer in
     let count = c.in-Ok.count in
     let within : c.min-within.result ≤ count = omega (arith, c.min-within.ensures) in
-    let more = c.in-Err-Failed.ensures.err first (take limit i.0) i.1 i.5 in (
+    let more = c.in-Err-Failed.ensures.err first (take limit i.0) i.1 c.args.steps.now i.5 in (
       i.0 ++ take count buffer,
       i.1 ++ more.0,
       Consumes_then _ _ _ i.0 (take count buffer) i.2 c.in-Ok.ensures.bytes.0,
       Appends_then _ _ _ i.1 more.0 i.3 more.1,
       taken_few i.0 buffer count c.in-Ok.ensures.bound (omega (arith, i.4, c.in-Ok.ensures.most)),
-      begins (i.0 ++ take count buffer) (i.1 ++ more.0)
-          (subst (λ b. IsPartOf first b (i.1 ++ more.0)) (sym (taken_parts limit i.0 buffer count c.min-within.result few within)) (more.2 (drop c.min-within.result (take count buffer)))),
+      begins c.runs_go_on.ensures (i.0 ++ take count buffer) (i.1 ++ more.0) c.args.steps.now c.run_piece.new.steps
+          (subst (λ b. IsPartOf first b (i.1 ++ more.0) c.args.steps.now c.run_piece.new.steps) (sym (taken_parts limit i.0 buffer count c.min-within.result few within)) (more.2 (drop c.min-within.result (take count buffer)))),
     )
 
 pub returns-in-Err-Memory-clause-replay : goal.returns-in-Err-Memory-clause-replay
@@ -108,17 +107,17 @@ returns-in-Err-Memory-clause-replay g c =
     let buffer = c.read_at_most.new.buffer in
     let count = c.in-Ok.count in
     let within : c.min-within.result ≤ count = omega (arith, c.min-within.ensures) in
-    let more = c.in-Err-Memory.ensures.err first (take limit i.0) i.1 i.5 in (
+    let more = c.in-Err-Memory.ensures.err first (take limit i.0) i.1 c.args.steps.now i.5 in (
       i.0 ++ take count buffer,
       i.1 ++ more.0,
       Consumes_then _ _ _ i.0 (take count buffer) i.2 c.in-Ok.ensures.bytes.0,
       Appends_then _ _ _ i.1 more.0 i.3 more.1,
       taken_few i.0 buffer count c.in-Ok.ensures.bound (omega (arith, i.4, c.in-Ok.ensures.most)),
-      begins (i.0 ++ take count buffer) (i.1 ++ more.0)
-          (subst (λ b. IsPartOf first b (i.1 ++ more.0)) (sym (taken_parts limit i.0 buffer count c.min-within.result few within)) (more.2 (drop c.min-within.result (take count buffer)))),
+      begins c.runs_go_on.ensures (i.0 ++ take count buffer) (i.1 ++ more.0) c.args.steps.now c.run_piece.new.steps
+          (subst (λ b. IsPartOf first b (i.1 ++ more.0) c.args.steps.now c.run_piece.new.steps) (sym (taken_parts limit i.0 buffer count c.min-within.result few within)) (more.2 (drop c.min-within.result (take count buffer)))),
     )
 
 pub returns-clause-replay : goal.returns-clause-replay
 returns-clause-replay g c =
     let i = c.loop-taken.invariant.run in
-    (i.0, i.1, i.2, i.3, omega (arith, i.4, c.loop-taken.invariant.few), (omega (arith, i.4), (c.loop-taken.progress.refused, whole_run (take limit i.0) i.1 c.loop-taken.progress c.loop-taken.sdx i.5)))
+    (i.0, i.1, i.2, i.3, omega (arith, i.4, c.loop-taken.invariant.few), (omega (arith, i.4), (c.loop-taken.progress.refused, whole_run (take limit i.0) i.1 c.loop-taken.progress c.loop-taken.sdx c.args.steps.now c.loop-taken.steps i.5)))
