@@ -4,7 +4,7 @@ use Rattle.std.specs.Prelude.{Option, Some, None, slice_get, option_to_list, unw
 use Rattle.std.specs.List.{list_all, list_any}
 use Rattle.std.specs.Ordering.{eq_by_cmp}
 use Rattle.std.specs.Option.{option_map, option_map_or, option_and_then}
-use Rattle.std.specs.FinMap.{FinMap, get}
+use Rattle.std.specs.FinMap.{get}
 use Rattle.std.proofs.lemmas.Bool.{and_parts}
 use Rattle.std.proofs.lemmas.List.{take_more, take_all}
 use Rattle.std.proofs.lemmas.List.Elements.{filter-append}
@@ -13,7 +13,7 @@ use Rattle.net_types.proofs.SetLemmas.{map-append}
 use Rattle.net_types.specs.Attributes.{same_option, same_attrs, same_signature}
 use Rattle.net_types.specs.Changes.{best_attrs, Differs, AreTouched}
 use Rattle.net_types.specs.Exports.{Routing}
-use Rattle.net_types.specs.Keys.{RouteKey, route_cmp, prefix_cmp}
+use Rattle.net_types.specs.Keys.{RouteKey, prefix_cmp}
 use Rattle.net_types.specs.Routes.{Candidate, pids, numbers}
 use Rattle.net_types.specs.Sets.{Member, IsRising}
 use Rattle.net_types.specs.Signatures.{signature}
@@ -27,8 +27,8 @@ use Rattle.net_types.proofs.RisingLemmas.{filter-Member, Member-filter, filter-I
 use Rattle.registry.specs.Registered.{Registered}
 use Rattle.route_server.specs.Rows.{settled, held_at, held_by, look, Rising, signature_of}
 use Rattle.route_server.specs.Served.{Served, routing, AreDeclared, AreOwned}
-use Rattle.route_server.specs.Effects.{place_attrs, row_at, effect_bests, best_by_row, same_by_rows, is_same, IsEffect, IsEffectOf, routing_after, AreRowsOf, AreEffects}
-use Rattle.route_server.specs.Proposed.{IsProposal}
+use Rattle.route_server.specs.Effects.{place_attrs, row_at, effect_bests, best_by_row, same_by_rows, is_same, IsEffect, IsEffectOf, AreRowsOf, AreEffects}
+use Rattle.route_server.specs.Proposed.{IsProposal, named_with}
 use Rattle.route_server.specs.declared.change.Change.{Change}
 use Rattle.route_server.specs.declared.effect.Effect.{Effect}
 use Rattle.route_server.specs.declared.held.Held.{Held}
@@ -75,33 +75,30 @@ all_alike f g h [] = refl
 all_alike f g h (x ∷ xs) = ap (λ b. b && list_all f xs) (h x) ∙ ap (λ b. g x && b) (all_alike f g h xs)
 
 -- what is known of a row of the routes before, and of one of the routes afterwards
-pub record AreKnown (names : Registered) (v : Served) (after : List (List ExportRule)) (m : FinMap route_cmp Attrs) (r s : Routing) (p : Prefix) (old new : List Held) : Type 0 where
+pub record AreKnown (names : Registered) (v w : Served) (r s : Routing) (p : Prefix) (old new : List Held) : Type 0 where
   pub before_is : r ≡ settled names v.rules v.named
-  pub after_is : s ≡ settled names after v.named
+  pub after_is : s ≡ settled names w.rules w.named
   pub before : AreDeclared names v.routes
-  pub now : AreDeclared names m
+  pub now : AreDeclared names w.routes
   pub old_rises : Rising 0 256 old
   pub new_rises : Rising 0 256 new
   pub old_is : (from : Pid) → get v.routes (record { from = from; prefix = p }) ≡ look old from.0
-  pub new_is : (from : Pid) → get m (record { from = from; prefix = p }) ≡ look new from.0
+  pub new_is : (from : Pid) → get w.routes (record { from = from; prefix = p }) ≡ look new from.0
 
-abbrev then : List (List ExportRule) → List (List Pid) → FinMap route_cmp Attrs → Served
-then after named m = record { routes = m; rules = after; named = named; room = 0 }
-
-module _ (names : Registered) (v : Served) (after : List (List ExportRule)) (m : FinMap route_cmp Attrs) (r s : Routing) (p : Prefix) (old new : List Held) (k : AreKnown names v after m r s p old new) where
+module _ (names : Registered) (v w : Served) (r s : Routing) (p : Prefix) (old new : List Held) (k : AreKnown names v w r s p old new) where
   old_sig : signature_of r p old ≡ signature (routing names v) p
   old_sig = signature_of_row names v r old p k.before_is k.old_rises k.old_is k.before.declared
 
-  pub new_sig : signature_of s p new ≡ signature (routing_after names after v.named m) p
-  new_sig = signature_of_row names (then after v.named m) s new p k.after_is k.new_rises k.new_is k.now.declared
+  pub new_sig : signature_of s p new ≡ signature (routing names w) p
+  new_sig = signature_of_row names w s new p k.after_is k.new_rises k.new_is k.now.declared
 
   old_best : (to : Pid) → best_by_row r p old to ≡ best_attrs (routing names v) to p
   old_best to = best_of_row names v r old to p k.before_is k.old_rises k.old_is k.before.declared
 
-  pub new_best : (to : Pid) → best_by_row s p new to ≡ best_attrs (routing_after names after v.named m) to p
-  new_best to = best_of_row names (then after v.named m) s new to p k.after_is k.new_rises k.new_is k.now.declared
+  pub new_best : (to : Pid) → best_by_row s p new to ≡ best_attrs (routing names w) to p
+  new_best to = best_of_row names w s new to p k.after_is k.new_rises k.new_is k.now.declared
 
-  pub same_is : same_by_rows r s p old new ≡ is_same (routing names v) (routing_after names after v.named m) p
+  pub same_is : same_by_rows r s p old new ≡ is_same (routing names v) (routing names w) p
   same_is = (λ i. same_signature (new_sig i) (old_sig i)
       && list_all (λ to. same_option same_attrs (old_best to i) (new_best to i)) (pids (k.before_is i)))
 
@@ -118,19 +115,19 @@ kept_more t cs i c b within is at =
 abbrev prefixes_of : List Effect → List Prefix
 prefixes_of es = map (λ (e : Effect). e.prefix) es
 
-module _ (names : Registered) (v : Served) (after : List (List ExportRule)) (m : FinMap route_cmp Attrs) (r s : Routing) (cs : List Change) (i : ℕ) (c : Change) (old : List Held) (within : i < length cs) (is : c ≡ get_or cs i c) (k : AreKnown names v after m r s c.prefix old c.row) where
+module _ (names : Registered) (v w : Served) (r s : Routing) (cs : List Change) (i : ℕ) (c : Change) (old : List Held) (within : i < length cs) (is : c ≡ get_or cs i c) (k : AreKnown names v w r s c.prefix old c.row) where
   abbrev before : Routing
   before = routing names v
 
   abbrev now : Routing
-  now = routing_after names after v.named m
+  now = routing names w
 
   abbrev test : Change → Bool
   test d = not (is_same before now d.prefix)
 
   pub effect_none : (es : List Effect) → same_by_rows r s c.prefix old c.row ≡ true → AreEffects before now cs i es → AreEffects before now cs (i + 1) es
   effect_none es same h = record {
-    touched = h.touched ∙ ap (map (λ (d : Change). d.prefix)) (sym (kept_more test cs i c false within is (ap not (sym (same_is names v after m r s c.prefix old c.row k) ∙ same)) ∙ append-nil (filter test (take i cs))));
+    touched = h.touched ∙ ap (map (λ (d : Change). d.prefix)) (sym (kept_more test cs i c false within is (ap not (sym (same_is names v w r s c.prefix old c.row k) ∙ same)) ∙ append-nil (filter test (take i cs))));
     sigs = h.sigs;
     bests = h.bests;
   }
@@ -141,9 +138,9 @@ module _ (names : Registered) (v : Served) (after : List (List ExportRule)) (m :
       record {
         touched = here ∙ ap (λ ps. ps ++ c.prefix ∷ []) h.touched
             ∙ sym (map-append (λ (d : Change). d.prefix) (filter test (take i cs)) (c ∷ []))
-            ∙ ap (map (λ (d : Change). d.prefix)) (sym (kept_more test cs i c true within is (ap not (sym (same_is names v after m r s c.prefix old c.row k) ∙ f.differs))));
+            ∙ ap (map (λ (d : Change). d.prefix)) (sym (kept_more test cs i c true within is (ap not (sym (same_is names v w r s c.prefix old c.row k) ∙ f.differs))));
         sigs = map-append (λ (d : Effect). d.sig) es (e ∷ []) ∙ ap (λ xs. xs ++ e.sig ∷ []) h.sigs
-            ∙ ap (λ x. map (signature now) (prefixes_of es) ++ x ∷ []) (f.sig ∙ new_sig names v after m r s c.prefix old c.row k)
+            ∙ ap (λ x. map (signature now) (prefixes_of es) ++ x ∷ []) (f.sig ∙ new_sig names v w r s c.prefix old c.row k)
             ∙ sym (map-append (signature now) (prefixes_of es) (c.prefix ∷ [])) ∙ ap (map (signature now)) (sym here);
         bests = map-append (effect_bests cs) es (e ∷ []) ∙ ap (λ xs. xs ++ effect_bests cs e ∷ []) h.bests
             ∙ ap (λ x. map bests_at (prefixes_of es) ++ x ∷ []) (ap (λ row. map (place_attrs row) e.bests.items) (ap (row_at cs) f.at_is ∙ row_here cs i c within is) ∙ f.bests ∙ ap (λ x. map (best_by_row s c.prefix c.row) (pids x)) k.after_is ∙ bests_alike (pids now))
@@ -153,9 +150,9 @@ module _ (names : Registered) (v : Served) (after : List (List ExportRule)) (m :
       bests_at : Prefix → List (Option Attrs)
       bests_at q = map (λ to. best_attrs now to q) (pids now)
 
-      bests_alike : (ws : List Pid) → map (best_by_row s c.prefix c.row) ws ≡ map (λ to. best_attrs now to c.prefix) ws
+      bests_alike : (tos : List Pid) → map (best_by_row s c.prefix c.row) tos ≡ map (λ to. best_attrs now to c.prefix) tos
       bests_alike [] = refl
-      bests_alike (w ∷ ws) = ap (λ o. o ∷ map (best_by_row s c.prefix c.row) ws) (new_best names v after m r s c.prefix old c.row k w) ∙ ap (λ os. best_attrs now w c.prefix ∷ os) (bests_alike ws)
+      bests_alike (to ∷ tos) = ap (λ o. o ∷ map (best_by_row s c.prefix c.row) tos) (new_best names v w r s c.prefix old c.row k to) ∙ ap (λ os. best_attrs now to c.prefix ∷ os) (bests_alike tos)
 
   pub effect_more : (es fs : List Effect) (o : Option Effect) → IsEffectOf r s old c i o → fs ≡ es ++ option_to_list o → AreEffects before now cs i es → AreEffects before now cs (i + 1) fs
   effect_more es fs None f so h = subst (AreEffects before now cs (i + 1)) (sym (so ∙ append-nil es)) (effect_none es f h)
@@ -240,22 +237,22 @@ touched_are r s cs es f rising elsewhere = subst (AreTouched r s) (sym now) (rec
     kept p d true e = absurd (no_difference r s p e d)
     kept p d false e = among p d (member_or t own p (ap not e))
 
+-- effects between routings, as they are called otherwise
+pub effects_between : (r before s after : Routing) (cs ds : List Change) (es : List Effect) → r ≡ before → s ≡ after → cs ≡ ds → AreEffects r s cs (length cs) es → AreEffects before after ds (length ds) es
+effects_between r before s after cs ds es was then at are =
+    subst (λ xs. AreEffects before after xs (length xs) es) at (subst (λ x. AreEffects before x cs (length cs) es) then (subst (λ x. AreEffects x s cs (length cs) es) was are))
+
 -- the effects of all changes make a proposal
-pub proposal_is : (names : Registered) (v : Served) (rules held : List (List ExportRule)) (m : FinMap route_cmp Attrs) (o : Option (List (List ExportRule))) (cs ds : List Change) (es fs : List Effect) (ps : List Prefix) → held ≡ rules → ds ≡ cs → fs ≡ es → ps ≡ map (λ (e : Effect). e.prefix) fs → unwrap_or o v.rules ≡ rules → AreRowsOf cs m
-    → AreEffects (routing names v) (routing_after names held v.named m) ds (length ds) es → IsRising is_before (map (λ (c : Change). c.prefix) cs)
-    → ((q : RouteKey) → (Member q.prefix (map (λ (c : Change). c.prefix) cs) → ⊥) → get m q ≡ get v.routes q) → ((p : Prefix) → (Member p (map (λ (c : Change). c.prefix) cs) → ⊥) → Differs (routing names v) (routing_after names rules v.named m) p → ⊥)
-    → (AreOwned (routing names v) → AreOwned (routing_after names rules v.named m)) → IsProposal (routing names v) (routing_after names rules v.named m) (record { changes = cs; rules = o; touched = ps; sigs = map (λ (e : Effect). e.sig) es; bests = map (effect_bests cs) es })
-proposal_is names v rules held m o cs ds es fs ps same_rules same_changes same_effects at own rows f rising kept elsewhere owned =
-    let r = routing names v in
-    let s = routing_after names rules v.named m in
-    let k : AreEffects r s cs (length cs) es = subst (λ xs. AreEffects r s xs (length xs) es) same_changes (subst (λ rs. AreEffects r (routing_after names rs v.named m) ds (length ds) es) same_rules f) in
-    let is : ps ≡ map (λ (e : Effect). e.prefix) es = at ∙ ap (map (λ (e : Effect). e.prefix)) same_effects in
-    record {
-      touched = subst (AreTouched r s) (sym is) (touched_are r s cs es k rising elsewhere);
-      sigs = k.sigs ∙ ap (map (signature s)) (sym is);
-      bests = k.bests ∙ ap (map (λ q. map (λ to. best_attrs s to q) (pids s))) (sym is);
-      routes = changes_reach m v.routes cs cs refl rows kept;
-      rules = own;
-      named = refl;
-      owned = owned;
-    }
+pub proposal_is : (names : Registered) (v w : Served) (o : Option (List (List ExportRule))) (n : Option (Pid × List Pid)) (cs : List Change) (es : List Effect) → unwrap_or o v.rules ≡ w.rules → named_with n v.named ≡ w.named → AreRowsOf cs w.routes
+    → AreEffects (routing names v) (routing names w) cs (length cs) es → IsRising is_before (map (λ (c : Change). c.prefix) cs)
+    → ((q : RouteKey) → (Member q.prefix (map (λ (c : Change). c.prefix) cs) → ⊥) → get w.routes q ≡ get v.routes q) → ((p : Prefix) → (Member p (map (λ (c : Change). c.prefix) cs) → ⊥) → Differs (routing names v) (routing names w) p → ⊥)
+    → (AreOwned (routing names v) → AreOwned (routing names w)) → IsProposal (routing names v) (routing names w) (record { changes = cs; rules = o; named = n; touched = map (λ (e : Effect). e.prefix) es; sigs = map (λ (e : Effect). e.sig) es; bests = map (effect_bests cs) es })
+proposal_is names v w o n cs es own named rows k rising kept elsewhere owned = record {
+  touched = touched_are (routing names v) (routing names w) cs es k rising elsewhere;
+  sigs = k.sigs;
+  bests = k.bests;
+  routes = changes_reach w.routes v.routes cs cs refl rows kept;
+  rules = own;
+  named = named;
+  owned = owned;
+}

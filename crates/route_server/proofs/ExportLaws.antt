@@ -1,6 +1,6 @@
 -- Other rules of one participant.
 use Rattle.std.proofs.Common.{◌≡◌, ℕ, zero, suc, ◌+◌, ◌-◌, ◌<◌, ◌≤◌, Bool, true, false, cond, ◌&&◌, not, eqb, List, [], ◌∷◌, ◌++◌, length, length-append, append_assoc, append-nil, set, arith, sym, ap, ◌∙◌, refl}
-use Rattle.std.specs.Prelude.{Option, Some, None, is_some}
+use Rattle.std.specs.Prelude.{Option, Some, None, is_some, slice_get, unwrap_or}
 use Rattle.std.specs.Option.{option_and_then}
 use Rattle.std.specs.FinMap.{FinMap, get}
 use Rattle.std.proofs.lemmas.Bool.{eqb-true, eqb-false, eq-eqb, ne_eqb}
@@ -54,12 +54,12 @@ same_next a b true e = eq-eqb (suc a) (suc b) (ap suc (eqb-true a b e))
 same_next a b false e = ne_eqb (suc a) (suc b) (λ same. eqb-false a b e (omega arith))
 
 -- one list is another
-pub set_rules : (xs : List (List ExportRule)) (at : ℕ) (own : List ExportRule) (n : ℕ) → at < length xs → rules_at (set xs at own) n ≡ cond (eqb at n) own (rules_at xs n)
-set_rules [] at own n within = absurd (omega arith)
-set_rules (x ∷ xs) zero own zero within = sym (ap (λ b. cond b own x) (eq-eqb 0 0 refl))
-set_rules (x ∷ xs) zero own (suc n) within = sym (ap (λ b. cond b own (rules_at xs n)) (ne_eqb 0 (suc n) (λ e. absurd (omega arith))))
-set_rules (x ∷ xs) (suc at) own zero within = sym (ap (λ b. cond b own x) (ne_eqb (suc at) 0 (λ e. absurd (omega arith))))
-set_rules (x ∷ xs) (suc at) own (suc n) within = set_rules xs at own n (omega arith) ∙ sym (ap (λ b. cond b own (rules_at xs n)) (same_next at n (eqb at n) refl))
+pub set_lists : {A : Type 0} (xs : List (List A)) (at : ℕ) (own : List A) (n : ℕ) → at < length xs → unwrap_or (slice_get (set xs at own) n) [] ≡ cond (eqb at n) own (unwrap_or (slice_get xs n) [])
+set_lists [] at own n within = absurd (omega arith)
+set_lists (x ∷ xs) zero own zero within = sym (ap (λ b. cond b own x) (eq-eqb 0 0 refl))
+set_lists (x ∷ xs) zero own (suc n) within = sym (ap (λ b. cond b own (unwrap_or (slice_get xs n) [])) (ne_eqb 0 (suc n) (λ e. absurd (omega arith))))
+set_lists (x ∷ xs) (suc at) own zero within = sym (ap (λ b. cond b own x) (ne_eqb (suc at) 0 (λ e. absurd (omega arith))))
+set_lists (x ∷ xs) (suc at) own (suc n) within = set_lists xs at own n (omega arith) ∙ sym (ap (λ b. cond b own (unwrap_or (slice_get xs n) [])) (same_next at n (eqb at n) refl))
 
 -- ---- lists of rules that are as long as they have to be
 
@@ -81,7 +81,7 @@ pad_at (x ∷ xs) k (suc n) = pad_at xs k n
 pub padded_rules : (xs : List (List ExportRule)) (from : Pid) (own : List ExportRule) (n : ℕ) → rules_at (rules_with xs from own) n ≡ cond (eqb from.0 n) own (rules_at xs n)
 padded_rules xs from own n =
     let k = (from.0 + 1) - length xs in
-    set_rules (padded xs (from.0 + 1)) from.0 own n (let e = length-append xs (nothings k) in let f = length_nothings k in omega (arith, e, f))
+    set_lists (padded xs (from.0 + 1)) from.0 own n (let e = length-append xs (nothings k) in let f = length_nothings k in omega (arith, e, f))
     ∙ ap (cond (eqb from.0 n) own) (pad_at xs k n)
 
 pub listed_rules : (xs : List (List ExportRule)) (from : Pid) (own : List ExportRule) → from.0 < length xs → rules_with xs from own ≡ set xs from.0 own

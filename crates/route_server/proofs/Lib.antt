@@ -10,3 +10,4 @@ mod DownLaws
 mod ExportLaws
 mod BestLaws
 mod ShortPaths
+mod NameLaws

@@ -20,7 +20,7 @@ use Rattle.net_types.specs.declared.route.Part.{Part}
 use Rattle.registry.specs.Registered.{Registered}
 use Rattle.route_server.specs.Edits.{prefixes_of}
 use Rattle.route_server.specs.Effects.{AreRowsOf}
-use Rattle.route_server.specs.Proposed.{Proposed, IsProposal}
+use Rattle.route_server.specs.Proposed.{Proposed, IsProposal, named_with}
 use Rattle.route_server.specs.Rows.{look, names_at}
 use Rattle.route_server.specs.Served.{Served, AreOwned, routing, one_after, route_after, Reaches}
 use Rattle.route_server.specs.declared.change.Change.{Change}
@@ -54,7 +54,7 @@ module _ (after : FinMap route_cmp Attrs) where
     routes = λ q. reach cs (get before) rows.each (λ k away. sym (elsewhere k away)) q;
   })
 
-filter_map_alike : {X Y : Type 0} (f g : X → Option Y) → ((x : X) → f x ≡ g x) → (xs : List X) → filter_map f xs ≡ filter_map g xs
+pub filter_map_alike : {X Y : Type 0} (f g : X → Option Y) → ((x : X) → f x ≡ g x) → (xs : List X) → filter_map f xs ≡ filter_map g xs
 filter_map_alike f g h [] = refl
 filter_map_alike f g h (x ∷ xs) = ap (λ o. cons_option o (filter_map f xs)) (h x) ∙ ap (cons_option (g x)) (filter_map_alike f g h xs)
 
@@ -90,10 +90,10 @@ stays_owned p old now h r s same k owned =
     subst (λ m. AreOwned (record s { routes = m })) (sym (h s.routes (subst (λ m. Reaches p.changes m s.routes) same k.routes))) (k.owned owned)
 
 -- what a commit does leads to what was proposed
-pub reached_by : (p : Proposed) (old now : FinMap route_cmp Attrs) (rules after : List (List ExportRule)) (named : List (List Pid)) → ((m : FinMap route_cmp Attrs) → Reaches p.changes old m → now ≡ m) → after ≡ unwrap_or p.rules rules
-    → (r s : Routing) → r.routes ≡ old → r.rules ≡ rules → r.named ≡ named → IsProposal r s p → (now ≡ s.routes) × (after ≡ s.rules) × (named ≡ s.named)
-reached_by p old now rules after named h e r s same_routes same_rules same_named k = (
+pub reached_by : (p : Proposed) (old now : FinMap route_cmp Attrs) (rules after : List (List ExportRule)) (named then : List (List Pid)) → ((m : FinMap route_cmp Attrs) → Reaches p.changes old m → now ≡ m) → after ≡ unwrap_or p.rules rules → then ≡ named_with p.named named
+    → (r s : Routing) → r.routes ≡ old → r.rules ≡ rules → r.named ≡ named → IsProposal r s p → (now ≡ s.routes) × (after ≡ s.rules) × (then ≡ s.named)
+reached_by p old now rules after named then h e g r s same_routes same_rules same_named k = (
   h s.routes (subst (λ m. Reaches p.changes m s.routes) same_routes k.routes),
   e ∙ ap (unwrap_or p.rules) (sym same_rules) ∙ k.rules,
-  sym same_named ∙ k.named,
+  g ∙ ap (named_with p.named) (sym same_named) ∙ k.named,
 )

@@ -20,6 +20,7 @@ use Rattle.route_server.specs.Served.{routing}
 use Rattle.route_server.specs.declared.change.Change.{Change}
 use Rattle.route_server.specs.declared.effect.Effect.{Effect}
 use Rattle.route_server.specs.declared.held.Held.{Held}
+use Rattle.route_server.specs.declared.terms.Terms.{Terms}
 
 -- the attributes at a place of a row
 abbrev pub place_attrs : List Held → Option ℕ → Option Attrs
@@ -61,6 +62,10 @@ IsEffectOf r s old c at (Some e) = IsEffect r s old c at e
 -- what is declared and named, with other rules and routes
 abbrev pub routing_after : Registered → List (List ExportRule) → List (List Pid) → FinMap route_cmp Attrs → Routing
 routing_after names rules named m = routing names (record { routes = m; rules = rules; named = named; room = 0 })
+
+-- the same, as code has it
+abbrev pub routing_by : Terms → FinMap route_cmp Attrs → Routing
+routing_by t m = routing_after t.names.now t.rules.now t.named.now m
 
 -- each change has the row of these routes
 pub record AreRowsOf (cs : List Change) (m : FinMap route_cmp Attrs) : Type 0 where

@@ -1,5 +1,6 @@
 -- What a route server holds.
 use Rattle.std.specs.Prelude.{◌≡◌, ◌<◌, length, ℕ, Bool, true, is_some, List, [], ◌∷◌, map, flat_map, Option, Some, IfSome, if◌then◌else◌}
+use Rattle.std.specs.List.{list_any}
 use Rattle.std.specs.Option.{option_and_then}
 use Rattle.std.specs.FinMap.{FinMap, get, entries}
 use Rattle.net_types.specs.Keys.{RouteKey, prefix_cmp, route_cmp}
@@ -80,6 +81,12 @@ pub record AreBests (r : Routing) (who : Pid) (es : List (Prefix × Attrs)) : Ty
   pub rising : IsRising is_before (map (λ (e : Prefix × Attrs). e.0) es)
   pub each : (p : Prefix) (a : Attrs) → Member (p, a) es → best_attrs r who p ≡ Some a
   pub all : (p : Prefix) (a : Attrs) → best_attrs r who p ≡ Some a → Member (p, a) es
+
+-- the prefixes of the routes of some participants, ascending
+pub record CarryAny (routes : FinMap route_cmp Attrs) (froms : List Pid) (ps : List Prefix) : Type 0 where
+  pub rising : IsRising is_before ps
+  pub some : (p : Prefix) → Member p ps → list_any (λ (from : Pid). is_some (get routes (record { from = from; prefix = p }))) froms ≡ true
+  pub all : (p : Prefix) → list_any (λ (from : Pid). is_some (get routes (record { from = from; prefix = p }))) froms ≡ true → Member p ps
 
 -- the prefixes of a participant's routes, ascending
 pub record Carries (routes : FinMap route_cmp Attrs) (from : Pid) (ps : List Prefix) : Type 0 where

@@ -15,7 +15,7 @@ use net_types::{Memory, Pid, Prefix};
 use registry::Registry;
 
 /// Whether a participant's route stands in a row.
-fn has(row: &[Held], from: Pid) -> bool
+pub fn has(row: &[Held], from: Pid) -> bool
     ensures { result ≡ is_some (look row.now from.0) }
 {
     for held in row {
@@ -45,6 +45,7 @@ impl RouteServer {
     pub fn propose_down(&self, names: &Registry, from: Pid) -> Result<Proposal, Memory>
         requires { AreDeclared names.now self.now.routes }
         ensures rules { IfOk result (λ p. p.rules ≡ None) }
+        ensures named { IfOk result (λ p. p.named ≡ None) }
         ensures proposal { IfOk result (λ p. IsProposal (routing names.now self.now) (routing_after names.now self.now.rules self.now.named (without_routes from self.now.routes)) p) }
         ensures declared { AreDeclared names.now (without_routes from self.now.routes) }
     {

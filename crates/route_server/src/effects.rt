@@ -8,8 +8,8 @@ ghost use Rattle.net_types.specs.Keys.{route_cmp};
 ghost use Rattle.net_types.specs.Routes.{pids};
 ghost use Rattle.net_types.specs.declared.route.Attrs.{Attrs};
 ghost use Rattle.route_server.specs.Rows.{settled_by};
-ghost use Rattle.route_server.specs.Served.{routing, AreDeclared};
-ghost use Rattle.route_server.specs.Effects.{place_attrs, best_by_row, IsEffectOf, AreEffects, AreRowsOf, routing_after};
+ghost use Rattle.route_server.specs.Served.{AreDeclared};
+ghost use Rattle.route_server.specs.Effects.{place_attrs, best_by_row, IsEffectOf, AreEffects, AreRowsOf, routing_after, routing_by};
 
 use crate::change::Change;
 use crate::effect::Effect;
@@ -18,8 +18,7 @@ use crate::rows::{best_attrs_in, best_in};
 use crate::server::RouteServer;
 use crate::signature::signature_in;
 use crate::terms::Terms;
-use net_types::{ExportRules, Memory, Pid, Prefix, same_items, same_optional};
-use registry::Registry;
+use net_types::{Memory, Pid, Prefix, same_items, same_optional};
 use std::alloc::Global;
 
 /// The place of each participant's best route in a row.
@@ -117,27 +116,22 @@ fn effect_of(
     }))
 }
 
-/// What the changes do to the server's routes and rules, where these rules hold afterwards.
+/// What the changes do to the server's routes, by what decides on them before and afterwards. The same is declared.
 pub fn effects_of(
     server: &RouteServer,
-    names: &Registry,
-    after: &[ExportRules],
+    before: Terms<'_>,
+    after: Terms<'_>,
     changes: &[Change],
 ) -> Result<Vec<Effect>, Memory>
-    requires { AreDeclared names.now server.now.routes }
-    ensures { IfOk result (λ effects. (m : FinMap route_cmp Attrs) → AreDeclared names.now m → AreRowsOf changes.now m → AreEffects (routing names.now server.now) (routing_after names.now after.now server.now.named m) changes.now (length changes.now) effects.items) }
+    requires declared { AreDeclared before.names.now server.now.routes }
+    requires names { after.names.now ≡ before.names.now }
+    ensures { IfOk result (λ effects. (m : FinMap route_cmp Attrs) → AreDeclared before.entry.names.now m → AreRowsOf changes.now m → AreEffects (routing_by before.entry server.now.routes) (routing_after before.entry.names.now after.entry.rules.now after.entry.named.now m) changes.now (length changes.now) effects.items) }
 {
     let alloc = server.allocator();
-    let before = server.terms(names);
-    let then = Terms {
-        names,
-        rules: after,
-        named: before.named,
-    };
     let mut effects = Vec::new(alloc);
     for (at, change) in changes.iter().enumerate() {
         let old = server.row(change.prefix);
-        let effect = effect_of(alloc, before, old, then, change, at)?;
+        let effect = effect_of(alloc, before, old, after, change, at)?;
         match effect {
             Some(own) => {
                 effects.push(own)?;

@@ -1,6 +1,6 @@
 //! What other export rules of a participant do.
 
-ghost use Rattle.std.specs.Prelude.{◌≡◌, ◌<◌, ◌≤◌, Some, length, slice_set, IfOk};
+ghost use Rattle.std.specs.Prelude.{◌≡◌, ◌<◌, ◌≤◌, Some, None, length, slice_set, IfOk};
 ghost use Rattle.net_types.specs.Sets.{Member};
 ghost use Rattle.route_server.specs.Edits.{IsKept, prefixes_of};
 ghost use Rattle.route_server.specs.Effects.{routing_after};
@@ -81,7 +81,7 @@ fn kept(server: &RouteServer, prefix: Prefix) -> Result<Change, Memory>
 }
 
 /// The rows of prefixes as they are.
-fn all_kept(server: &RouteServer, prefixes: &[Prefix]) -> Result<Vec<Change>, Memory>
+pub fn all_kept(server: &RouteServer, prefixes: &[Prefix]) -> Result<Vec<Change>, Memory>
     ensures prefixes { IfOk result (λ changes. prefixes_of changes.items ≡ prefixes.now) }
     ensures rows { IfOk result (λ changes. (c : Change) → Member c changes.items → IsKept server.now.routes c) }
 {
@@ -103,6 +103,7 @@ impl RouteServer {
     ) -> Result<Proposal, Memory>
         requires { AreDeclared names.now self.now.routes }
         ensures rules { IfOk result (λ p. p.rules ≡ Some (rules_with self.now.rules from rules)) }
+        ensures named { IfOk result (λ p. p.named ≡ None) }
         ensures listed { IfOk result (λ _. from.0 < length self.now.rules → rules_with self.now.rules from rules ≡ slice_set self.now.rules from.0 rules) }
         ensures proposal { IfOk result (λ p. IsProposal (routing names.now self.now) (routing_after names.now (rules_with self.now.rules from rules) self.now.named self.now.routes) p) }
     {

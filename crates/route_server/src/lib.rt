@@ -11,6 +11,8 @@ mod effects;
 mod export;
 mod fault;
 mod held;
+mod laws;
+mod names;
 mod proposal;
 mod propose;
 mod rows;
@@ -21,5 +23,6 @@ mod terms;
 mod update;
 
 pub use fault::RouteFault;
+pub use laws::trimmed_signatures_are_those;
 pub use proposal::Proposal;
 pub use server::RouteServer;

@@ -10,7 +10,7 @@ ghost use Rattle.net_types.specs.UpdateSpelling.{is_before};
 ghost use Rattle.net_types.specs.declared.prefix.Prefix.{Prefix};
 ghost use Rattle.net_types.specs.declared.route.Attrs.{Attrs};
 ghost use Rattle.route_server.specs.Edits.{prefixes_of};
-ghost use Rattle.route_server.specs.Effects.{AreRowsOf, routing_after};
+ghost use Rattle.route_server.specs.Effects.{AreRowsOf, effect_bests, routing_after};
 ghost use Rattle.route_server.specs.Proposed.{Proposed, IsProposal};
 ghost use Rattle.route_server.specs.Served.{routing, AreDeclared, AreOwned};
 ghost use Rattle.route_server.specs.declared.effect.Effect.{Effect};
@@ -19,16 +19,18 @@ use crate::change::Change;
 use crate::effect::Effect;
 use crate::effects::effects_of;
 use crate::server::RouteServer;
-use net_types::{Attrs, ExportRules, Memory, Pid, Prefix, Sig};
+use crate::terms::Terms;
+use net_types::{Attrs, ExportRules, Memory, Pid, Pids, Prefix, Sig};
 use registry::Registry;
 use std::alloc::{AllocError, Global};
 use std::marker::Model;
 
-/// The rows and rules afterwards, and what is another then. It changes nothing until it is committed.
+/// The rows, rules and names afterwards, and what is another then. It changes nothing until it is committed.
 #[derive(Drop)]
 pub struct Proposal {
     changes: Vec<Change>,
     rules: Option<Vec<ExportRules>>,
+    named: Option<(Pid, Pids)>,
     touched: Vec<Prefix>,
     effects: Vec<Effect>,
 }
@@ -46,7 +48,7 @@ impl Model for Proposal {
 
     ghost coded = { Prim.hlevel (codes, change.the_row.coded) };
 
-    ghost view = { λ a. record { changes = a.changes.items; rules = option_map (λ r. r.items) a.rules; touched = a.touched.items; sigs = map (λ (e : Effect). e.sig) a.effects.items; bests = map (effect_bests a.changes.items) a.effects.items } };
+    ghost view = { λ a. record { changes = a.changes.items; rules = option_map (λ r. r.items) a.rules; named = a.named; touched = a.touched.items; sigs = map (λ (e : Effect). e.sig) a.effects.items; bests = map (effect_bests a.changes.items) a.effects.items } };
 
     ghost invariant = { λ a. a.touched.items ≡ map (λ (e : Effect). e.prefix) a.effects.items };
 }
@@ -74,14 +76,35 @@ fn rules_after<'a>(
 impl Proposal {
     /// Touches nothing.
     pub fn empty(alloc: Global) -> Proposal
-        ensures { result ≡ record { changes = []; rules = None; touched = []; sigs = []; bests = [] } }
+        ensures { result ≡ record { changes = []; rules = None; named = None; touched = []; sigs = []; bests = [] } }
     {
         Proposal {
             changes: Vec::new(alloc),
             rules: None,
+            named: None,
             touched: Vec::new(alloc),
             effects: Vec::new(alloc),
         }
+    }
+
+    /// What these effects say, with what makes the routes, rules and names afterwards.
+    pub(crate) fn made(
+        alloc: Global,
+        changes: Vec<Change>,
+        rules: Option<Vec<ExportRules>>,
+        named: Option<(Pid, Pids)>,
+        effects: Vec<Effect>,
+    ) -> Result<Proposal, Memory>
+        ensures { IfOk result (λ p. p ≡ record { changes = changes.items; rules = option_map (λ r. r.items) rules; named = named; touched = map (λ (e : Effect). e.prefix) effects.items; sigs = map (λ (e : Effect). e.sig) effects.items; bests = map (effect_bests changes.items) effects.items }) }
+    {
+        let touched = touched_by(alloc, effects.as_slice())?;
+        Ok(Proposal {
+            changes,
+            rules,
+            named,
+            touched,
+            effects,
+        })
     }
 
     /// What these changes do, where the rules become others or stay.
@@ -94,19 +117,20 @@ impl Proposal {
         requires declared { AreDeclared names.now server.now.routes }
         ensures changes { IfOk result (λ p. p.changes ≡ changes.items) }
         ensures rules { IfOk result (λ p. p.rules ≡ option_map (λ r. r.items) rules) }
+        ensures named { IfOk result (λ p. p.named ≡ None) }
         ensures effects { IfOk result (λ p. (m : FinMap route_cmp Attrs) → let after = routing_after names.now (option_map_or (λ r. r.items) rules server.now.rules) server.now.named m in AreDeclared names.now m → AreRowsOf changes.items m → IsRising is_before (prefixes_of changes.items)
             → ((q : RouteKey) → (Member q.prefix (prefixes_of changes.items) → ⊥) → get m q ≡ get server.now.routes q)
             → ((q : Prefix) → (Member q (prefixes_of changes.items) → ⊥) → Differs (routing names.now server.now) after q → ⊥) → (AreOwned (routing names.now server.now) → AreOwned after) → IsProposal (routing names.now server.now) after p) }
     {
-        let after = rules_after(server, &rules);
-        let effects = effects_of(server, names, after, changes.as_slice())?;
-        let touched = touched_by(server.allocator(), effects.as_slice())?;
-        Ok(Proposal {
-            changes,
-            rules,
-            touched,
-            effects,
-        })
+        let before = server.terms(names);
+        let after = Terms {
+            names,
+            rules: rules_after(server, &rules),
+            named: before.named,
+        };
+        let effects = effects_of(server, before, after, changes.as_slice())?;
+        let proposal = Proposal::made(server.allocator(), changes, rules, None, effects)?;
+        Ok(proposal)
     }
 
     /// The prefixes whose signature, or some participant's best attributes, are others afterwards, in ascending order.
@@ -136,12 +160,23 @@ impl Proposal {
         Some(&held.attrs)
     }
 
-    /// The changes and the rules.
-    pub(crate) fn open(self) -> (Vec<Change>, Option<Vec<ExportRules>>)
+    /// Whom the outbound policy of a participant names from now on in a forward; none where that stays for all.
+    pub fn named(&self) -> Option<(Pid, &[Pid])>
+        ensures { option_map (λ e. (e.0, e.1.now)) result ≡ self.now.named }
+    {
+        match &self.named {
+            Some((who, named)) => Some((*who, named.items())),
+            None => None,
+        }
+    }
+
+    /// The changes, the rules and the names.
+    pub(crate) fn open(self) -> (Vec<Change>, Option<Vec<ExportRules>>, Option<(Pid, Pids)>)
         ensures changes { result.0.items ≡ self.changes }
         ensures rules { option_map (λ r. r.items) result.1 ≡ self.rules }
+        ensures named { result.2 ≡ self.named }
     {
-        (self.changes, self.rules)
+        (self.changes, self.rules, self.named)
     }
 
     /// How many rows it changes.

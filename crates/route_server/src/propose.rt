@@ -9,7 +9,7 @@ ghost use Rattle.net_types.specs.SoundUpdates.{IsSoundUpdate};
 ghost use Rattle.net_types.specs.declared.route.Attrs.{Attrs};
 ghost use Rattle.route_server.specs.Admission.{refusal};
 ghost use Rattle.route_server.specs.Effects.{routing_after};
-ghost use Rattle.route_server.specs.Proposed.{IsProposal};
+ghost use Rattle.route_server.specs.Proposed.{IsProposal, named_with};
 ghost use Rattle.route_server.specs.Served.{routing, AreDeclared, AreOwned, Reaches};
 
 use crate::admission::refusal;
@@ -32,6 +32,7 @@ fn proposed_update(
     requires declared { AreDeclared names.now server.now.routes }
     requires taken { refusal names.now from update.now ≡ None }
     ensures rules { IfOk result (λ p. p.rules ≡ None) }
+    ensures named { IfOk result (λ p. p.named ≡ None) }
     ensures proposal { IfOk result (λ p. IsProposal (routing names.now server.now) (routing_after names.now server.now.rules server.now.named (updated from update.now server.now.routes)) p) }
 {
     // At most 256 are declared.
@@ -58,6 +59,7 @@ impl RouteServer {
         ensures next_hop { (result ≡ Err RouteFault.NextHop) ↔ (refusal names.now from update.now ≡ Some RouteFault.NextHop) }
         ensures oversize { (result ≡ Err RouteFault.Oversize) ↔ (refusal names.now from update.now ≡ Some RouteFault.Oversize) }
         ensures rules { IfOk result (λ p. p.rules ≡ None) }
+        ensures named { IfOk result (λ p. p.named ≡ None) }
         ensures proposal { IfOk result (λ p. IsProposal (routing names.now self.now) (routing_after names.now self.now.rules self.now.named (updated from update.now self.now.routes)) p) }
         ensures declared { AreDeclared names.now (updated from update.now self.now.routes) }
     {
@@ -80,18 +82,18 @@ impl RouteServer {
         self.reserve_rows(proposal.rows())
     }
 
-    /// Changes the routes and rules as proposed, where nothing was committed since. It takes no memory.
+    /// Changes the routes, rules and names as proposed, where nothing was committed since. It takes no memory.
     pub fn commit(&mut self, proposal: Proposal)
         requires room { length proposal.changes ≤ self.old.room }
         ensures routes { (m : FinMap route_cmp Attrs) → Reaches proposal.changes self.old.routes m → self.new.routes ≡ m }
         ensures rules { self.new.rules ≡ unwrap_or proposal.rules self.old.rules }
-        ensures named { self.new.named ≡ self.old.named }
+        ensures named { self.new.named ≡ named_with proposal.named self.old.named }
         // Every route's participant owns the port of its next hop where it was so when the proposal was made.
         ensures owned { (r s : Routing) → r.routes ≡ self.old.routes → IsProposal r s proposal → AreOwned r → AreOwned (record s { routes = self.new.routes }) }
-        // After a proposal for the routes and rules as they are, these are those that were proposed.
+        // After a proposal for the routes, rules and names as they are, these are those that were proposed.
         ensures reached { (r s : Routing) → r.routes ≡ self.old.routes → r.rules ≡ self.old.rules → r.named ≡ self.old.named → IsProposal r s proposal → (self.new.routes ≡ s.routes) × (self.new.rules ≡ s.rules) × (self.new.named ≡ s.named) }
     {
-        let (changes, rules) = proposal.open();
-        self.set(changes, rules);
+        let (changes, rules, named) = proposal.open();
+        self.set(changes, rules, named);
     }
 }

@@ -7,6 +7,7 @@ ghost use Rattle.net_types.specs.Changes.{best_attrs};
 ghost use Rattle.net_types.specs.Keys.{RouteKey, route_cmp};
 ghost use Rattle.net_types.specs.Signatures.{signature};
 ghost use Rattle.net_types.specs.declared.route.Attrs.{Attrs};
+ghost use Rattle.route_server.specs.Proposed.{named_with};
 ghost use Rattle.route_server.specs.Rows.{look, Rising};
 ghost use Rattle.route_server.specs.Served.{Served, routing, AreRows, AreDeclared, route_in, one_after, route_after, Reaches, AreAll};
 
@@ -68,6 +69,17 @@ fn put_rows(rows: &mut PrefixMap<Items<Held>>, changes: Vec<Change>)
 {
     for change in changes {
         put_row(rows, change);
+    }
+}
+
+/// Gives a participant other names, where there are any.
+fn put_names(lists: &mut Vec<Pids>, named: Option<(Pid, Pids)>)
+    ensures { lists.new.items ≡ named_with named lists.old.items }
+{
+    if let Some((who, own)) = named {
+        if let Some(place) = lists.get_mut(who.0 as usize) {
+            *place = own;
+        }
     }
 }
 
@@ -134,14 +146,21 @@ impl RouteServer {
         self.rows.reserve(changes)
     }
 
-    /// Gives prefixes other rows, and participants other rules where there are any. It takes no memory.
-    pub(crate) fn set(&mut self, changes: Vec<Change>, rules: Option<Vec<ExportRules>>)
+    /// Gives prefixes other rows, participants other rules where there are any, and a participant other names where there
+    /// are any. It takes no memory.
+    pub(crate) fn set(
+        &mut self,
+        changes: Vec<Change>,
+        rules: Option<Vec<ExportRules>>,
+        named: Option<(Pid, Pids)>,
+    )
         requires room { length changes.items ≤ self.old.room }
         ensures routes { (m : FinMap route_cmp Attrs) → Reaches changes.items self.old.routes m → self.new.routes ≡ m }
         ensures rules { self.new.rules ≡ option_map_or (λ r. r.items) rules self.old.rules }
-        ensures named { self.new.named ≡ self.old.named }
+        ensures named { self.new.named ≡ named_with named self.old.named }
     {
         put_rows(&mut self.rows, changes);
+        put_names(&mut self.named, named);
         if let Some(rules) = rules {
             self.rules = rules;
         }
@@ -173,6 +192,13 @@ impl RouteServer {
         self.rules.as_slice()
     }
 
+    /// Whom each participant's outbound policy names in a forward, in order of declaration.
+    pub(crate) fn named(&self) -> &[Pids]
+        ensures { result.now ≡ self.now.named }
+    {
+        self.named.as_slice()
+    }
+
     /// What decides on the routes, with what is declared.
     pub(crate) fn terms<'a>(&'a self, names: &'a Registry) -> Terms<'a>
         ensures names { result.names.now ≡ names.now }
@@ -182,7 +208,7 @@ impl RouteServer {
         Terms {
             names,
             rules: self.rules(),
-            named: self.named.as_slice(),
+            named: self.named(),
         }
     }
 

@@ -40,7 +40,7 @@ fn port_with(names: &Registry, ip: Ip) -> PortNo
 }
 
 /// Whom a participant's outbound policy names.
-fn names_at(named: &[Pids], who: Pid) -> &[Pid]
+pub fn names_at(named: &[Pids], who: Pid) -> &[Pid]
     ensures { result.now ≡ names_at named.now who.0 }
 {
     match named.get(who.0 as usize) {
@@ -49,7 +49,8 @@ fn names_at(named: &[Pids], who: Pid) -> &[Pid]
     }
 }
 
-fn is_named(named: &[Pid], who: Pid) -> bool
+/// Whether a participant is named.
+pub fn is_named(named: &[Pid], who: Pid) -> bool
     ensures { result ≡ list_any (λ (other : Pid). nat_eq other.0 who.0) named.now }
 {
     named.iter().any(|other| other.0 == who.0)
