@@ -1,39 +1,38 @@
--- A change of routes builds no pair anew, and the default rules are rules.
-use Rattle.std.proofs.Common.{◌≡◌, Bool, true, false, cond, ◌||◌, [], sym, ap, ◌∙◌, refl}
+-- What a line that builds rules puts into the table, and that right rules are some rules.
+use Rattle.std.proofs.Common.{◌≡◌, Bool, true, false, ◌||◌, ◌<◌, ◌^◌, not, List, [], sym, ap, subst, ◌∙◌, refl, arith}
 use Rattle.std.specs.Prelude.{Option, Some, None, is_none, is_some}
 use Rattle.std.specs.FinMap.{get}
-use Rattle.std.specs.Option.{option_map}
-use Rattle.events.specs.Sound.{owners_part}
-use Rattle.events.specs.Tags.{is_live_pair, retagged}
-use Rattle.exchange_laws.proofs.Lists.{clash, some_of}
-use Rattle.exchange_laws.proofs.RulesAfter.{rules_are_those}
-use Rattle.exchange_laws.specs.Replies.{ChangesAreBuilt, DefaultsAreRules}
-use Rattle.exchange_laws.specs.Rules.{default_rules}
+use Rattle.events.specs.Sound.{IsRight}
+use Rattle.events.specs.State.{State}
+use Rattle.events.specs.Tags.{is_live_pair}
+use Rattle.exchange_laws.proofs.Lists.{some_of}
+use Rattle.exchange_laws.proofs.RulesAfter.{not_new}
+use Rattle.exchange_laws.specs.Listed.{HasLivePairs}
+use Rattle.exchange_laws.specs.Replies.{ChangesAreBuilt, RightRulesAreSome}
+use Rattle.exchange_laws.specs.Rules.{is_new}
+use Rattle.net_types.specs.Answers.{Policies}
+use Rattle.net_types.specs.declared.address.PortNo.{PortNo}
+use Rattle.net_types.specs.declared.headers.Headers.{Headers}
 use Rattle.net_types.specs.declared.route.Part.{Part}
 use Rattle.net_types.specs.declared.rule.Pair.{Pair}
+use Rattle.net_types.specs.declared.rule.Rule.{Rule}
 
-there_not_new : {A : Type 0} (o : Option A) → is_some o ≡ true → (is_none o || false) ≡ true → ⊥
-there_not_new None e f = cc
-there_not_new (Some x) e f = cc
+none_not : {A : Type 0} (o : Option A) → is_none o ≡ not (is_some o)
+none_not None = refl
+none_not (Some x) = refl
+
+-- a pair without rules is one that isn't live
+pub absent_new : (s : State) (is_rebuilt : Pair → Bool) → HasLivePairs s → (pair : Pair) → (is_none (get s.table pair) || is_rebuilt pair) ≡ is_new s is_rebuilt pair
+absent_new s is_rebuilt has pair = ap (λ b. b || is_rebuilt pair) (none_not (get s.table pair) ∙ ap not (has pair))
 
 pub changes_are_built : ChangesAreBuilt
-changes_are_built s r table sound is has = record {
-  stays = λ pair old new anew was now. some_of old new (sym was ∙ is.old pair new (sym (sound.pairs pair) ∙ ap is_some was) now);
-  some = λ pair new empty. by pair (is_live_pair s pair) refl new empty;
+changes_are_built s r is_rebuilt table tagged is has = record {
+  stays = λ pair old new kept was now. some_of old new (sym was ∙ is.old pair new (not_new s is_rebuilt pair (sym (tagged.pairs pair) ∙ ap is_some was) kept) now);
+  some = λ pair new empty. has pair (sym (absent_new s is_rebuilt tagged.pairs pair) ∙ new) empty;
 }
-  where
-    by : (pair : Pair) (b : Bool) → is_live_pair s pair ≡ b → (is_none (get s.table pair) || false) ≡ true → get table pair ≡ Some [] → ⊥
-    by pair true live new empty = there_not_new (get s.table pair) (sound.pairs pair ∙ live) new
-    by pair false dead new empty = has pair dead empty
 
-pub defaults_are_rules : DefaultsAreRules
-defaults_are_rules s r pooled pair dead empty = by (is_live_pair (retagged s r) pair) (is_live_pair s pair) dead (sym (rules_are_those s r pooled pair) ∙ empty)
-  where
-    none_empty : (o : Option Part) → option_map default_rules o ≡ Some [] → ⊥
-    none_empty None e = cc
-    none_empty (Some x) e = let none : default_rules x ≡ [] = cc in cc
-
-    by : (b c : Bool) → c ≡ false → cond b (cond c (get s.table pair) (option_map default_rules (owners_part (retagged s r) pair))) None ≡ Some [] → ⊥
-    by true true none e = clash refl none
-    by true false none e = none_empty (owners_part (retagged s r) pair) e
-    by false c none e = cc
+pub right_rules_are_some : RightRulesAreSome
+right_rules_are_some ps part port rules small right none =
+    let h : Headers = record { inport = port; src = record { 0 = 0 }; dst = record { 0 = 0 }; proto = 0; sport = None; dport = None } in
+    let given = (subst (IsRight ps part port) none right).gives h (record { inport = small; src = omega arith; dst = omega arith; proto = omega arith; sport = tt; dport = tt }) refl in
+    let never = given.1 in cc

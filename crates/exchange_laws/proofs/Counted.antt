@@ -1,34 +1,29 @@
 -- How many tags are free, and how many rules the table has.
-use Rattle.std.proofs.Common.{◌≡◌, ℕ, zero, suc, ◌+◌, Bool, true, false, cond, ◌&&◌, ◌||◌, nat_eq, nat_lt, not, T, List, [], ◌∷◌, filter, length, map, sum_by, sym, ap, subst, ◌∙◌, refl, arith, inl, inr}
+use Rattle.std.proofs.Common.{◌≡◌, ℕ, zero, suc, ◌+◌, ◌≤◌, Bool, true, false, cond, ◌&&◌, ◌||◌, nat_eq, nat_lt, not, T, List, [], ◌∷◌, filter, length, map, sum_by, sym, ap, subst, ◌∙◌, refl, arith, inl, inr}
 use Rattle.std.specs.Prelude.{Option, Some, None, is_none, unwrap_or}
 use Rattle.std.specs.Cmp.{IsTotalOrder}
 use Rattle.std.specs.FinMap.{FinMap, contains_key-keys, entries, entries_sorted, find, get, get-entries, is_sorted, keys}
 use Rattle.std.specs.FinMap.Entries.{below_all, find-where_key, is_sorted-where_key, same_entries, where_key}
-use Rattle.std.specs.Option.{option_map}
+use Rattle.std.specs.List.{list_any}
 use Rattle.std.specs.Ordering.{eq_by_cmp, is_lt}
 use Rattle.std.specs.declared.cmp.Ordering.{Ordering}
 use Rattle.std.specs.declared.cmp.Ordering.TheVariants.{Less, Equal, Greater}
 use Rattle.std.proofs.lemmas.List.{length-append, length-map}
 use Rattle.std.proofs.lemmas.List.Filters.{sum_by-filter_both}
 use Rattle.std.proofs.lemmas.List.Sums.{sum_by-cons}
-use Rattle.net_types.proofs.OrderedLemmas.{member_any, ordered_is}
-use Rattle.events.specs.Fits.{added, dropped, flows_of}
-use Rattle.events.specs.Sound.{owners_part, rule_count}
+use Rattle.net_types.proofs.OrderedLemmas.{any_member, member_any, ordered_is, ordered_rises, ordered_same}
+use Rattle.events.specs.Fits.{added, cells, dropped, flows_of}
+use Rattle.events.specs.Sound.{rule_count}
 use Rattle.events.specs.State.{State}
-use Rattle.events.specs.Tags.{free_tags, is_live, is_live_pair, live_pairs, pairs, retagged, tags}
+use Rattle.events.specs.Tags.{free_tags, is_live, is_live_pair, live_pairs, pairs, tags}
 use Rattle.events.specs.declared.Flow.{Flow}
 use Rattle.exchange_laws.proofs.FreshTags.{tags_rise}
 use Rattle.exchange_laws.proofs.LivePairs.{pair_listed}
-use Rattle.exchange_laws.proofs.Lists.{key_Member, some_of}
-use Rattle.exchange_laws.proofs.RulesAfter.{rules_are_those}
-use Rattle.exchange_laws.proofs.ToldAnew.{get_retained}
-use Rattle.exchange_laws.specs.Counts.{ChangesAddOneEach, FreeTagsAreCounted, HasOneRuleEach, LivePairsAreCounted, PairsAreLive, RulesAreCounted, TagsAreCounted, TellingLeavesOneEach, rules_at}
-use Rattle.exchange_laws.specs.Listed.{HasLivePairs}
+use Rattle.exchange_laws.proofs.Lists.{key_Member}
+use Rattle.exchange_laws.specs.Counts.{FreeTagsAreCounted, NumbersFitCells, PairsAreLive, RulesAreCounted, TagsAreCounted, rules_at}
+use Rattle.exchange_laws.specs.Listed.{HasLivePairs, is_pair_before}
 use Rattle.exchange_laws.specs.Replies.{IsBuiltOn}
-use Rattle.exchange_laws.specs.Retagging.{TagsArePooled}
-use Rattle.exchange_laws.specs.Steady.{IsSteady}
-use Rattle.exchange_laws.specs.Rules.{default_rules}
-use Rattle.exchange_laws.specs.Telling.{told_anew}
+use Rattle.exchange_laws.specs.Retagging.{KeptAreLive, LiveAreKept, TagsArePooled}
 use Rattle.net_types.proofs.OrderLemmas.{pairs_total, tags_total}
 use Rattle.net_types.proofs.RisingLemmas.{Member-filter, before, before_itself, before_trans, filter-IsRising, filter-Member, keys-IsRising}
 use Rattle.net_types.proofs.SetLemmas.{rising_unique}
@@ -69,23 +64,23 @@ weaker f g h (x ∷ xs) rises = (λ y m. h x y (rises.0 y m), weaker f g h xs ri
 tag_before : (t u : Tag) → nat_lt t.0 u.0 ≡ true → before tag_cmp t u ≡ true
 tag_before t u less = ap (λ b. is_lt (cond b Less (cond (nat_eq t.0 u.0) Equal Greater))) less
 
--- exactly the live tags of the pool are kept
-kept_tags : (s : State) → IsSteady s → keys s.kept ≡ filter (is_live s) (tags s)
-kept_tags s steady =
+-- where exactly the live tags are kept, they are the live ones of the pool
+kept_tags : (s : State) → TagsArePooled s → KeptAreLive s → LiveAreKept s → keys s.kept ≡ filter (is_live s) (tags s)
+kept_tags s pooled kept live =
     rising_unique (before tag_cmp) (before_itself tag_cmp tags_total) (before_trans tag_cmp tags_total) (keys s.kept) (filter (is_live s) (tags s)) (keys-IsRising tag_cmp s.kept)
     (filter-IsRising (before tag_cmp) (is_live s) (tags s) (weaker (λ t u. nat_lt t.0 u.0) (before tag_cmp) tag_before (tags s) (tags_rise 1 s.size))) (record {
       onto = λ t m.
-          let live : is_live s t ≡ true = steady.kept t (contains_key-keys s.kept t ∙ member_any tag_cmp tags_total tie t (keys s.kept) m) in
-          Member-filter (is_live s) (tags s) t (steady.pooled t live) live;
-      back = λ t m. key_Member tag_cmp tags_total tie s.kept t (steady.live t (filter-Member (is_live s) (tags s) t m).passes);
+          let is : is_live s t ≡ true = kept t (contains_key-keys s.kept t ∙ member_any tag_cmp tags_total tie t (keys s.kept) m) in
+          Member-filter (is_live s) (tags s) t (pooled t is) is;
+      back = λ t m. key_Member tag_cmp tags_total tie s.kept t (live t (filter-Member (is_live s) (tags s) t m).passes);
     })
   where
     tie : (x y : Tag) → eq_by_cmp tag_cmp x y ≡ true → x ≡ y
     tie = same_from_tie tag_cmp tag_cmp-IsAntisymmetric
 
 pub free_tags_are_counted : FreeTagsAreCounted
-free_tags_are_counted s steady =
-    ap (λ n. length (free_tags s) + n) (sym (length-map (entries s.kept) (λ (e : Tag × List Part). e.0)) ∙ ap length (kept_tags s steady)) ∙ tags_are_counted s
+free_tags_are_counted s pooled kept live =
+    ap (λ n. length (free_tags s) + n) (sym (length-map (entries s.kept) (λ (e : Tag × List Part). e.0)) ∙ ap length (kept_tags s pooled kept live)) ∙ tags_are_counted s
 
 -- ---- entries of a map
 
@@ -185,7 +180,7 @@ module _ (s s1 : State) (is_rebuilt : Pair → Bool) (on : IsBuiltOn s s1 is_reb
 pub rules_are_counted : RulesAreCounted
 rules_are_counted s s1 is_rebuilt on = counted s s1 is_rebuilt on
 
--- ---- one rule each
+-- ---- live pairs
 
 -- where the table has exactly the live pairs, they are its keys
 pub listed_pairs : (s : State) → HasLivePairs s → TagsArePooled s → keys s.table ≡ live_pairs s
@@ -200,38 +195,54 @@ listed_pairs s has pooled = ordered_is pair_cmp pairs_total tie (keys s.table) (
 pub pairs_are_live : PairsAreLive
 pairs_are_live s sound pooled = listed_pairs s sound.pairs pooled
 
-one_each : (es : List (Pair × List Rule)) → ((e : Pair × List Rule) → Member e es → length e.1 ≡ 1) → rules_in es ≡ length (map (λ (e : Pair × List Rule). e.0) es)
-one_each [] one = refl
-one_each (e ∷ es) one = sum_by-cons (λ (d : Pair × List Rule). length d.1) e es ∙ ap (λ n. n + rules_in es) (one e (inl refl)) ∙ more (rules_in es) (length (map (λ (d : Pair × List Rule). d.0) es)) (one_each es (λ d m. one d (inr m)))
+-- ---- cells
+
+-- what is less at each member is less together
+sums_below : {A : Type 0} (f g : A → ℕ) (xs : List A) → ((x : A) → Member x xs → f x ≤ g x) → sum_by f xs ≤ sum_by g xs
+sums_below f g [] each = omega arith
+sums_below f g (x ∷ xs) each =
+    let here : f x ≤ g x = each x (inl refl) in
+    let later : sum_by f xs ≤ sum_by g xs = sums_below f g xs (λ y m. each y (inr m)) in
+    let first : sum_by f (x ∷ xs) ≡ f x + sum_by f xs = sum_by-cons f x xs in
+    let second : sum_by g (x ∷ xs) ≡ g x + sum_by g xs = sum_by-cons g x xs in
+    omega arith
+
+-- those that pass are together no more than all
+sums_within : {A : Type 0} (f : A → ℕ) (test : A → Bool) (xs : List A) → sum_by f (filter test xs) ≤ sum_by f xs
+sums_within f test xs =
+    let both : sum_by f (filter test xs) + sum_by f (filter (λ x. not (test x)) xs) ≡ sum_by f xs = sum_by-filter_both test (λ x. not (test x)) (λ x. refl) f xs in
+    omega arith
+
+-- distinct members of a rising list, in order, are those of its members that stand among them
+among : (ks xs : List Pair) → IsRising is_pair_before ks → IsRising is_pair_before xs → ((pair : Pair) → Member pair ks → Member pair xs) → ks ≡ filter (λ pair. list_any (eq_by_cmp pair_cmp pair) ks) xs
+among ks xs rising all stand =
+    rising_unique (before pair_cmp) (before_itself pair_cmp pairs_total) (before_trans pair_cmp pairs_total) ks (filter stands xs) rising (filter-IsRising (before pair_cmp) stands xs all) (record {
+      onto = λ pair m. Member-filter stands xs pair (stand pair m) (member_any pair_cmp pairs_total tie pair ks m);
+      back = λ pair m. any_member pair_cmp pairs_total tie pair ks (filter-Member stands xs pair m).passes;
+    })
   where
-    more : (m n : ℕ) → m ≡ n → 1 + m ≡ suc n
-    more m n same = omega arith
+    tie : (x y : Pair) → eq_by_cmp pair_cmp x y ≡ true → x ≡ y
+    tie = same_from_tie pair_cmp pair_cmp-IsAntisymmetric
 
-pub counted_pairs : (s : State) → HasLivePairs s → TagsArePooled s → HasOneRuleEach s → rule_count s ≡ length (live_pairs s)
-counted_pairs s has pooled one =
-    sum_map (λ (rules : List Rule). length rules) (λ (e : Pair × List Rule). e.1) (entries s.table)
-    ∙ one_each (entries s.table) (λ e m. one e.0 e.1 (entry_at s.table e m))
-    ∙ ap length (listed_pairs s has pooled)
+    stands : Pair → Bool
+    stands pair = list_any (eq_by_cmp pair_cmp pair) ks
 
-pub live_pairs_are_counted : LivePairsAreCounted
-live_pairs_are_counted s sound pooled one = counted_pairs s sound.pairs pooled one
+-- the live pairs rise, and each stands among them
+pub live_rise : (s : State) → IsRising is_pair_before (live_pairs s)
+live_rise s = ordered_rises pair_cmp pairs_total (same_from_tie pair_cmp pair_cmp-IsAntisymmetric) (filter (is_live_pair s) (pairs s))
 
-pub changes_add_one_each : ChangesAddOneEach
-changes_add_one_each s r pooled one pair rules is = by (is_live_pair (retagged s r) pair) (is_live_pair s pair) (sym (rules_are_those s r pooled pair) ∙ is)
+pub live_Member : (s : State) → TagsArePooled s → (pair : Pair) → is_live_pair s pair ≡ true → Member pair (live_pairs s)
+live_Member s pooled pair live =
+    (ordered_same pair_cmp pairs_total (same_from_tie pair_cmp pair_cmp-IsAntisymmetric) (filter (is_live_pair s) (pairs s))).back pair
+    (Member-filter (is_live_pair s) (pairs s) pair (pair_listed s pooled pair live) live)
+
+pub numbers_fit_cells : NumbersFitCells
+numbers_fit_cells s ps ks count pooled rising each =
+    let few : sum_by count ks ≤ sum_by (cells ps s) ks = sums_below count (cells ps s) ks (λ pair m. (each pair m).1) in
+    let those : ks ≡ filter stands (live_pairs s) = among ks (live_pairs s) rising (live_rise s) (λ pair m. live_Member s pooled pair (each pair m).0) in
+    let same : sum_by (cells ps s) ks ≡ sum_by (cells ps s) (filter stands (live_pairs s)) = ap (sum_by (cells ps s)) those in
+    let within : sum_by (cells ps s) (filter stands (live_pairs s)) ≤ sum_by (cells ps s) (live_pairs s) = sums_within (cells ps s) stands (live_pairs s) in
+    omega arith
   where
-    default : (o : Option Part) → option_map default_rules o ≡ Some rules → length rules ≡ 1
-    default None e = absurd (cc)
-    default (Some x) e = ap length (some_of rules (default_rules x) (sym e))
-
-    by : (b c : Bool) → cond b (cond c (get s.table pair) (option_map default_rules (owners_part (retagged s r) pair))) None ≡ Some rules → length rules ≡ 1
-    by true true e = one pair rules e
-    by true false e = default (owners_part (retagged s r) pair) e
-    by false c e = absurd (cc)
-
-pub telling_leaves_one_each : TellingLeavesOneEach
-telling_leaves_one_each s who entries one pair rules is =
-    by (is_live_pair (told_anew s who entries) pair) (sym (get_retained pair_cmp pairs_total pair_cmp-IsAntisymmetric s.table (is_live_pair (told_anew s who entries)) pair) ∙ is)
-  where
-    by : (b : Bool) → cond b (get s.table pair) None ≡ Some rules → length rules ≡ 1
-    by true e = one pair rules e
-    by false e = absurd (cc)
+    stands : Pair → Bool
+    stands pair = list_any (eq_by_cmp pair_cmp pair) ks

@@ -10,6 +10,10 @@ pub mod Flows
 pub mod Built
 pub mod Rerouted
 pub mod AcceptedChanges
+pub mod Edited
+pub mod Trimmed
+pub mod Bases
+pub mod PolicyEdits
 pub mod ToldAnew
 pub mod Untouched
 pub mod SameRoutes
@@ -21,7 +25,6 @@ pub mod LineSteps
 pub mod SteadySteps
 pub mod QuietLines
 pub mod ListedPairs
-pub mod OneRuleEach
 pub mod FullTables
 pub mod PoolTags
 pub mod Octets

@@ -1,4 +1,4 @@
--- Rising lists of the pairs that go and of those that come are what a reply lists.
+-- Rising lists of the pairs whose rules go and of those whose rules come are what a reply lists.
 use Rattle.std.proofs.Common.{◌≡◌, Bool, true, false, cond, ◌||◌, T, List, [], ◌∷◌, map, sym, ap, subst, ◌∙◌, refl, inl, inr}
 use Rattle.std.specs.Prelude.{Option, Some, None, is_none, is_some}
 use Rattle.std.specs.FinMap.{IsAntisymmetric, contains_key-keys, entries, entries_sorted, find, get, get-entries, is_sorted, keys}
@@ -6,12 +6,15 @@ use Rattle.std.specs.FinMap.Entries.{below_all, find-where_key, is_sorted-where_
 use Rattle.std.specs.List.{list_any}
 use Rattle.std.specs.Ordering.{eq_by_cmp, is_lt}
 use Rattle.std.specs.declared.cmp.Ordering.{Ordering}
-use Rattle.std.proofs.lemmas.Bool.{and_from}
+use Rattle.std.proofs.lemmas.Bool.{and_from, and_parts}
 use Rattle.net_types.proofs.OrderedLemmas.{any_member, member_any}
-use Rattle.events.specs.Fits.{added, dropped, flows_of, none_rebuilt}
+use Rattle.events.specs.Fits.{added, dropped, flows_of}
 use Rattle.events.specs.State.{State}
+use Rattle.events.specs.Tags.{is_live_pair}
+use Rattle.exchange_laws.proofs.Built.{absent_new}
 use Rattle.exchange_laws.proofs.Lists.{clash, key_Member}
-use Rattle.exchange_laws.specs.Listed.{AreLiveOnly, GoneAreDropped, HasLivePairs, NewAreAdded}
+use Rattle.exchange_laws.specs.Listed.{AreThose, GoneAreDropped, HasLivePairs, NewAreAdded, comes}
+use Rattle.exchange_laws.specs.Rules.{is_new}
 use Rattle.net_types.proofs.OrderLemmas.{pairs_total}
 use Rattle.net_types.proofs.RisingLemmas.{Member-filter, before, before_itself, before_trans, filter-IsRising, filter-Member, keys-IsRising}
 use Rattle.net_types.proofs.SetLemmas.{rising_unique, union-map}
@@ -21,30 +24,21 @@ use Rattle.net_types.specs.Sets.{IsRising, Member, union_over}
 use Rattle.net_types.specs.declared.rule.Pair.{Pair}
 use Rattle.net_types.specs.declared.rule.Rule.{Rule}
 
--- ---- tests of options
-
-absent : {A : Type 0} (o : Option A) → is_some o ≡ false → (is_none o || false) ≡ true
-absent None e = refl
-absent (Some x) e = cc
-
-not_some : {A : Type 0} (o : Option A) → (is_none o || false) ≡ true → is_some o ≡ false
-not_some None e = refl
-not_some (Some x) e = cc
-
 tie : (x y : Pair) → eq_by_cmp pair_cmp x y ≡ true → x ≡ y
 tie = same_from_tie pair_cmp pair_cmp-IsAntisymmetric
 
--- ---- the pairs that go
+-- ---- the pairs whose rules go
 
 pub gone_are_dropped : GoneAreDropped
-gone_are_dropped s s1 ks has has1 are = rising_unique (before pair_cmp) (before_itself pair_cmp pairs_total) (before_trans pair_cmp pairs_total) (dropped s s1 none_rebuilt) ks
-    (filter-IsRising (before pair_cmp) (λ pair. is_none (get s1.table pair) || none_rebuilt pair) (keys s.table) (keys-IsRising pair_cmp s.table)) are.rising (record {
+gone_are_dropped s s1 is_rebuilt ks has has1 are = rising_unique (before pair_cmp) (before_itself pair_cmp pairs_total) (before_trans pair_cmp pairs_total) (dropped s s1 is_rebuilt) ks
+    (filter-IsRising (before pair_cmp) (λ pair. is_none (get s1.table pair) || is_rebuilt pair) (keys s.table) (keys-IsRising pair_cmp s.table)) are.rising (record {
       onto = λ pair m.
-          let left = filter-Member (λ k. is_none (get s1.table k) || none_rebuilt k) (keys s.table) pair m in
-          are.all pair (sym (has pair) ∙ contains_key-keys s.table pair ∙ member_any pair_cmp pairs_total tie pair (keys s.table) left.stands) (sym (has1 pair) ∙ not_some (get s1.table pair) left.passes);
+          let left = filter-Member (λ k. is_none (get s1.table k) || is_rebuilt k) (keys s.table) pair m in
+          are.all pair (and_from (is_live_pair s pair) (is_new s1 is_rebuilt pair) (sym (has pair) ∙ contains_key-keys s.table pair ∙ member_any pair_cmp pairs_total tie pair (keys s.table) left.stands)
+          (sym (absent_new s1 is_rebuilt has1 pair) ∙ left.passes));
       back = λ pair m.
-          let each = are.each pair m in
-          Member-filter (λ k. is_none (get s1.table k) || none_rebuilt k) (keys s.table) pair (key_Member pair_cmp pairs_total tie s.table pair (has pair ∙ each.0)) (absent (get s1.table pair) (has1 pair ∙ each.1));
+          let each = and_parts (is_live_pair s pair) (is_new s1 is_rebuilt pair) (are.each pair m) in
+          Member-filter (λ k. is_none (get s1.table k) || is_rebuilt k) (keys s.table) pair (key_Member pair_cmp pairs_total tie s.table pair (has pair ∙ each.0)) (absent_new s1 is_rebuilt has1 pair ∙ each.1);
     })
 
 -- ---- entries of rising keys
@@ -67,35 +61,38 @@ module _ {K X : Type 0} (R : K → K → Ordering) (f : K → X) where
       by true is later = ap (λ x. Some (f x)) (sym (same_from_tie R same q k is))
       by false is later = later
 
--- ---- the pairs that come
+-- ---- the pairs whose rules come
 
-module _ (s s1 : State) (ks : List Pair) (rules : Pair → List Rule) (has : HasLivePairs s) (has1 : HasLivePairs s1) (are : AreLiveOnly s1 s ks) (those : (pair : Pair) → Member pair ks → get s1.table pair ≡ Some (rules pair)) where
-  abbrev is_new : Pair → Bool
-  is_new k = is_none (get s.table k) || none_rebuilt k
+module _ (s s1 : State) (is_rebuilt : Pair → Bool) (ks : List Pair) (rules : Pair → List Rule) (has : HasLivePairs s) (has1 : HasLivePairs s1) (are : AreThose (comes s s1 is_rebuilt) ks)
+    (those : (pair : Pair) → Member pair ks → get s1.table pair ≡ Some (rules pair)) where
+  abbrev is_added : Pair → Bool
+  is_added k = is_none (get s.table k) || is_rebuilt k
 
-  new_at : (q : Pair) → cond (is_new q) (get s1.table q) None ≡ cond (list_any (eq_by_cmp pair_cmp q) ks) (Some (rules q)) None
+  new_at : (q : Pair) → cond (is_added q) (get s1.table q) None ≡ cond (list_any (eq_by_cmp pair_cmp q) ks) (Some (rules q)) None
   new_at q = by (list_any (eq_by_cmp pair_cmp q) ks) refl
     where
-      nothing : (b : Bool) (o : Option (List Rule)) → is_new q ≡ b → get s1.table q ≡ o → (Member q ks → ⊥) → cond b o None ≡ None
+      nothing : (b : Bool) (o : Option (List Rule)) → is_added q ≡ b → get s1.table q ≡ o → (Member q ks → ⊥) → cond b o None ≡ None
       nothing true None new at other = refl
-      nothing true (Some x) new at other = absurd (other (are.all q (sym (has1 q) ∙ ap is_some at) (sym (has q) ∙ not_some (get s.table q) new)))
+      nothing true (Some x) new at other =
+          absurd (other (are.all q (and_from (is_live_pair s1 q) (is_new s is_rebuilt q) (sym (has1 q) ∙ ap is_some at) (sym (absent_new s is_rebuilt has q) ∙ new))))
       nothing false o new at other = refl
 
-      by : (b : Bool) → list_any (eq_by_cmp pair_cmp q) ks ≡ b → cond (is_new q) (get s1.table q) None ≡ cond b (Some (rules q)) None
+      by : (b : Bool) → list_any (eq_by_cmp pair_cmp q) ks ≡ b → cond (is_added q) (get s1.table q) None ≡ cond b (Some (rules q)) None
       by true is =
           let m : Member q ks = any_member pair_cmp pairs_total tie q ks is in
-          ap (λ b. cond b (get s1.table q) None) (absent (get s.table q) (has q ∙ (are.each q m).1)) ∙ those q m
-      by false is = nothing (is_new q) (get s1.table q) refl refl (λ m. clash (member_any pair_cmp pairs_total tie q ks m) is)
+          let new = and_parts (is_live_pair s1 q) (is_new s is_rebuilt q) (are.each q m) in
+          ap (λ b. cond b (get s1.table q) None) (absent_new s is_rebuilt has q ∙ new.1) ∙ those q m
+      by false is = nothing (is_added q) (get s1.table q) refl refl (λ m. clash (member_any pair_cmp pairs_total tie q ks m) is)
 
-  new_entries : where_key pair_cmp is_new (entries s1.table) ≡ map (λ pair. let e : Pair × List Rule = (pair, rules pair) in e) ks
-  new_entries = same_entries pair_cmp pairs_total pair_cmp-IsAntisymmetric (where_key pair_cmp is_new (entries s1.table)) (map (λ pair. let e : Pair × List Rule = (pair, rules pair) in e) ks)
-      (is_sorted-where_key pair_cmp is_new (entries s1.table) (entries_sorted s1.table)) (subst T (sym (sorted_listed pair_cmp rules ks are.rising)) tt) (λ q.
-      find-where_key pair_cmp is_new q (λ x e. ap is_new (sym (pair_cmp-IsAntisymmetric q x e))) (entries s1.table)
-      ∙ ap (λ o. cond (is_new q) o None) (sym (get-entries s1.table q))
+  new_entries : where_key pair_cmp is_added (entries s1.table) ≡ map (λ pair. let e : Pair × List Rule = (pair, rules pair) in e) ks
+  new_entries = same_entries pair_cmp pairs_total pair_cmp-IsAntisymmetric (where_key pair_cmp is_added (entries s1.table)) (map (λ pair. let e : Pair × List Rule = (pair, rules pair) in e) ks)
+      (is_sorted-where_key pair_cmp is_added (entries s1.table) (entries_sorted s1.table)) (subst T (sym (sorted_listed pair_cmp rules ks are.rising)) tt) (λ q.
+      find-where_key pair_cmp is_added q (λ x e. ap is_added (sym (pair_cmp-IsAntisymmetric q x e))) (entries s1.table)
+      ∙ ap (λ o. cond (is_added q) o None) (sym (get-entries s1.table q))
       ∙ new_at q ∙ sym (find_listed pair_cmp rules pair_cmp-IsAntisymmetric ks q))
 
-  pub come : added s s1 none_rebuilt ≡ union_over (λ pair. flows_of (pair, rules pair)) ks
+  pub come : added s s1 is_rebuilt ≡ union_over (λ pair. flows_of (pair, rules pair)) ks
   come = ap (union_over flows_of) new_entries ∙ union-map flows_of (λ pair. let e : Pair × List Rule = (pair, rules pair) in e) ks
 
 pub new_are_added : NewAreAdded
-new_are_added s s1 ks rules has has1 are those = come s s1 ks rules has has1 are those
+new_are_added s s1 is_rebuilt ks rules has has1 are those = come s s1 is_rebuilt ks rules has has1 are those

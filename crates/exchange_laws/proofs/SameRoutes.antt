@@ -18,6 +18,7 @@ use Rattle.exchange_laws.proofs.Sames.{tag_itself}
 use Rattle.exchange_laws.proofs.TagsAfter.{kept_is, tags_are}
 use Rattle.exchange_laws.proofs.Untouched.{keeps_tag, unchanged}
 use Rattle.exchange_laws.specs.Retagging.{KeptAreLive, TagsArePooled}
+use Rattle.exchange_laws.specs.Rules.{IsTagged}
 use Rattle.exchange_laws.specs.Unchanged.{NoGroups, NothingIsSaid, OwesFew, RoutesStay}
 use Rattle.net_types.proofs.OrderLemmas.{pairs_total, prefixes_total, tags_total}
 use Rattle.net_types.proofs.PassLemmas.{filter_nothing, filter_twice}
@@ -33,15 +34,15 @@ use Rattle.net_types.specs.declared.rule.Rule.{Rule}
 
 -- ---- the tags and the signatures
 
-module _ (s : State) (sound : IsSound s) where
+module _ (s : State) (tagged : IsTagged s) where
   pub none : groups s s.routing ≡ []
   none =
       ap (λ ps. each_once same_group (map (group_of s s.routing) ps))
       (filter_twice (is_changed s s.routing) (is_carried s.routing) (ordered prefix_cmp (announced s.routing))
-      ∙ filter_nothing (λ q. is_carried s.routing q && is_changed s s.routing q) (ordered prefix_cmp (announced s.routing)) (λ q. unchanged s sound s.routing q refl))
+      ∙ filter_nothing (λ q. is_carried s.routing q && is_changed s s.routing q) (ordered prefix_cmp (announced s.routing)) (λ q. unchanged s tagged s.routing q refl))
 
   tags_same : (retagged s s.routing).tag ≡ s.tag
-  tags_same = same_map prefixes_total prefix_cmp-IsAntisymmetric (retagged s s.routing).tag s.tag (λ p. tags_are s s.routing p ∙ keeps_tag s sound s.routing p refl)
+  tags_same = same_map prefixes_total prefix_cmp-IsAntisymmetric (retagged s s.routing).tag s.tag (λ p. tags_are s s.routing p ∙ keeps_tag s tagged s.routing p refl)
 
   -- nothing is carried that wasn't, and there are no groups
   no_more : more_units s s.routing ≡ 0
@@ -79,10 +80,10 @@ module _ (s : State) (sound : IsSound s) where
     stays few = λ i. record s { phase = Running; tag = tags_same i; kept = kept_same i; owed = owes_same s.owed few (more_units s s.routing) no_more i }
 
 pub no_groups : NoGroups
-no_groups s sound = none s sound
+no_groups s tagged = none s tagged
 
 pub routes_stay : RoutesStay
-routes_stay s sound pooled kept few = stays s sound pooled kept few
+routes_stay s tagged pooled kept few = stays s tagged pooled kept few
 
 -- ---- the reply
 

@@ -95,7 +95,7 @@ module _ (s : State) (r : Routing) (ps : List Prefix) (touching : IsTouching s r
       sym (is_some-map attrs (best r who p)) ∙ ap is_some (same_best p who declared other) ∙ is_some-map attrs (best s.routing who p)
 
   pub keeps : (p : Prefix) → (Member p ps → ⊥) → get s1.tag p ≡ get s.tag p
-  keeps p other = tags_are s r p ∙ keeps_tag s touching.sound r p (same_signature_for p other)
+  keeps p other = tags_are s r p ∙ keeps_tag s touching.tagged r p (same_signature_for p other)
 
   -- what is present for a participant is the same
   pub stays_present : (p : Prefix) (who : Pid) → who.0 < length s.routing.participants → (Member p ps → ⊥) → get (present s1 who) p ≡ get (present s who) p
@@ -129,7 +129,7 @@ module _ (s : State) (r : Routing) (ps : List Prefix) (touching : IsTouching s r
             let both : (is_carried r p && is_changed s r p) ≡ true = and_from (is_carried r p) (is_changed s r p) inner.passes outer.passes in
             elim (touched_or_not p) [
               | inl stands ↦ Member-filter (λ q. is_carried r q && is_changed s r q) ps p stands both
-              | inr other ↦ absurd (clash both (unchanged s touching.sound r p (same_signature_for p other)))
+              | inr other ↦ absurd (clash both (unchanged s touching.tagged r p (same_signature_for p other)))
             ];
         back = λ p m.
             let left = filter-Member (λ q. is_carried r q && is_changed s r q) ps p m in

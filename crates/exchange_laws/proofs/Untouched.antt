@@ -5,10 +5,10 @@ use Rattle.std.specs.FinMap.{get}
 use Rattle.std.specs.List.{cons_option, filter_map, list_any}
 use Rattle.std.specs.Option.{option_and_then, option_map}
 use Rattle.std.proofs.lemmas.Bool.{and_left, and_right}
-use Rattle.events.specs.Sound.{IsSound}
 use Rattle.events.specs.State.{State}
 use Rattle.events.specs.Tags.{fresh_tag, group_of, is_carried, is_changed, new_tag}
 use Rattle.exchange_laws.proofs.Sames.{signature_itself}
+use Rattle.exchange_laws.specs.Rules.{IsTagged}
 use Rattle.net_types.proofs.PassLemmas.{same_any}
 use Rattle.net_types.specs.Attributes.{same_option, same_signature}
 use Rattle.net_types.specs.Exports.{Routing}
@@ -41,19 +41,19 @@ carried_signature r p =
 pub carried_alike : (r r1 : Routing) (p : Prefix) → signature r1 p ≡ signature r p → is_carried r1 p ≡ is_carried r p
 carried_alike r r1 p same = carried_signature r1 p ∙ ap has_some same ∙ sym (carried_signature r p)
 
--- ---- in a sound state
+-- ---- where exactly the carried prefixes have a tag, and the signature of each is the one kept for it
 
-module _ (s : State) (sound : IsSound s) (r : Routing) (p : Prefix) (same : signature r p ≡ signature s.routing p) where
+module _ (s : State) (tagged : IsTagged s) (r : Routing) (p : Prefix) (same : signature r p ≡ signature s.routing p) where
   -- the signature that is kept for the tag of a carried prefix is the one that it has now
   pub unchanged : (is_carried r p && is_changed s r p) ≡ false
   unchanged = by (get s.tag p) refl
     where
       by : (o : Option Tag) → get s.tag p ≡ o → (is_carried r p && is_changed s r p) ≡ false
-      by None none = and_left (is_carried r p) (is_changed s r p) (carried_alike s.routing r p same ∙ sym (sound.tagged p) ∙ ap is_some none)
+      by None none = and_left (is_carried r p) (is_changed s r p) (carried_alike s.routing r p same ∙ sym (tagged.tagged p) ∙ ap is_some none)
       by (Some t) has =
           and_right (is_carried r p) (is_changed s r p)
           (ap (λ o. not (same_option same_signature (option_and_then (get s.kept) o) (Some (signature r p)))) has
-          ∙ ap (λ o. not (same_option same_signature o (Some (signature r p)))) (sound.kept p t has ∙ ap Some (sym same))
+          ∙ ap (λ o. not (same_option same_signature o (Some (signature r p)))) (tagged.kept p t has ∙ ap Some (sym same))
           ∙ ap not (signature_itself (signature r p)))
 
   pub keeps_tag : new_tag s r p ≡ get s.tag p
@@ -66,4 +66,4 @@ module _ (s : State) (sound : IsSound s) (r : Routing) (p : Prefix) (same : sign
       by : (c d : Bool) → is_carried r p ≡ c → (c && d) ≡ false → cond c (cond d (fresh_tag s r (group_of s r p)) (get s.tag p)) None ≡ get s.tag p
       by true true is never = cc
       by true false is never = refl
-      by false d is never = no_tag (get s.tag p) (sound.tagged p ∙ sym (carried_alike s.routing r p same) ∙ is)
+      by false d is never = no_tag (get s.tag p) (tagged.tagged p ∙ sym (carried_alike s.routing r p same) ∙ is)

@@ -1,7 +1,8 @@
 //! What a change of routes does.
 
+use block_build::Block;
 use events::{Flows, TagChanges};
-use net_types::{Items, Pair, Pairs, Prefixes, Rule, Sig, Tag};
+use net_types::{Pair, Pairs, Pid, Pids, Prefixes, Sig, Tag};
 
 /// What a change of routes does to tags and rules. It changes nothing until it is committed.
 #[derive(Drop)]
@@ -13,11 +14,14 @@ pub struct Plan {
     /// The rules that are put in.
     pub adds: Flows,
     /// The same rules, by pair.
-    pub blocks: Vec<(Pair, Items<Rule>)>,
+    pub blocks: Vec<(Pair, Block)>,
     /// The fresh tags, with their signatures and the prefixes that get them.
     pub fresh: Vec<Class>,
     /// The tags that are live no more.
     pub dead: Vec<Tag>,
+    /// Whom the policy of a participant names from now on, where the line is one that says so: the signatures that are
+    /// kept are trimmed by it first.
+    pub named: Option<(Pid, Pids)>,
 }
 
 /// A fresh tag, with its signature and the prefixes that get it.

@@ -1,0 +1,108 @@
+-- Lines of policies that no refusal stops build rules on a steady state with the new policy.
+use Rattle.std.proofs.Common.{◌≡◌, ℕ, List, sym, ap, subst, ◌∙◌, refl}
+use Rattle.std.specs.Prelude.{Option, None, Some, MatchOption, Ok}
+use Rattle.std.specs.Option.{option_map}
+use Rattle.events.specs.After.{after, restarted, received_by, running, sent_by, with_known, with_named, with_outbound}
+use Rattle.events.specs.Fits.{IsAnswer, IsBuilt, is_receivers, is_senders}
+use Rattle.events.specs.State.{State}
+use Rattle.events.specs.Tags.{retagged}
+use Rattle.events.specs.declared.Event.TheVariants.{Outbound, Inbound}
+use Rattle.events.specs.declared.Reply.{Reply}
+use Rattle.exchange_laws.proofs.Bases.{received_base}
+use Rattle.exchange_laws.proofs.Lists.{TableOf}
+use Rattle.exchange_laws.proofs.SameRoutes.{routes_stay}
+use Rattle.exchange_laws.specs.Steady.{IsSteady}
+use Rattle.exchange_laws.specs.Editing.{InboundsAreEdits, OutboundsAreEdits, inbound_base, outbound_base}
+use Rattle.exchange_laws.specs.Unchanged.{OwesFew}
+use Rattle.net_types.specs.Exports.{Routing, pid_of}
+use Rattle.net_types.specs.Naming.{named_in}
+use Rattle.net_types.specs.Policies.{Policy}
+use Rattle.net_types.specs.PolicyReading.{policy_of_text}
+use Rattle.net_types.specs.declared.address.Pid.{Pid}
+
+-- where no job runs none owes anything
+nothing_owed : (f g h : ℕ → ℕ) (o : Option ℕ) → o ≡ None → option_map f (option_map g o) ≡ option_map h o
+nothing_owed f g h o none = ap (λ x. option_map f (option_map g x)) none ∙ sym (ap (option_map h) none)
+
+nothing_more : (f : ℕ → ℕ) (o : Option ℕ) → o ≡ None → option_map f o ≡ o
+nothing_more f o none = ap (option_map f) none ∙ sym none
+
+-- ---- an outbound policy
+
+module _ (s : State) (name text : List ℕ) (who : Pid) (p : Policy) (idle : s.owed ≡ None) (declared : pid_of s.routing name ≡ Some who) (read : policy_of_text text ≡ Ok p) where
+  abbrev named : List Pid
+  named = named_in (pid_of s.routing) p
+
+  abbrev r1 : Routing
+  r1 = with_named s.routing who named
+
+  abbrev s0 : State
+  s0 = outbound_base s who text named
+
+  sends : after s (Outbound name text) ≡ restarted (retagged (with_outbound s who text named) r1)
+  sends = ap (λ o. with_known s o (λ w. sent_by s w text (policy_of_text text))) declared ∙ ap (sent_by s who text) read
+
+  owes : (restarted (retagged (with_outbound s who text named) r1)).owed ≡ (retagged s0 r1).owed
+  owes = nothing_owed _ _ _ s.owed idle
+
+  leaves : after s (Outbound name text) ≡ retagged s0 r1
+  leaves = sends ∙ (λ i. record (retagged s0 r1) { owed = owes i })
+
+  answers : (table : TableOf) (reply : Reply) → IsBuilt s0 (record (retagged s0 r1) { table = table }) (is_senders s who) reply
+      → IsAnswer s (Outbound name text) reply (record (retagged s0 r1) { table = table })
+  answers table reply built =
+      let s1 : State = record (retagged s0 r1) { table = table } in
+      subst (λ o. MatchOption o ⊥ (λ w. IsBuilt s s1 (is_senders s1 w) reply)) (sym declared)
+      (record { head = built.head; tags = built.tags; drops = built.drops; adds = built.adds; adverts = built.adverts; asks = built.asks; frames = built.frames })
+
+pub outbounds_are_edits : OutboundsAreEdits
+outbounds_are_edits s name text who p steady declared read none = record {
+  passes = none;
+  building = refl;
+  leaves = leaves s name text who p steady.idle declared read;
+  table = refl;
+  tag = refl;
+  capacity = refl;
+  answers = answers s name text who p steady.idle declared read;
+}
+
+-- ---- an inbound policy
+
+module _ (s : State) (name text : List ℕ) (who : Pid) (p : Policy) (steady : IsSteady s) (declared : pid_of s.routing name ≡ Some who) (read : policy_of_text text ≡ Ok p) where
+  abbrev received : State
+  received = inbound_base s who text
+
+  -- the routes are the same, and so are the tags and the signatures
+  stays : retagged received s.routing ≡ running received
+  stays =
+      let base = received_base s steady who text p read in
+      routes_stay received base.tagged base.pooled base.kept (subst OwesFew (sym steady.idle) tt)
+
+  receives : after s (Inbound name text) ≡ restarted (running received)
+  receives = ap (λ o. with_known s o (λ w. received_by s w text (policy_of_text text))) declared ∙ ap (received_by s who text) read
+
+  owes_nothing : (restarted (running received)).owed ≡ s.owed
+  owes_nothing = nothing_more _ s.owed steady.idle
+
+  received_leaves : after s (Inbound name text) ≡ retagged received s.routing
+  received_leaves = receives ∙ (λ i. record (running received) { owed = owes_nothing i }) ∙ sym stays
+
+  received_answers : (table : TableOf) (reply : Reply) → IsBuilt received (record (retagged received s.routing) { table = table }) (is_receivers s who) reply
+      → IsAnswer s (Inbound name text) reply (record (retagged received s.routing) { table = table })
+  received_answers table reply built =
+      let s1 : State = record (retagged received s.routing) { table = table } in
+      let same : is_receivers s who ≡ is_receivers s1 who = sym (λ i. is_receivers (record (stays i) { table = table }) who) in
+      let now : IsBuilt received s1 (is_receivers s1 who) reply = subst (λ test. IsBuilt received s1 test reply) same built in
+      subst (λ o. MatchOption o ⊥ (λ w. IsBuilt s s1 (is_receivers s1 w) reply)) (sym declared)
+      (record { head = now.head; tags = now.tags; drops = now.drops; adds = now.adds; adverts = now.adverts; asks = now.asks; frames = now.frames })
+
+pub inbounds_are_edits : InboundsAreEdits
+inbounds_are_edits s name text who p steady declared read none = record {
+  passes = none;
+  building = refl;
+  leaves = received_leaves s name text who p steady declared read;
+  table = refl;
+  tag = refl;
+  capacity = refl;
+  answers = received_answers s name text who p steady declared read;
+}
