@@ -1,5 +1,5 @@
 -- Lines that change the routes, and those that leave the routes as they were.
-use Rattle.std.proofs.Common.{◌≡◌, true, sym, ap, subst, ◌∙◌, refl}
+use Rattle.std.proofs.Common.{◌≡◌, true, sym, subst, ◌∙◌, refl}
 use Rattle.events.specs.After.{next, put_flows, rules_put, running}
 use Rattle.events.specs.Fits.{IsAnswer, IsBuilt, bare, is_building, none_rebuilt}
 use Rattle.events.specs.Sound.{IsSound}

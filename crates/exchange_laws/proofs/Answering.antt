@@ -1,7 +1,7 @@
 -- What the table of a sound state makes of a frame for a tag that a participant was told, where that tag is still the
 -- prefix's, is what the policies and the present routes give.
-use Rattle.std.proofs.Common.{◌≡◌, ℕ, zero, suc, ◌<◌, Bool, true, false, cond, nat_eq, List, [], ◌∷◌, ◌++◌, length, filter, map, sym, ap, subst, ◌∙◌, refl, arith, inl, inr}
-use Rattle.std.specs.Prelude.{Option, Some, None, is_some, slice_get, unwrap_or, codes, MatchOption, Result, Ok, Err, if◌then◌else◌}
+use Rattle.std.proofs.Common.{◌≡◌, ℕ, ◌<◌, Bool, true, false, cond, nat_eq, List, [], ◌∷◌, length, filter, map, sym, ap, subst, ◌∙◌, refl, arith, inl, inr}
+use Rattle.std.specs.Prelude.{Option, Some, None, is_some, unwrap_or, MatchOption}
 use Rattle.std.specs.Cmp.{IsTotalOrder, nat_cmp_total}
 use Rattle.std.specs.FinMap.{get, nat_cmp-IsAntisymmetric}
 use Rattle.std.specs.List.{list_any}
@@ -15,8 +15,7 @@ use Rattle.net_types.specs.Exports.{Routing, exports, is_given, named_by, pid_of
 use Rattle.net_types.specs.Frames.{has_headers, headers_of}
 use Rattle.net_types.specs.Headers.{IsValid}
 use Rattle.net_types.specs.Keys.{prefix_cmp}
-use Rattle.net_types.specs.Policies.{Packet, Policy, Drop, den}
-use Rattle.net_types.specs.PolicyReading.{policy_of_text}
+use Rattle.net_types.specs.Policies.{Packet, Policy, den}
 use Rattle.net_types.specs.Routes.{Candidate, best, candidate, candidates, given, pids}
 use Rattle.net_types.specs.Sets.{Member, SameMembers, union_over}
 use Rattle.net_types.specs.Signatures.{counts, offer, offers, port_with}
@@ -38,7 +37,7 @@ use Rattle.net_types.proofs.TieLemmas.{tie_Equal}
 use Rattle.net_types.proofs.ValueLemmas.{any_value}
 use Rattle.events.specs.Fits.{ReachesExporters}
 use Rattle.events.specs.Sound.{IsRight, IsSound, part_of, owners_part, HopsAreOwn}
-use Rattle.events.specs.State.{State, AreRead, ArePassed, ArePolicies, told_to, present, owner_of, port_of}
+use Rattle.events.specs.State.{State, ArePassed, ArePolicies, told_to, present, owner_of, port_of}
 use Rattle.events.specs.Table.{actions_on, done_by, first_match, out, tag_at}
 use Rattle.events.specs.Tags.{is_live_for, is_live_pair, same_tag, tells}
 use Rattle.events.specs.declared.Entry.{Entry}
@@ -59,37 +58,7 @@ use Rattle.exchange_laws.proofs.OwnPorts.{leaves_by_own}
 use Rattle.exchange_laws.proofs.Parts.{sent_to_exporters, union_on}
 use Rattle.exchange_laws.proofs.ReadPolicies.{policies_are_one}
 use Rattle.exchange_laws.proofs.Sending.{IsNamed, forwards_name, goes_to_named}
-use Rattle.events.proofs.DropText.{drop_is_read}
 use Rattle.events.proofs.Routed.{best_offered, out_alike, part_with, signature_part}
-
--- ---- policies that drop
-
--- each participant's policies are the text `drop`
-pub record TextsDrop (s : State) : Type 0 where
-  pub outbound : (text : List ℕ) → Member text s.outbound → text ≡ codes "drop"
-  pub inbound : (text : List ℕ) → Member text s.inbound → text ≡ codes "drop"
-
-abbrev policy_or_drop : {E : Type 0} → Result Policy E → Policy
-policy_or_drop (Ok p) = p
-policy_or_drop (Err fault) = Drop
-
-pub all_drop : (texts : List (List ℕ)) (ps : List Policy) → ((text : List ℕ) → Member text texts → text ≡ codes "drop") → AreRead texts ps → (k : ℕ) → unwrap_or (slice_get ps k) Drop ≡ Drop
-all_drop [] [] drop read k = refl
-all_drop [] (p ∷ ps) drop read k = absurd read
-all_drop (t ∷ ts) [] drop read k = absurd read
-all_drop (t ∷ ts) (p ∷ ps) drop read zero = ap policy_or_drop (sym read.0 ∙ ap policy_of_text (drop t (inl refl)) ∙ drop_is_read)
-all_drop (t ∷ ts) (p ∷ ps) drop read (suc k) = all_drop ts ps (λ text m. drop text (inr m)) read.1 k
-
--- the packet goes to the chosen participant, and leaves by its port as it is, unless its route is a hole
-pub dropped_answer : (s : State) (ps : Policies) → TextsDrop s → ArePolicies s ps → (sender : Pid) (exporter hole : Pid → Bool) (chosen : Pid) (port : Pid → PortNo) (h : Headers)
-    → answer_by ps sender exporter hole chosen port h ≡ (if hole chosen then [] else record { headers = h; port = port chosen } ∷ [])
-dropped_answer s ps drop are sender exporter hole chosen port h =
-    ap (λ (t : Policy). union_over (received_at ps port h) (sent ps.named t exporter hole chosen h)) (all_drop s.outbound ps.outbound drop.outbound are.outbound sender.0)
-    ∙ by (hole chosen)
-  where
-    by : (b : Bool) → union_over (received_at ps port h) ((if b then Nowhere else To chosen) ∷ []) ≡ (if b then [] else record { headers = h; port = port chosen } ∷ [])
-    by true = refl
-    by false = ap (λ (t : Policy). received ps.named t (port chosen) h ++ []) (all_drop s.inbound ps.inbound drop.inbound are.inbound chosen.0)
 
 -- ---- by the offers and by the routes
 

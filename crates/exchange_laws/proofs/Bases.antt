@@ -1,5 +1,5 @@
 -- Lines build on a steady state, and on one with another policy of a participant.
-use Rattle.std.proofs.Common.{◌≡◌, ℕ, zero, suc, ◌<◌, Bool, true, false, cond, nat_eq, List, [], ◌∷◌, filter, length, sym, ap, subst, ◌∙◌, refl}
+use Rattle.std.proofs.Common.{◌≡◌, ℕ, zero, suc, Bool, true, false, cond, nat_eq, List, [], ◌∷◌, filter, length, sym, ap, subst, ◌∙◌, refl}
 use Rattle.std.specs.Prelude.{Option, Some, None, is_some, slice_set, unwrap_or}
 use Rattle.std.specs.FinMap.{get, keys}
 use Rattle.std.specs.Option.{option_and_then, option_map, option_map_or}
@@ -9,7 +9,6 @@ use Rattle.events.specs.After.{trimmed_kept}
 use Rattle.events.specs.Fits.{is_receivers, is_senders, none_rebuilt}
 use Rattle.events.specs.Sound.{owners_part, part_of}
 use Rattle.events.specs.State.{State, ArePolicies, AreRead, IsRead, port_of}
-use Rattle.events.specs.Tags.{is_live_pair}
 use Rattle.exchange_laws.proofs.Lists.{clash, get_tabulated, key_Member, some_of}
 use Rattle.exchange_laws.proofs.OwnHops.{none_passes}
 use Rattle.exchange_laws.proofs.Parts.{right_alike, trimmed_whole}
@@ -18,12 +17,11 @@ use Rattle.exchange_laws.proofs.RulesAfter.{sound_tagged}
 use Rattle.exchange_laws.proofs.Trimmed.{other_place, trimmed_signature}
 use Rattle.exchange_laws.proofs.Untouched.{is_some-map}
 use Rattle.exchange_laws.specs.Editing.{InboundBases, IsBase, OutboundBases, SteadyAreBases, inbound_base, outbound_base}
-use Rattle.exchange_laws.specs.Rules.{AreRightBut, IsRightAt, IsTagged}
-use Rattle.exchange_laws.specs.Steady.{IsSized, IsSteady}
+use Rattle.exchange_laws.specs.Rules.{IsRightAt, IsTagged}
+use Rattle.exchange_laws.specs.Steady.{IsSteady}
 use Rattle.exchange_laws.specs.Whole.{IsWhole, KeptAreWhole}
 use Rattle.net_types.proofs.FindLemmas.{find-IsFound}
 use Rattle.net_types.proofs.OrderLemmas.{tags_total}
-use Rattle.net_types.proofs.PassLemmas.{some_there}
 use Rattle.net_types.proofs.SetLemmas.{map-Member}
 use Rattle.net_types.proofs.TieLemmas.{same_from_tie, tag_cmp-IsAntisymmetric}
 use Rattle.net_types.specs.Answers.{Policies, is_offered, policy_of}
@@ -32,10 +30,9 @@ use Rattle.net_types.specs.Keys.{tag_cmp}
 use Rattle.net_types.specs.Naming.{named_in}
 use Rattle.net_types.specs.Policies.{Policy, Drop}
 use Rattle.net_types.specs.Sets.{Member}
-use Rattle.net_types.specs.Signatures.{counts, signature, trimmed, trimmed_part}
+use Rattle.net_types.specs.Signatures.{counts, trimmed, trimmed_part}
 use Rattle.net_types.specs.declared.address.Pid.{Pid}
 use Rattle.net_types.specs.declared.address.Tag.{Tag}
-use Rattle.net_types.specs.declared.prefix.Prefix.{Prefix}
 use Rattle.net_types.specs.declared.route.Offer.{Offer}
 use Rattle.net_types.specs.declared.route.Part.{Part}
 use Rattle.net_types.specs.declared.route.PortInfo.{PortInfo}

@@ -1,21 +1,16 @@
 -- What a line that builds rules puts into the table, and that right rules are some rules.
-use Rattle.std.proofs.Common.{◌≡◌, Bool, true, false, ◌||◌, ◌<◌, ◌^◌, not, List, [], sym, ap, subst, ◌∙◌, refl, arith}
+use Rattle.std.proofs.Common.{◌≡◌, Bool, ◌||◌, not, sym, ap, subst, ◌∙◌, refl, arith}
 use Rattle.std.specs.Prelude.{Option, Some, None, is_none, is_some}
 use Rattle.std.specs.FinMap.{get}
 use Rattle.events.specs.Sound.{IsRight}
 use Rattle.events.specs.State.{State}
-use Rattle.events.specs.Tags.{is_live_pair}
 use Rattle.exchange_laws.proofs.Lists.{some_of}
 use Rattle.exchange_laws.proofs.RulesAfter.{not_new}
 use Rattle.exchange_laws.specs.Listed.{HasLivePairs}
 use Rattle.exchange_laws.specs.Replies.{ChangesAreBuilt, RightRulesAreSome}
 use Rattle.exchange_laws.specs.Rules.{is_new}
-use Rattle.net_types.specs.Answers.{Policies}
-use Rattle.net_types.specs.declared.address.PortNo.{PortNo}
 use Rattle.net_types.specs.declared.headers.Headers.{Headers}
-use Rattle.net_types.specs.declared.route.Part.{Part}
 use Rattle.net_types.specs.declared.rule.Pair.{Pair}
-use Rattle.net_types.specs.declared.rule.Rule.{Rule}
 
 none_not : {A : Type 0} (o : Option A) → is_none o ≡ not (is_some o)
 none_not None = refl

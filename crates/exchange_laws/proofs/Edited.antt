@@ -12,8 +12,9 @@ use Rattle.exchange_laws.proofs.Built.{changes_are_built}
 use Rattle.exchange_laws.proofs.Flows.{replies_build_tables}
 use Rattle.exchange_laws.proofs.FullTables.{accepted_lines_fit}
 use Rattle.exchange_laws.proofs.Lists.{TableOf}
+use Rattle.exchange_laws.proofs.Rerouted.{rerouted}
 use Rattle.exchange_laws.proofs.RulesAfter.{tables_stay_sound}
-use Rattle.exchange_laws.specs.Editing.{EditsAreAccepted, IsEdit, ReroutingsAreEdits}
+use Rattle.exchange_laws.specs.Editing.{EditsAreAccepted, IsEdit, ReroutingsAreChanges, ReroutingsAreEdits}
 use Rattle.exchange_laws.specs.Replies.{HasNewRules}
 use Rattle.exchange_laws.specs.Rules.{AreRightBut, IsChange, IsTableAfter}
 use Rattle.net_types.specs.Exports.{Routing}
@@ -56,3 +57,9 @@ reroutings_are_edits s e r is = record {
   capacity = refl;
   answers = λ table reply built. answer_built s e reply (record (retagged s r) { table = table }) is.building built;
 }
+
+pub reroutings_are_changes : ReroutingsAreChanges
+reroutings_are_changes s e r base is =
+    let found = rerouted s e is.building is.passes in
+    let same : found.routing ≡ r = ap (λ (x : State). x.routing) (sym found.leaves ∙ is.leaves) in
+    subst (IsChange s) same (record { tagged = base.tagged; pooled = base.pooled; owners = base.owners; alike = found.alike; enough = found.enough })

@@ -10,9 +10,8 @@ use Rattle.events.specs.Refusals.{is_datagram}
 use Rattle.events.specs.State.{State, port_of, told_to}
 use Rattle.events.specs.declared.Entry.{Entry}
 use Rattle.events.specs.declared.Head.TheVariants.{Fine}
-use Rattle.exchange_laws.proofs.Dropping.{texts_drop}
 use Rattle.exchange_laws.proofs.Framing.{tag_at-framed, tagged_headers}
-use Rattle.exchange_laws.specs.Steady.{IsSteady}
+use Rattle.exchange_laws.specs.Steady.{HavePassed, IsSteady}
 use Rattle.net_types.proofs.FindLemmas.{find-IsFound}
 use Rattle.net_types.proofs.PassLemmas.{some_there}
 use Rattle.net_types.specs.Routes.{best}
@@ -43,7 +42,8 @@ forwarded s steady port q found bytes six_from low_port datagram p told has octe
       let at : port_of s q.number ≡ Some q = ap (port_of s) (same_number s.routing.ports port q found) ∙ found in
       let c = some_there (best s.routing q.owner p) routes in
       let k = tagged_headers q told.tag bytes six_from datagram in
-      routed s steady.sound steady.hops (texts_drop s s.routing.participants steady.drop.outbound steady.drop.inbound) q at (owner_below steady port q found) p told has tagged c.0 c.1 frame k.0 k.1
+      let passed : HavePassed s = steady.policies in
+      routed s steady.sound steady.hops passed.policies passed.read passed.passed q at (owner_below steady port q found) p told has tagged c.0 c.1 frame k.0 k.1
       (valid_headers q.number frame k.0 (subst (λ (x : PortNo). x.0 < 2 ^ 16) (sym (same_number s.routing.ports port q found)) low_port) octets k.1)
       (tag_at-framed told.tag q.mac bytes);
 }

@@ -1,5 +1,5 @@
 -- Which replies fit a line that no refusal before stops: it is accepted, or the table would be full.
-use Rattle.std.proofs.Common.{◌≡◌, Bool, true, false, sym, subst, refl, inl, inr}
+use Rattle.std.proofs.Common.{Bool, true, false, sym, subst, refl, inl, inr}
 use Rattle.events.specs.Fits.{FitsBy, IsAccepted, IsFull, Passes, bare, is_building}
 use Rattle.events.specs.State.{State, ArePolicies}
 use Rattle.events.specs.declared.Event.{Event}

@@ -4,7 +4,6 @@ pub mod Sames
 pub mod FreshTags
 pub mod TagsAfter
 pub mod LivePairs
-pub mod Dropping
 pub mod RulesAfter
 pub mod Flows
 pub mod Built
@@ -22,6 +21,7 @@ pub mod Counted
 pub mod OwnHops
 pub mod NewStates
 pub mod LineSteps
+pub mod PassedSteps
 pub mod SteadySteps
 pub mod QuietLines
 pub mod ListedPairs

@@ -1,45 +1,53 @@
--- What a line does to the state, where no refusal stops it: it gives the pool, declares, changes the routes, takes what is
--- pending, or has routers resolve addresses.
-use Rattle.std.proofs.Common.{◌≡◌, ℕ, ◌≤◌, ◌<◌, Bool, true, false, cond, ◌&&◌, nat_le, List, [], ◌∷◌, ◌++◌, length, sym, ap, subst, ◌∙◌, refl, inl, inr}
-use Rattle.std.specs.Prelude.{Option, Some, None, Result, Ok, Err, slice_set}
+-- What a line does to the state, where no refusal stops it: it gives the pool, declares, changes the routes or a policy, takes
+-- what is pending, or has routers resolve addresses.
+use Rattle.std.proofs.Common.{◌≡◌, ℕ, ◌≤◌, ◌<◌, Bool, true, false, cond, ◌&&◌, nat_le, nat_lt, List, [], ◌∷◌, ◌++◌, length, sym, ap, subst, ◌∙◌, refl, inl, inr}
+use Rattle.std.specs.Prelude.{Option, Some, None, Result, Ok, Err, slice_set, take}
+use Rattle.std.specs.FinMap.{FinMap}
 use Rattle.std.specs.Option.{option_map_or}
 use Rattle.std.proofs.lemmas.Bool.{leb-false}
-use Rattle.net_types.proofs.OrderedLemmas.{ordered_rises}
 use Rattle.events.proofs.Reached.{declared_pid}
-use Rattle.events.specs.After.{after, bound_read, ruled, running, settled, updated, with_known, with_participant, with_port, with_told, without_from}
+use Rattle.events.specs.After.{after, received_by, restarted, running, sent_by, settled, with_known, with_named, with_outbound, with_participant, with_port, with_told}
 use Rattle.events.specs.Forms.{IsWellFormed}
-use Rattle.events.specs.Refusals.{is_name_taken, is_placed, is_port_taken, refusal, refused_if}
+use Rattle.events.specs.Pending.{pending, with_all_news}
+use Rattle.events.specs.Refusals.{if_short, inbound_refusal, is_name_taken, is_placed, is_port_taken, isolation_refusal, outbound_refusal, policy_refusal, refusal, refused_if, tags_refusal}
 use Rattle.events.specs.Resolving.{is_pool_request, port_place, resolved_at, unresolved, with_answer, with_resolved}
-use Rattle.events.specs.State.{State, port_of, present}
+use Rattle.events.specs.State.{State, owner_of, port_of, present, told_to}
 use Rattle.events.specs.Tags.{retagged}
+use Rattle.events.specs.declared.Entry.{Entry}
 use Rattle.events.specs.declared.Event.{Event}
 use Rattle.events.specs.declared.Event.TheVariants.{Bad, Exchange, Participant as DeclaresParticipant, Port as DeclaresPort, Update, Down, Export, Outbound, Inbound, Take, Drain, Arp, Resolve, Packet, Frame, Recompile, Work, Table}
 use Rattle.events.specs.declared.Phase.{Phase}
 use Rattle.events.specs.declared.Phase.TheVariants.{Start, Declaring, Running}
-use Rattle.events.specs.declared.Refusal.TheVariants.{Clash, Full}
+use Rattle.events.specs.declared.Refusal.{Refusal}
+use Rattle.events.specs.declared.Refusal.TheVariants.{Clash, Full, TextLong, TooWide}
 use Rattle.exchange_laws.proofs.Lists.{clash}
 use Rattle.exchange_laws.proofs.OwnHops.{Member_set}
 use Rattle.exchange_laws.proofs.Rerouted.{Rerouted, known, neither, not_stopped, passes, rerouted, set_length}
+use Rattle.exchange_laws.proofs.ToldAnew.{news_are_known, present_are_known}
 use Rattle.exchange_laws.specs.Rerouting.{is_rerouting}
+use Rattle.exchange_laws.specs.Telling.{AreKnownTo}
+use Rattle.grammar.specs.TextReading.{Fault as Misread}
+use Rattle.net_types.proofs.OrderLemmas.{ips_total}
+use Rattle.net_types.proofs.OrderedLemmas.{ordered_rises}
 use Rattle.net_types.proofs.TieLemmas.{same_from_tie, ip_cmp-IsAntisymmetric}
 use Rattle.net_types.specs.Arp.{asked_ip, asker_mac}
-use Rattle.net_types.specs.ExportReading.{rules_of_text}
 use Rattle.net_types.specs.Exports.{pid_of}
-use Rattle.net_types.specs.Keys.{ip_cmp, is_ip_before}
+use Rattle.net_types.specs.Isolation.{in_faults, out_faults}
+use Rattle.net_types.specs.Keys.{ip_cmp, is_ip_before, prefix_cmp}
 use Rattle.net_types.specs.Maps.{ordered}
+use Rattle.net_types.specs.Naming.{named_in}
 use Rattle.net_types.specs.Octets.{same_octets}
+use Rattle.net_types.specs.Policies.{Policy}
+use Rattle.net_types.specs.PolicyReading.{policy_of_text}
 use Rattle.net_types.specs.Sets.{IsRising, Member}
-use Rattle.net_types.specs.UpdateReading.{decoded}
+use Rattle.net_types.specs.Widths.{is_too_wide}
 use Rattle.net_types.specs.declared.address.Ip.{Ip}
 use Rattle.net_types.specs.declared.address.Mac.{Mac}
 use Rattle.net_types.specs.declared.address.Pid.{Pid}
 use Rattle.net_types.specs.declared.address.PortNo.{PortNo}
-use Rattle.net_types.specs.declared.export.ExportRule.{ExportRule}
+use Rattle.net_types.specs.declared.isolation.IsolateFault.{IsolateFault}
 use Rattle.net_types.specs.declared.route.Participant.{Participant}
 use Rattle.net_types.specs.declared.route.PortInfo.{PortInfo}
-use Rattle.net_types.specs.declared.update.Fault.{Fault}
-use Rattle.net_types.specs.declared.update.Update.{Update as Message}
-use Rattle.net_types.proofs.OrderLemmas.{ips_total}
 
 -- each list of addresses ascends
 abbrev pub AllRise : List (List Ip) → Type 0
@@ -60,9 +68,17 @@ pub data QuietStep (s : State) : State → Type 0 where
   port : (q : PortInfo) → s.phase ≡ Declaring → q.owner.0 < length s.routing.participants → is_port_taken s q.number q.ip q.mac ≡ false → (1 ≤ q.number.0) × (q.number.0 ≤ 65279) → QuietStep s (with_port s q)
   resolved : (lists : List (List Ip)) → (s.phase ≡ Start → ⊥) → length lists ≡ length s.resolved → (AllRise s.resolved → AllRise lists) → QuietStep s (resolving s lists)
 
--- the state in which a participant took what is pending
-abbrev pub taken : State → Pid → State
-taken s who = settled (running (with_told s who (present s who)))
+-- the state in which a participant was told just these, without the signatures that are live no more
+abbrev pub told_so : State → Pid → FinMap prefix_cmp Entry → State
+told_so s who entries = settled (running (with_told s who entries))
+
+-- the state with another outbound policy, which names these
+abbrev pub sending : State → Pid → List ℕ → List Pid → State
+sending s who text named = restarted (retagged (with_outbound s who text named) (with_named s.routing who named))
+
+-- the state with another inbound policy
+abbrev pub receiving : State → Pid → List ℕ → State
+receiving s who text = restarted (running (record s { inbound = slice_set s.inbound who.0 text }))
 
 -- ---- phases
 
@@ -152,39 +168,77 @@ running_step s e out none = same_resolved s (not_at_start s e out (passes s e no
 -- what a line does that no refusal stops
 pub data Step (s : State) (e : Event) : State → Type 0 where
   quiet : (s1 : State) → QuietStep s s1 → Step s e s1
-  routes : (after : Rerouted s e) → after.routing.named ≡ s.routing.named → (s.phase ≡ Start → ⊥) → Step s e (retagged s after.routing)
-  told : (who : Pid) → (s.phase ≡ Start → ⊥) → Step s e (taken s who)
-
--- whom the policies name stays
-known_named : {X : Type 0} (s : State) (o : Option X) (f : X → State) → ((x : X) → (f x).routing.named ≡ s.routing.named) → (with_known s o f).routing.named ≡ s.routing.named
-known_named s None f same = refl
-known_named s (Some x) f same = same x
-
-updated_named : (s : State) (who : Pid) (read : Result Message Fault) → (updated s who read).routing.named ≡ s.routing.named
-updated_named s who (Ok u) = refl
-updated_named s who (Err fault) = refl
-
-ruled_named : (s : State) (who : Pid) (rules : Option (List ExportRule)) → (ruled s who rules).routing.named ≡ s.routing.named
-ruled_named s who (Some rules) = refl
-ruled_named s who None = refl
-
-still_named : (s : State) (e : Event) → is_rerouting e ≡ true → (after s e).routing.named ≡ s.routing.named
-still_named s (Update name bytes) rerouting = known_named s (pid_of s.routing name) (λ who. updated s who (decoded bytes)) (λ who. updated_named s who (decoded bytes))
-still_named s (Down name) rerouting = known_named s (pid_of s.routing name) (λ who. retagged s (without_from s.routing who)) (λ who. refl)
-still_named s (Export name text) rerouting =
-    known_named s (pid_of s.routing name) (λ who. ruled s who (bound_read s.routing (rules_of_text text))) (λ who. ruled_named s who (bound_read s.routing (rules_of_text text)))
-still_named s e rerouting = absurd (cc)
+  routes : (after : Rerouted s e) → (s.phase ≡ Start → ⊥) → Step s e (retagged s after.routing)
+  told : (who : Pid) (entries : FinMap prefix_cmp Entry) → (s.phase ≡ Start → ⊥) → AreKnownTo s who entries → Step s e (told_so s who entries)
+  sends : (who : Pid) (text : List ℕ) (p : Policy) → (s.phase ≡ Start → ⊥) → policy_of_text text ≡ Ok p → out_faults (pid_of s.routing) (owner_of s) who p ≡ []
+      → Step s e (sending s who text (named_in (pid_of s.routing) p))
+  receives : (who : Pid) (text : List ℕ) (p : Policy) → (s.phase ≡ Start → ⊥) → policy_of_text text ≡ Ok p → in_faults (owner_of s) who p ≡ [] → Step s e (receiving s who text)
 
 rerouting_step : (s : State) (e : Event) → is_rerouting e ≡ true → is_placed Start e ≡ false → refusal s e ≡ None → Step s e (after s e)
 rerouting_step s e rerouting out none =
     let r = rerouted s e rerouting none in
-    subst (Step s e) (sym r.leaves) (routes r (sym (ap (λ (x : State). x.routing.named) r.leaves) ∙ still_named s e rerouting) (not_at_start s e out (passes s e none).0))
+    subst (Step s e) (sym r.leaves) (routes r (not_at_start s e out (passes s e none).0))
 
 drain_step : (s : State) (name : List ℕ) → refusal s (Drain name) ≡ None → Step s (Drain name) (after s (Drain name))
 drain_step s name none =
     let free = passes s (Drain name) none in
     let who = known (pid_of s.routing name) (λ w. None) free.1 in
-    subst (λ o. Step s (Drain name) (with_known s o (λ w. taken s w))) (sym who.1) (told who.0 (not_at_start s (Drain name) refl free.0))
+    subst (λ o. Step s (Drain name) (with_known s o (λ w. told_so s w (present s w)))) (sym who.1)
+    (told who.0 (present s who.0) (not_at_start s (Drain name) refl free.0) (present_are_known s who.0))
+
+take_step : (s : State) (name : List ℕ) (count : ℕ) → refusal s (Take name count) ≡ None → Step s (Take name count) (after s (Take name count))
+take_step s name count none =
+    let free = passes s (Take name count) none in
+    let who = known (pid_of s.routing name) (λ w. None) free.1 in
+    let entries : Pid → FinMap prefix_cmp Entry = λ w. with_all_news (present s w) (told_to s w) (take count (pending s w)) in
+    subst (λ o. Step s (Take name count) (with_known s o (λ w. told_so s w (entries w)))) (sym who.1)
+    (told who.0 (entries who.0) (not_at_start s (Take name count) refl free.0) (news_are_known s who.0 (take count (pending s who.0))))
+
+-- ---- policies
+
+-- a text that isn't too long
+pub short : (b : Bool) (o : Option Refusal) → cond b (Some TextLong) o ≡ None → o ≡ None
+short true o none = absurd (cc)
+short false o none = none
+
+no_faults : (faults : List IsolateFault) → isolation_refusal faults ≡ None → faults ≡ []
+no_faults [] none = refl
+no_faults (fault ∷ faults) none = absurd (cc)
+
+-- what isolation and the widths don't refuse has no fault
+no_fault : (faults : List IsolateFault) (p : Policy) → policy_refusal faults p ≡ None → faults ≡ []
+no_fault faults p none = no_faults faults (neither (isolation_refusal faults) (refused_if (is_too_wide p) TooWide) none).0
+
+sends_read : (s : State) (e : Event) (who : Pid) (text : List ℕ) (o : Result Policy Misread) → (s.phase ≡ Start → ⊥) → policy_of_text text ≡ o → outbound_refusal s who text o ≡ None → Step s e (sent_by s who text o)
+sends_read s e who text (Err fault) later read none = absurd (cc)
+sends_read s e who text (Ok p) later read none =
+    let named : List Pid = named_in (pid_of s.routing) p in
+    let faults : List IsolateFault = out_faults (pid_of s.routing) (owner_of s) who p in
+    sends who text p later read (no_fault faults p (neither (policy_refusal faults p) (tags_refusal (with_outbound s who text named) (with_named s.routing who named)) none).0)
+
+receives_read : (s : State) (e : Event) (who : Pid) (text : List ℕ) (o : Result Policy Misread) → (s.phase ≡ Start → ⊥) → policy_of_text text ≡ o → inbound_refusal s who o ≡ None → Step s e (received_by s who text o)
+receives_read s e who text (Err fault) later read none = absurd (cc)
+receives_read s e who text (Ok p) later read none = receives who text p later read (no_fault (in_faults (owner_of s) who p) p none)
+
+outbound_step : (s : State) (name text : List ℕ) → refusal s (Outbound name text) ≡ None → Step s (Outbound name text) (after s (Outbound name text))
+outbound_step s name text none =
+    let e : Event = Outbound name text in
+    let free = passes s e none in
+    let refuses : Pid → Option Refusal = λ w. outbound_refusal s w text (policy_of_text text) in
+    let who = known (pid_of s.routing name) (λ w. if_short text (refuses w)) free.1 in
+    subst (λ o. Step s e (with_known s o (λ w. sent_by s w text (policy_of_text text)))) (sym who.1)
+    (sends_read s e who.0 text (policy_of_text text) (not_at_start s e refl free.0) refl (short (nat_lt 8192 (length text)) (refuses who.0) who.2))
+
+inbound_step : (s : State) (name text : List ℕ) → refusal s (Inbound name text) ≡ None → Step s (Inbound name text) (after s (Inbound name text))
+inbound_step s name text none =
+    let e : Event = Inbound name text in
+    let free = passes s e none in
+    let refuses : Pid → Option Refusal = λ w. inbound_refusal s w (policy_of_text text) in
+    let who = known (pid_of s.routing name) (λ w. if_short text (refuses w)) free.1 in
+    subst (λ o. Step s e (with_known s o (λ w. received_by s w text (policy_of_text text)))) (sym who.1)
+    (receives_read s e who.0 text (policy_of_text text) (not_at_start s e refl free.0) refl (short (nat_lt 8192 (length text)) (refuses who.0) who.2))
+
+-- ---- each line
 
 pub step_of : (s : State) (e : Event) → refusal s e ≡ None → IsWellFormed e → Step s e (after s e)
 step_of s Bad none formed = absurd (let never = (passes s Bad none).1 in cc)
@@ -194,9 +248,9 @@ step_of s (DeclaresPort name number ip mac) none formed = quiet _ (port_step s n
 step_of s (Update name bytes) none formed = rerouting_step s (Update name bytes) refl refl none
 step_of s (Down name) none formed = rerouting_step s (Down name) refl refl none
 step_of s (Export name text) none formed = rerouting_step s (Export name text) refl refl none
-step_of s (Outbound name text) none formed = absurd formed
-step_of s (Inbound name text) none formed = absurd formed
-step_of s (Take name count) none formed = absurd formed
+step_of s (Outbound name text) none formed = outbound_step s name text none
+step_of s (Inbound name text) none formed = inbound_step s name text none
+step_of s (Take name count) none formed = take_step s name count none
 step_of s (Drain name) none formed = drain_step s name none
 step_of s (Arp n bytes) none formed = quiet _ (arp_step s n bytes none)
 step_of s (Resolve n) none formed = quiet _ (resolve_step s n none)

@@ -1,5 +1,5 @@
 -- Rising lists of the pairs whose rules go and of those whose rules come are what a reply lists.
-use Rattle.std.proofs.Common.{◌≡◌, Bool, true, false, cond, ◌||◌, T, List, [], ◌∷◌, map, sym, ap, subst, ◌∙◌, refl, inl, inr}
+use Rattle.std.proofs.Common.{◌≡◌, Bool, true, false, cond, ◌||◌, not, T, List, [], ◌∷◌, map, sym, ap, subst, ◌∙◌, refl, inl, inr}
 use Rattle.std.specs.Prelude.{Option, Some, None, is_none, is_some}
 use Rattle.std.specs.FinMap.{IsAntisymmetric, contains_key-keys, entries, entries_sorted, find, get, get-entries, is_sorted, keys}
 use Rattle.std.specs.FinMap.Entries.{below_all, find-where_key, is_sorted-where_key, same_entries, where_key}
@@ -8,12 +8,12 @@ use Rattle.std.specs.Ordering.{eq_by_cmp, is_lt}
 use Rattle.std.specs.declared.cmp.Ordering.{Ordering}
 use Rattle.std.proofs.lemmas.Bool.{and_from, and_parts}
 use Rattle.net_types.proofs.OrderedLemmas.{any_member, member_any}
-use Rattle.events.specs.Fits.{added, dropped, flows_of}
+use Rattle.events.specs.Fits.{added, dropped, flows_of, none_rebuilt}
 use Rattle.events.specs.State.{State}
 use Rattle.events.specs.Tags.{is_live_pair}
 use Rattle.exchange_laws.proofs.Built.{absent_new}
 use Rattle.exchange_laws.proofs.Lists.{clash, key_Member}
-use Rattle.exchange_laws.specs.Listed.{AreThose, GoneAreDropped, HasLivePairs, NewAreAdded, comes}
+use Rattle.exchange_laws.specs.Listed.{AreLiveOnly, AreThose, GoneAreDropped, HasLivePairs, NewAreAdded, comes, goes}
 use Rattle.exchange_laws.specs.Rules.{is_new}
 use Rattle.net_types.proofs.OrderLemmas.{pairs_total}
 use Rattle.net_types.proofs.RisingLemmas.{Member-filter, before, before_itself, before_trans, filter-IsRising, filter-Member, keys-IsRising}
@@ -26,6 +26,10 @@ use Rattle.net_types.specs.declared.rule.Rule.{Rule}
 
 tie : (x y : Pair) → eq_by_cmp pair_cmp x y ≡ true → x ≡ y
 tie = same_from_tie pair_cmp pair_cmp-IsAntisymmetric
+
+dead : (b : Bool) → (not b || false) ≡ true → b ≡ false
+dead true e = absurd (cc)
+dead false e = refl
 
 -- ---- the pairs whose rules go
 
@@ -40,6 +44,22 @@ gone_are_dropped s s1 is_rebuilt ks has has1 are = rising_unique (before pair_cm
           let each = and_parts (is_live_pair s pair) (is_new s1 is_rebuilt pair) (are.each pair m) in
           Member-filter (λ k. is_none (get s1.table k) || is_rebuilt k) (keys s.table) pair (key_Member pair_cmp pairs_total tie s.table pair (has pair ∙ each.0)) (absent_new s1 is_rebuilt has1 pair ∙ each.1);
     })
+
+-- where no pair is built anew, the rules go of those that are live no more
+pub those_gone : (s s1 : State) (ks : List Pair) → AreLiveOnly s s1 ks → AreThose (goes s s1 none_rebuilt) ks
+those_gone s s1 ks are = record {
+  rising = are.rising;
+  each = λ pair m. let each = are.each pair m in and_from (is_live_pair s pair) (not (is_live_pair s1 pair) || false) each.0 (ap (λ b. not b || false) each.1);
+  all = λ pair e. let parts = and_parts (is_live_pair s pair) (not (is_live_pair s1 pair) || false) e in are.all pair parts.0 (dead (is_live_pair s1 pair) parts.1);
+}
+
+-- and those of the pairs come that become live
+pub those_come : (s s1 : State) (ks : List Pair) → AreLiveOnly s1 s ks → AreThose (comes s s1 none_rebuilt) ks
+those_come s s1 ks are = record {
+  rising = are.rising;
+  each = λ pair m. let each = are.each pair m in and_from (is_live_pair s1 pair) (not (is_live_pair s pair) || false) each.0 (ap (λ b. not b || false) each.1);
+  all = λ pair e. let parts = and_parts (is_live_pair s1 pair) (not (is_live_pair s pair) || false) e in are.all pair parts.0 (dead (is_live_pair s pair) parts.1);
+}
 
 -- ---- entries of rising keys
 

@@ -1,30 +1,35 @@
 -- A state without routes and tags, in which nobody was told anything, has no live tags and is sound.
-use Rattle.std.proofs.Common.{◌≡◌, false, List, [], ◌∷◌, length, map, sum_by, sym, ap, subst, ◌∙◌, refl, arith}
-use Rattle.std.specs.Prelude.{Option, Some, None, is_some}
+use Rattle.std.proofs.Common.{◌≡◌, ℕ, zero, suc, false, List, [], ◌∷◌, length, map, sum_by, sym, ap, subst, ◌∙◌, refl, arith}
+use Rattle.std.specs.Prelude.{Option, Some, None, codes, is_some, slice_get, unwrap_or}
 use Rattle.std.specs.FinMap.{FinMap, empty, get, get-empty, keys, same_map, values}
 use Rattle.std.specs.List.{list_any}
 use Rattle.std.proofs.lemmas.Bool.{false_from_ne_true, or_from}
+use Rattle.std.proofs.lemmas.List.{length-map}
+use Rattle.events.proofs.DropText.{drop_is_read}
 use Rattle.events.specs.Sound.{IsSound, rule_count}
-use Rattle.events.specs.State.{State, AreRead, ArePolicies}
+use Rattle.events.specs.State.{State, AreRead, ArePolicies, owner_of}
 use Rattle.events.specs.Tags.{is_carried, is_live, is_live_pair, same_tag, tells}
 use Rattle.events.specs.declared.Entry.{Entry}
-use Rattle.exchange_laws.proofs.Dropping.{dropped_read}
 use Rattle.exchange_laws.proofs.FreshTags.{carried_announced}
 use Rattle.exchange_laws.proofs.LivePairs.{live_tag}
 use Rattle.exchange_laws.proofs.Lists.{TableOf, any_found, clash}
-use Rattle.exchange_laws.specs.Rules.{AllDrop}
-use Rattle.exchange_laws.specs.Steady.{IsNew}
+use Rattle.exchange_laws.specs.Steady.{AllDrop, HavePassed, IsNew}
 use Rattle.net_types.proofs.OrderLemmas.{pairs_total}
 use Rattle.net_types.proofs.TieLemmas.{pair_cmp-IsAntisymmetric}
 use Rattle.net_types.proofs.ValueLemmas.{no_entries}
-use Rattle.net_types.specs.Answers.{Policies}
+use Rattle.net_types.specs.Answers.{Policies, policy_of}
 use Rattle.net_types.specs.Exports.{pid_of}
-use Rattle.net_types.specs.Keys.{RouteKey, pair_cmp, prefix_cmp, route_cmp}
+use Rattle.net_types.specs.Isolation.{in_faults, out_faults}
+use Rattle.net_types.specs.Keys.{RouteKey, pair_cmp, pid_cmp, prefix_cmp, route_cmp}
+use Rattle.net_types.specs.Maps.{ordered}
+use Rattle.net_types.specs.Naming.{named_in}
 use Rattle.net_types.specs.Policies.{Drop}
 use Rattle.net_types.specs.Sets.{Member}
+use Rattle.net_types.specs.declared.address.Pid.{Pid}
 use Rattle.net_types.specs.declared.address.Tag.{Tag}
 use Rattle.net_types.specs.declared.prefix.Prefix.{Prefix}
 use Rattle.net_types.specs.declared.route.Attrs.{Attrs}
+use Rattle.net_types.specs.declared.route.Participant.{Participant}
 use Rattle.net_types.specs.declared.rule.Pair.{Pair}
 use Rattle.net_types.specs.declared.rule.Rule.{Rule}
 
@@ -69,6 +74,10 @@ module _ (s : State) (new : IsNew s) where
 
 -- ---- policies that drop
 
+dropped_read : (ms : List Participant) → AreRead (map (λ m. codes "drop") ms) (map (λ m. Drop) ms)
+dropped_read [] = tt
+dropped_read (m ∷ ms) = (drop_is_read, dropped_read ms)
+
 pub drop_policies : (s : State) → AllDrop s → (ps : Policies) × ArePolicies s ps
 drop_policies s drop = (
   record { named = pid_of s.routing; outbound = map (λ m. Drop) s.routing.participants; inbound = map (λ m. Drop) s.routing.participants },
@@ -79,14 +88,55 @@ drop_policies s drop = (
   },
 )
 
+-- each of them drops
+each_drops : (ms : List Participant) (k : ℕ) → unwrap_or (slice_get (map (λ m. Drop) ms) k) Drop ≡ Drop
+each_drops [] zero = refl
+each_drops [] (suc k) = refl
+each_drops (m ∷ ms) zero = refl
+each_drops (m ∷ ms) (suc k) = each_drops ms k
+
+-- and nobody is named
+abbrev pub nobody : List Pid
+nobody = []
+
+names_nobody : (ms : List Participant) (k : ℕ) → unwrap_or (slice_get (map (λ m. nobody) ms) k) [] ≡ []
+names_nobody [] zero = refl
+names_nobody [] (suc k) = refl
+names_nobody (m ∷ ms) zero = refl
+names_nobody (m ∷ ms) (suc k) = names_nobody ms k
+
+none_in_order : ordered pid_cmp [] ≡ []
+none_in_order = ap (map (λ (e : Pid × Pid). e.0)) (no_entries Pid Pid pid_cmp)
+
+-- policies that drop passed isolation
+pub new_passed : (s : State) → AllDrop s → HavePassed s
+unfolding drop_policies
+new_passed s drop =
+    let policies = drop_policies s drop in
+    let ps : Policies = policies.0 in
+    let drops : (who : Pid) → policy_of (map (λ m. Drop) s.routing.participants) who ≡ Drop = λ who. each_drops s.routing.participants who.0 in record {
+      policies = ps;
+      read = policies.1;
+      passed = record {
+        outbound = λ who. ap (out_faults (pid_of s.routing) (owner_of s) who) (drops who);
+        inbound = λ who. ap (in_faults (owner_of s) who) (drops who);
+        named = λ who.
+            ap (λ (names : List (List Pid)). unwrap_or (slice_get names who.0) []) drop.named
+            ∙ names_nobody s.routing.participants who.0 ∙ sym none_in_order ∙ sym (ap (named_in (pid_of s.routing)) (drops who));
+      };
+      outbound = ap length drop.outbound ∙ length-map s.routing.participants (λ (m : Participant). codes "drop");
+      inbound = ap length drop.inbound ∙ length-map s.routing.participants (λ (m : Participant). codes "drop");
+      named = ap length drop.named ∙ length-map s.routing.participants (λ (m : Participant). nobody);
+    }
+
 -- ---- soundness
 
 pub no_rules : (t : TableOf) → ((pair : Pair) → is_some (get t pair) ≡ false) → t ≡ empty
 no_rules t none = same_map pairs_total pair_cmp-IsAntisymmetric t empty (λ pair. none_there (get t pair) (none pair) ∙ sym (get-empty pair_cmp pair))
 
-pub new_sound : (s : State) → IsNew s → AllDrop s → ((pair : Pair) → is_some (get s.table pair) ≡ false) → IsSound s
-new_sound s new drop none =
-    let policies = drop_policies s drop in record {
+pub new_sound : (s : State) → IsNew s → ((pair : Pair) → is_some (get s.table pair) ≡ false) → IsSound s
+new_sound s new none =
+    let policies = drop_policies s new.drop in record {
       pairs = λ pair. none pair ∙ sym (no_pair s new pair);
       right = (policies.0, policies.1, λ pair rules e. absurd (not_there (get s.table pair) rules (none_there (get s.table pair) (none pair)) e));
       few =

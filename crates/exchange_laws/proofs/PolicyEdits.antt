@@ -1,20 +1,26 @@
 -- Lines of policies that no refusal stops build rules on a steady state with the new policy.
-use Rattle.std.proofs.Common.{◌≡◌, ℕ, List, sym, ap, subst, ◌∙◌, refl}
+use Rattle.std.proofs.Common.{◌≡◌, ℕ, ◌≤◌, Bool, true, false, cond, List, [], length, nat_lt, sym, ap, subst, ◌∙◌, refl, arith}
 use Rattle.std.specs.Prelude.{Option, None, Some, MatchOption, Ok}
 use Rattle.std.specs.Option.{option_map}
 use Rattle.events.specs.After.{after, restarted, received_by, running, sent_by, with_known, with_named, with_outbound}
 use Rattle.events.specs.Fits.{IsAnswer, IsBuilt, is_receivers, is_senders}
-use Rattle.events.specs.State.{State}
-use Rattle.events.specs.Tags.{retagged}
+use Rattle.events.proofs.Reached.{declared_pid}
+use Rattle.events.specs.Refusals.{if_known, if_short, outbound_refusal, policy_refusal, tags_refusal}
+use Rattle.events.specs.State.{State, owner_of}
+use Rattle.events.specs.Tags.{Group, free_tags, groups, retagged}
 use Rattle.events.specs.declared.Event.TheVariants.{Outbound, Inbound}
+use Rattle.events.specs.declared.Refusal.{Refusal}
+use Rattle.events.specs.declared.Refusal.TheVariants.{TextLong}
 use Rattle.events.specs.declared.Reply.{Reply}
-use Rattle.exchange_laws.proofs.Bases.{received_base}
+use Rattle.exchange_laws.proofs.Bases.{outbound_bases, received_base}
 use Rattle.exchange_laws.proofs.Lists.{TableOf}
-use Rattle.exchange_laws.proofs.SameRoutes.{routes_stay}
+use Rattle.exchange_laws.proofs.Rerouted.{enough_tags, neither, passes}
+use Rattle.exchange_laws.proofs.SameRoutes.{no_groups, routes_stay}
 use Rattle.exchange_laws.specs.Steady.{IsSteady}
-use Rattle.exchange_laws.specs.Editing.{InboundsAreEdits, OutboundsAreEdits, inbound_base, outbound_base}
+use Rattle.exchange_laws.specs.Editing.{InboundsAreChanges, InboundsAreEdits, OutboundsAreChanges, OutboundsAreEdits, inbound_base, outbound_base}
 use Rattle.exchange_laws.specs.Unchanged.{OwesFew}
 use Rattle.net_types.specs.Exports.{Routing, pid_of}
+use Rattle.net_types.specs.Isolation.{out_faults}
 use Rattle.net_types.specs.Naming.{named_in}
 use Rattle.net_types.specs.Policies.{Policy}
 use Rattle.net_types.specs.PolicyReading.{policy_of_text}
@@ -66,6 +72,26 @@ outbounds_are_edits s name text who p steady declared read none = record {
   answers = answers s name text who p steady.idle declared read;
 }
 
+-- where no refusal stops it there are enough tags
+short_passes : (b : Bool) (o : Option Refusal) → cond b (Some TextLong) o ≡ None → o ≡ None
+short_passes true o none = absurd (cc)
+short_passes false o none = none
+
+pub outbounds_are_changes : OutboundsAreChanges
+outbounds_are_changes s name text who p steady declared read none =
+    let base = outbound_bases s who text p steady (declared_pid s.routing name who declared) read in
+    let r1 : Routing = with_named s.routing who (named_in (pid_of s.routing) p) in
+    let first : if_short text (outbound_refusal s who text (policy_of_text text)) ≡ None =
+    sym (ap (λ o. if_known o (λ w. if_short text (outbound_refusal s w text (policy_of_text text)))) declared) ∙ (passes s (Outbound name text) none).1 in
+    let second : outbound_refusal s who text (Ok p) ≡ None = ap (outbound_refusal s who text) (sym read) ∙ short_passes (nat_lt 8192 (length text)) (outbound_refusal s who text (policy_of_text text)) first in
+    let before : State = with_outbound s who text (named_in (pid_of s.routing) p) in record {
+      tagged = base.tagged;
+      pooled = base.pooled;
+      owners = base.owners;
+      alike = record { participants = refl; ports = refl };
+      enough = enough_tags before r1 (neither (policy_refusal (out_faults (pid_of s.routing) (owner_of s) who p) p) (tags_refusal before r1) second).1;
+    }
+
 -- ---- an inbound policy
 
 module _ (s : State) (name text : List ℕ) (who : Pid) (p : Policy) (steady : IsSteady s) (declared : pid_of s.routing name ≡ Some who) (read : policy_of_text text ≡ Ok p) where
@@ -106,3 +132,14 @@ inbounds_are_edits s name text who p steady declared read none = record {
   capacity = refl;
   answers = received_answers s name text who p steady declared read;
 }
+
+pub inbounds_are_changes : InboundsAreChanges
+inbounds_are_changes s who text p steady read =
+    let base = received_base s steady who text p read in
+    let none : groups (inbound_base s who text) s.routing ≡ [] = no_groups (inbound_base s who text) base.tagged in record {
+      tagged = base.tagged;
+      pooled = base.pooled;
+      owners = base.owners;
+      alike = record { participants = refl; ports = refl };
+      enough = subst (λ (gs : List Group). length gs ≤ length (free_tags (inbound_base s who text))) (sym none) (omega arith);
+    }

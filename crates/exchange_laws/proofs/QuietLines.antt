@@ -17,7 +17,7 @@ use Rattle.events.specs.declared.Reply.{Reply}
 use Rattle.exchange_laws.proofs.LineSteps.{QuietStep, arp_step, exchange_step, participant, participant_step, pool, port, port_step, resolve_step, resolved, running_step}
 use Rattle.exchange_laws.proofs.NewStates.{new_sound, no_pair}
 use Rattle.exchange_laws.proofs.Rerouted.{passes}
-use Rattle.exchange_laws.proofs.SteadySteps.{IsTidy, not_running, not_running_yet, quiet_tidy, tidy}
+use Rattle.exchange_laws.proofs.SteadySteps.{IsNewYet, not_running, not_running_yet, quiet_new}
 use Rattle.exchange_laws.specs.Quiet.{QuietLinesAreAccepted, is_quiet}
 use Rattle.exchange_laws.specs.Steady.{IsNew, IsSteady}
 use Rattle.net_types.specs.Arp.{arp_reply, asked_ip, asker_ip, asker_mac}
@@ -37,9 +37,9 @@ quiet_step s (DeclaresPort name number ip mac) none formed calm = port_step s na
 quiet_step s (Update name bytes) none formed calm = absurd (cc)
 quiet_step s (Down name) none formed calm = absurd (cc)
 quiet_step s (Export name text) none formed calm = absurd (cc)
-quiet_step s (Outbound name text) none formed calm = absurd formed
-quiet_step s (Inbound name text) none formed calm = absurd formed
-quiet_step s (Take name count) none formed calm = absurd formed
+quiet_step s (Outbound name text) none formed calm = absurd (cc)
+quiet_step s (Inbound name text) none formed calm = absurd (cc)
+quiet_step s (Take name count) none formed calm = absurd (cc)
 quiet_step s (Drain name) none formed calm = absurd (cc)
 quiet_step s (Arp n bytes) none formed calm = arp_step s n bytes none
 quiet_step s (Resolve n) none formed calm = resolve_step s n none
@@ -61,14 +61,11 @@ step_table s (resolved lists later long rising) = refl
 no_pairs : (s : State) → IsSteady s → IsNew s → (pair : Pair) → is_some (get s.table pair) ≡ false
 no_pairs s steady new pair = steady.sound.pairs pair ∙ no_pair s new pair
 
-sound_after : (s : State) {s1 : State} → QuietStep s s1 → IsSteady s → IsTidy s1 → IsSound s1
-sound_after s {s1} (pool base size capacity start formed) steady is =
-    new_sound s1 (is.new (λ e. cc)) is.drop (no_pairs s steady (steady.new (not_running s start)))
-sound_after s {s1} (participant m declaring few) steady is =
-    new_sound s1 (is.new (not_running_yet s declaring)) is.drop (no_pairs s steady (steady.new (not_running_yet s declaring)))
-sound_after s {s1} (port q declaring declared free number) steady is =
-    new_sound s1 (is.new (not_running_yet s declaring)) is.drop (no_pairs s steady (steady.new (not_running_yet s declaring)))
-sound_after s (resolved lists later long rising) steady is =
+sound_after : (s : State) {s1 : State} → QuietStep s s1 → IsSteady s → IsNewYet s1 → IsSound s1
+sound_after s {s1} (pool base size capacity start formed) steady yet = new_sound s1 (yet (λ e. cc)) (no_pairs s steady (steady.new (not_running s start)))
+sound_after s {s1} (participant m declaring few) steady yet = new_sound s1 (yet (not_running_yet s declaring)) (no_pairs s steady (steady.new (not_running_yet s declaring)))
+sound_after s {s1} (port q declaring declared free number) steady yet = new_sound s1 (yet (not_running_yet s declaring)) (no_pairs s steady (steady.new (not_running_yet s declaring)))
+sound_after s (resolved lists later long rising) steady yet =
     let sound : IsSound s = steady.sound in record {
       pairs = sound.pairs;
       right = (sound.right.0, record { names = sound.right.1.names; outbound = sound.right.1.outbound; inbound = sound.right.1.inbound }, sound.right.2);
@@ -145,5 +142,5 @@ pub quiet_lines_are_accepted : QuietLinesAreAccepted
 quiet_lines_are_accepted s e reply steady formed none calm answer =
     let step : QuietStep s (after s e) = quiet_step s e none formed calm in
     let is : next s e reply ≡ after s e = answer_next s e reply (next s e reply) calm answer ∙ (λ i. record (after s e) { table = sym (step_table s step) i }) in
-    let accepted : IsAccepted s e reply = record { answer = answer; sound = subst IsSound (sym is) (sound_after s step steady (quiet_tidy s step (tidy s steady))) } in
+    let accepted : IsAccepted s e reply = record { answer = answer; sound = subst IsSound (sym is) (sound_after s step steady (quiet_new s step steady.new)) } in
     (is, subst (λ o. FitsBy o s e reply) (sym none) (subst (λ b. Passes b s e reply) (sym (builds_nothing e calm)) accepted))

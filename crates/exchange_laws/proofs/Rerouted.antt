@@ -60,7 +60,7 @@ pub known : {X : Type 0} (o : Option X) (f : X → Option Refusal) → if_known 
 known None f e = absurd (cc)
 known (Some x) f e = (x, refl, e)
 
-enough_tags : (s : State) (r : Routing) → tags_refusal s r ≡ None → HasEnoughTags s r
+pub enough_tags : (s : State) (r : Routing) → tags_refusal s r ≡ None → HasEnoughTags s r
 enough_tags s r e = ltb-false (length (free_tags s)) (length (groups s r)) (not_stopped (nat_lt (length (free_tags s)) (length (groups s r))) (NoNextHop (length (groups s r)) (length (free_tags s))) e)
 
 -- ---- routes

@@ -91,7 +91,8 @@ module _ (s : State) (r : Routing) (change : IsChange s r) where
     are : ArePolicies s1 ps
     are = same_policies s s1 ps change.alike.participants refl refl but.read
 
-    rules_right : (pair : Pair) (rules : List Rule) → get table pair ≡ Some rules → IsRightAt ps s1 pair rules
+    -- the rules of each pair are right
+    pub rules_right : (pair : Pair) (rules : List Rule) → get table pair ≡ Some rules → IsRightAt ps s1 pair rules
     rules_right pair rules has = by (is_live_pair s pair) (is_rebuilt pair) refl refl
       where
         live : is_live_pair s1 pair ≡ true

@@ -1,51 +1,63 @@
 -- Any line with a reply that fits leaves a steady state steady.
-use Rattle.std.proofs.Common.{◌≡◌, ℕ, zero, suc, ◌+◌, ◌≤◌, ◌<◌, Bool, true, false, ◌||◌, List, [], ◌∷◌, ◌++◌, length, map, sym, ap, subst, ◌∙◌, refl, arith, inl, inr}
-use Rattle.std.specs.Prelude.{Option, Some, None, codes, is_some, slice_get}
-use Rattle.std.specs.FinMap.{empty, get, get-empty, values}
+use Rattle.std.proofs.Common.{◌≡◌, ◌⊎◌, ℕ, zero, suc, ◌+◌, ◌≤◌, ◌<◌, Bool, true, false, cond, ◌||◌, List, [], ◌∷◌, ◌++◌, length, sym, ap, subst, ◌∙◌, refl, arith, inl, inr}
+use Rattle.std.specs.Prelude.{Option, Some, None, codes, is_some, slice_get, slice_set}
+use Rattle.std.specs.FinMap.{FinMap, empty, get, get-empty, values}
 use Rattle.std.specs.List.{list_any}
 use Rattle.std.specs.Option.{option_map}
+use Rattle.std.proofs.lemmas.Bool.{or_right}
 use Rattle.std.proofs.lemmas.List.{length-append}
 use Rattle.events.proofs.Reached.{first_sound, step_sound}
-use Rattle.events.specs.After.{accepted, after, next, next_by, with_participant}
+use Rattle.events.specs.After.{accepted, after, all_units, next, next_by, restarted, running, with_named, with_outbound, with_participant}
 use Rattle.events.specs.Forms.{IsWellFormed}
 use Rattle.events.specs.Fits.{FitsBy}
 use Rattle.events.specs.Legal.{LegalFrom, state_from}
 use Rattle.events.specs.Refusals.{refusal}
 use Rattle.events.specs.Sound.{IsSound, HopsAreOwn}
-use Rattle.events.specs.State.{State, first, port_of, present}
+use Rattle.events.specs.State.{State, first, port_of}
 use Rattle.events.specs.Tags.{capped, is_live, more_units, retagged, same_tag, tells}
+use Rattle.events.specs.declared.Entry.{Entry}
 use Rattle.events.specs.declared.Event.{Event}
 use Rattle.events.specs.declared.Head.{Head}
 use Rattle.events.specs.declared.Head.TheVariants.{Fine, Working, Finished, Unrouted, Unresolved, Silent, Refused}
 use Rattle.events.specs.declared.Phase.TheVariants.{Start, Declaring, Running}
 use Rattle.events.specs.declared.Refusal.{Refusal}
 use Rattle.events.specs.declared.Reply.{Reply}
-use Rattle.exchange_laws.proofs.LineSteps.{AllRise, QuietStep, Step, participant, pool, port, quiet, resolved, resolving, routes, step_of, taken, told}
-use Rattle.exchange_laws.proofs.Lists.{TableOf, clash}
-use Rattle.exchange_laws.proofs.NewStates.{no_live, no_route, nothing_told}
+use Rattle.exchange_laws.proofs.Bases.{kept_there, kept_whole}
+use Rattle.exchange_laws.proofs.LineSteps.{AllRise, QuietStep, Step, participant, pool, port, quiet, receives, receiving, resolved, resolving, routes, sending, sends, step_of, told, told_so}
+use Rattle.exchange_laws.proofs.Lists.{TableOf, clash, some_of}
+use Rattle.exchange_laws.proofs.NewStates.{new_passed, no_live, no_route, nobody, not_there, nothing_told}
 use Rattle.exchange_laws.proofs.OwnHops.{own_hop, stay_apart}
-use Rattle.exchange_laws.proofs.Rerouted.{Rerouted, set_length}
-use Rattle.exchange_laws.proofs.TagsAfter.{kept_stay_live, live_stay_kept, tags_stay_pooled}
-use Rattle.exchange_laws.proofs.ToldAnew.{keeps_live, live_kept, present_are_known, tag_was_live}
+use Rattle.exchange_laws.proofs.Parts.{signature_whole}
+use Rattle.exchange_laws.proofs.PassedSteps.{retabled_passed, step_passed}
+use Rattle.exchange_laws.proofs.Rerouted.{HasOwnHop, set_length}
+use Rattle.exchange_laws.proofs.TagsAfter.{kept_stay_live, live_cases, live_stay_kept, live_tags_stay, signatures_are_kept, tags_stay_pooled}
+use Rattle.exchange_laws.proofs.ToldAnew.{keeps_live, kept_is, live_kept, tag_was_live}
 use Rattle.exchange_laws.specs.Retagging.{KeptAreLive, LiveAreKept, TagsArePooled}
-use Rattle.exchange_laws.specs.Rules.{AllDrop, OwnersAreDeclared}
-use Rattle.exchange_laws.specs.Steady.{IsNew, IsSized, IsSteady, PortsAreNumbered, PortsDiffer, RoutesAreDeclared, RunsStaySteady, StartsSteady, StepsStaySteady}
+use Rattle.exchange_laws.specs.Rules.{IsDeclaredAlike, OwnersAreDeclared}
+use Rattle.exchange_laws.specs.Steady.{HavePassed, IsNew, IsSized, IsSteady, PortsAreNumbered, PortsDiffer, RunsStaySteady, StartsSteady, StepsStaySteady}
+use Rattle.exchange_laws.specs.Telling.{AreKnownTo}
+use Rattle.exchange_laws.specs.Whole.{IsWhole, KeptAreWhole, RoutesAreDeclared}
 use Rattle.net_types.proofs.PassLemmas.{any_more}
 use Rattle.net_types.proofs.SetLemmas.{Member-append_cases, map-append}
-use Rattle.net_types.specs.Exports.{Routing}
-use Rattle.net_types.specs.Keys.{tag_cmp, is_ip_before}
+use Rattle.net_types.specs.Exports.{Routing, pid_of, route}
+use Rattle.net_types.specs.Keys.{prefix_cmp, tag_cmp, is_ip_before}
+use Rattle.net_types.specs.Naming.{named_in}
 use Rattle.net_types.specs.Sets.{IsRising, Member}
-use Rattle.net_types.specs.Signatures.{port_with}
+use Rattle.net_types.specs.Signatures.{port_with, signature}
 use Rattle.net_types.specs.declared.address.Pid.{Pid}
 use Rattle.net_types.specs.declared.address.Tag.{Tag}
+use Rattle.net_types.specs.declared.prefix.Prefix.{Prefix}
+use Rattle.net_types.specs.declared.route.Attrs.{Attrs}
+use Rattle.net_types.specs.declared.route.Part.{Part}
 use Rattle.net_types.specs.declared.route.Participant.{Participant}
 use Rattle.net_types.specs.declared.route.PortInfo.{PortInfo}
 
--- what holds of a steady state, whatever its table
+-- what holds of a steady state, whatever its table and its policies
 pub record IsTidy (s : State) : Type 0 where
   pub pooled : TagsArePooled s
   pub kept : KeptAreLive s
   pub live : LiveAreKept s
+  pub whole : KeptAreWhole s
   pub owners : OwnersAreDeclared s.routing
   pub told : length s.told ≡ length s.routing.participants
   pub hops : HopsAreOwn s
@@ -56,19 +68,17 @@ pub record IsTidy (s : State) : Type 0 where
   pub resolved : length s.resolved ≡ length s.routing.ports
   pub rising : AllRise s.resolved
   pub few : length s.routing.participants ≤ 256
-  pub drop : AllDrop s
   pub idle : s.owed ≡ None
   pub sized : IsSized s
-  pub new : (s.phase ≡ Running → ⊥) → IsNew s
+
+-- nothing is there before the exchange runs
+abbrev pub IsNewYet : State → Type 0
+IsNewYet s = (s.phase ≡ Running → ⊥) → IsNew s
 
 -- ---- the start
 
--- no participant is named
-abbrev nobody : List Pid
-nobody = []
-
 first_new : IsNew first
-first_new = record { routes = refl; tag = refl; kept = refl; told = λ entries m. absurd m }
+first_new = record { routes = refl; tag = refl; kept = refl; told = λ entries m. absurd m; drop = record { outbound = refl; inbound = refl; named = refl } }
 
 no_place : {A : Type 0} (k : ℕ) (x : A) → let none : List A = [] in slice_get none k ≡ Some x → ⊥
 no_place zero x e = cc
@@ -77,6 +87,10 @@ no_place (suc k) x e = cc
 not_kept : {X : Type 0} (o : Option X) → o ≡ None → is_some o ≡ true → ⊥
 not_kept None e f = cc
 not_kept (Some x) e f = cc
+
+-- what isn't kept is whole
+none_whole : (s : State) → s.kept ≡ empty → KeptAreWhole s
+none_whole s none t sig is = absurd (not_there (get s.kept t) sig (ap (λ (m : FinMap tag_cmp (List Part)). get m t) none ∙ get-empty tag_cmp t) is)
 
 pub starts_steady : StartsSteady
 starts_steady = record {
@@ -94,7 +108,8 @@ starts_steady = record {
   resolved = refl;
   rising = λ ips m. absurd m;
   few = omega arith;
-  drop = record { outbound = refl; inbound = refl; named = refl };
+  policies = new_passed first first_new.drop;
+  whole = none_whole first refl;
   idle = refl;
   sized = record { start = λ e. refl; small = omega arith; low = λ later. absurd (later refl); high = omega arith; room = omega arith };
   new = λ later. first_new;
@@ -126,12 +141,48 @@ sized_later s s1 is before later base size capacity = record {
   room = subst (λ n. n ≤ 1000000) (sym capacity) is.room;
 }
 
-pub quiet_tidy : (s : State) {s1 : State} → QuietStep s s1 → IsTidy s → IsTidy s1
-quiet_tidy s (pool base size capacity start formed) is =
-    let new : IsNew s = is.new (not_running s start) in record {
+-- before the exchange runs nothing is there
+pub quiet_new : (s : State) {s1 : State} → QuietStep s s1 → IsNewYet s → IsNewYet s1
+quiet_new s (pool base size capacity start formed) yet later =
+    let new : IsNew s = yet (not_running s start) in record {
+      routes = new.routes;
+      tag = new.tag;
+      kept = new.kept;
+      told = new.told;
+      drop = record { outbound = new.drop.outbound; inbound = new.drop.inbound; named = new.drop.named };
+    }
+quiet_new s (participant m declaring few) yet later =
+    let new : IsNew s = yet (not_running_yet s declaring) in record {
+      routes = new.routes;
+      tag = new.tag;
+      kept = new.kept;
+      told = λ entries stands. elim (Member-append_cases s.told (empty ∷ []) entries stands) [
+        | inl there ↦ new.told entries there
+        | inr last ↦ elim last [ inl same ↦ same | inr none ↦ absurd none ]
+      ];
+      drop = record {
+        outbound = ap (λ texts. texts ++ codes "drop" ∷ []) new.drop.outbound ∙ sym (map-append (λ (x : Participant). codes "drop") s.routing.participants (m ∷ []));
+        inbound = ap (λ texts. texts ++ codes "drop" ∷ []) new.drop.inbound ∙ sym (map-append (λ (x : Participant). codes "drop") s.routing.participants (m ∷ []));
+        named = ap (λ names. names ++ nobody ∷ []) new.drop.named ∙ sym (map-append (λ (x : Participant). nobody) s.routing.participants (m ∷ []));
+      };
+    }
+quiet_new s (port q declaring declared free number) yet later =
+    let new : IsNew s = yet (not_running_yet s declaring) in record {
+      routes = new.routes;
+      tag = new.tag;
+      kept = new.kept;
+      told = new.told;
+      drop = record { outbound = new.drop.outbound; inbound = new.drop.inbound; named = new.drop.named };
+    }
+quiet_new s (resolved lists later long rising) yet not = absurd (not refl)
+
+pub quiet_tidy : (s : State) {s1 : State} → QuietStep s s1 → IsNewYet s → IsTidy s → IsTidy s1
+quiet_tidy s {s1} (pool base size capacity start formed) yet is =
+    let new : IsNew s = yet (not_running s start) in record {
       pooled = λ t live. absurd (clash live (no_live s new t));
       kept = is.kept;
       live = λ t live. absurd (clash live (no_live s new t));
+      whole = is.whole;
       owners = is.owners;
       told = is.told;
       hops = is.hops;
@@ -142,17 +193,16 @@ quiet_tidy s (pool base size capacity start formed) is =
       resolved = is.resolved;
       rising = is.rising;
       few = is.few;
-      drop = record { outbound = is.drop.outbound; inbound = is.drop.inbound; named = is.drop.named };
       idle = is.idle;
       sized = record { start = λ e. absurd (cc); small = formed.1; low = λ e. formed.4; high = formed.5; room = formed.3 };
-      new = λ e. record { routes = new.routes; tag = new.tag; kept = new.kept; told = new.told };
     }
-quiet_tidy s (participant m declaring few) is =
-    let new : IsNew s = is.new (not_running_yet s declaring) in
+quiet_tidy s {s1} (participant m declaring few) yet is =
+    let new : IsNew s = yet (not_running_yet s declaring) in
     let more : length (s.routing.participants ++ m ∷ []) ≡ length s.routing.participants + 1 = length-append s.routing.participants (m ∷ []) in record {
       pooled = λ t live. absurd (clash (sym (participant_live s m t) ∙ live) (no_live s new t));
       kept = λ t there. participant_live s m t ∙ is.kept t there;
       live = λ t live. absurd (clash (sym (participant_live s m t) ∙ live) (no_live s new t));
+      whole = none_whole s1 new.kept;
       owners = λ q stands. let below : q.owner.0 < length s.routing.participants = is.owners q stands in omega arith;
       told = length-append s.told (empty ∷ []) ∙ ap (λ n. n + 1) is.told ∙ sym more;
       hops = is.hops;
@@ -163,28 +213,15 @@ quiet_tidy s (participant m declaring few) is =
       resolved = is.resolved;
       rising = is.rising;
       few = omega arith;
-      drop = record {
-        outbound = ap (λ texts. texts ++ codes "drop" ∷ []) is.drop.outbound ∙ sym (map-append (λ (x : Participant). codes "drop") s.routing.participants (m ∷ []));
-        inbound = ap (λ texts. texts ++ codes "drop" ∷ []) is.drop.inbound ∙ sym (map-append (λ (x : Participant). codes "drop") s.routing.participants (m ∷ []));
-        named = ap (λ names. names ++ nobody ∷ []) is.drop.named ∙ sym (map-append (λ (x : Participant). nobody) s.routing.participants (m ∷ []));
-      };
       idle = is.idle;
       sized = record { start = is.sized.start; small = is.sized.small; low = is.sized.low; high = is.sized.high; room = is.sized.room };
-      new = λ e. record {
-        routes = new.routes;
-        tag = new.tag;
-        kept = new.kept;
-        told = λ entries stands. elim (Member-append_cases s.told (empty ∷ []) entries stands) [
-          | inl there ↦ new.told entries there
-          | inr last ↦ elim last [ inl same ↦ same | inr none ↦ absurd none ]
-        ];
-      };
     }
-quiet_tidy s (port q declaring declared free number) is =
-    let new : IsNew s = is.new (not_running_yet s declaring) in record {
+quiet_tidy s {s1} (port q declaring declared free number) yet is =
+    let new : IsNew s = yet (not_running_yet s declaring) in record {
       pooled = is.pooled;
       kept = is.kept;
       live = is.live;
+      whole = is.whole;
       owners = λ x stands. elim (Member-append_cases s.routing.ports (q ∷ []) x stands) [
         | inl there ↦ is.owners x there
         | inr last ↦ elim last [ inl same ↦ subst (λ (y : PortInfo). y.owner.0 < length s.routing.participants) (sym same) declared | inr none ↦ absurd none ]
@@ -204,15 +241,14 @@ quiet_tidy s (port q declaring declared free number) is =
         | inr last ↦ elim last [ inl same ↦ subst (IsRising is_ip_before) (sym same) tt | inr none ↦ absurd none ]
       ];
       few = is.few;
-      drop = record { outbound = is.drop.outbound; inbound = is.drop.inbound; named = is.drop.named };
       idle = is.idle;
       sized = record { start = is.sized.start; small = is.sized.small; low = is.sized.low; high = is.sized.high; room = is.sized.room };
-      new = λ e. record { routes = new.routes; tag = new.tag; kept = new.kept; told = new.told };
     }
-quiet_tidy s (resolved lists later long rising) is = record {
+quiet_tidy s {s1} (resolved lists later long rising) yet is = record {
   pooled = is.pooled;
   kept = is.kept;
   live = is.live;
+  whole = is.whole;
   owners = is.owners;
   told = is.told;
   hops = is.hops;
@@ -223,72 +259,61 @@ quiet_tidy s (resolved lists later long rising) is = record {
   resolved = long ∙ is.resolved;
   rising = rising is.rising;
   few = is.few;
-  drop = record { outbound = is.drop.outbound; inbound = is.drop.inbound; named = is.drop.named };
   idle = is.idle;
   sized = sized_later s (resolving s lists) is.sized later (λ e. cc) refl refl refl;
-  new = λ e. absurd (e refl);
 }
 
-routes_tidy : (s : State) (e : Event) (after : Rerouted s e) → after.routing.named ≡ s.routing.named → (s.phase ≡ Start → ⊥) → IsTidy s → IsTidy (retagged s after.routing)
-routes_tidy s e after named later is =
-    let r : Routing = after.routing in
-    let declared : length r.participants ≡ length s.routing.participants = ap length after.alike.participants in record {
+-- ---- other routes
+
+-- the signature of a tag that is live after a change of routes is a prefix's, or was kept before
+pub retagged_whole : (s : State) (r : Routing) → r.participants ≡ s.routing.participants → TagsArePooled s → KeptAreWhole s → KeptAreWhole (retagged s r)
+retagged_whole s r alike pooled whole t sig is part m = elim (live_cases (retagged s r) t live) [
+  | inl has ↦
+      let same : sig ≡ signature r has.prefix = some_of sig (signature r has.prefix) (sym is ∙ signatures_are_kept s r pooled has.prefix t has.tagged) in
+      signature_whole r has.prefix part (subst (Member part) same m)
+  | inr before ↦
+      let was : is_live s t ≡ true = or_right (list_any (same_tag t) (values s.tag)) (list_any (λ entries. tells entries t) s.told) before in
+      subst (λ n. IsWhole n part) (sym (ap length alike)) (whole t sig (sym (live_tags_stay s r pooled t was live) ∙ is) part m)
+]
+  where
+    live : is_live (retagged s r) t ≡ true
+    live = kept_stay_live s r pooled t (ap is_some is)
+
+-- each route was there, or its NEXT_HOP was looked at
+abbrev AreFrom : State → Routing → Type 0
+AreFrom s r = (who : Pid) (p : Prefix) (a : Attrs) → route r who p ≡ Some a → (route s.routing who p ≡ Some a) ⊎ HasOwnHop s who a
+
+routes_tidy : (s : State) (r : Routing) → IsDeclaredAlike s.routing r → length r.rules ≡ length s.routing.rules → AreFrom s r → (s.phase ≡ Start → ⊥) → IsTidy s → IsTidy (retagged s r)
+routes_tidy s r alike rules each later is =
+    let declared : length r.participants ≡ length s.routing.participants = ap length alike.participants in record {
       pooled = tags_stay_pooled s r is.pooled;
       kept = kept_stay_live s r is.pooled;
       live = live_stay_kept s r is.pooled is.live;
-      owners = λ q m. let below : q.owner.0 < length s.routing.participants = is.owners q (subst (Member q) after.alike.ports m) in omega arith;
+      whole = retagged_whole s r alike.participants is.pooled is.whole;
+      owners = λ q m. let below : q.owner.0 < length s.routing.participants = is.owners q (subst (Member q) alike.ports m) in omega arith;
       told = is.told ∙ sym declared;
-      hops = λ who p a has. ap (λ ports. option_map (λ (x : PortInfo). x.owner) (port_of (record s { routing = record s.routing { ports = ports } }) (port_with ports a.next_hop))) after.alike.ports
-          ∙ elim (after.each who p a has) [ inl there ↦ is.hops who p a there | inr own ↦ own_hop s is.apart who a.next_hop own.hop ];
-      routed = λ who p a has. subst (λ n. who.0 < n) (sym declared) (elim (after.each who p a has) [ inl there ↦ is.routed who p a there | inr own ↦ own.declared ]);
-      apart = subst PortsDiffer (sym after.alike.ports) is.apart;
-      numbered = subst PortsAreNumbered (sym after.alike.ports) is.numbered;
-      rules = after.rules ∙ is.rules ∙ sym declared;
-      resolved = is.resolved ∙ ap length (sym after.alike.ports);
+      hops = λ who p a has. ap (λ ports. option_map (λ (x : PortInfo). x.owner) (port_of (record s { routing = record s.routing { ports = ports } }) (port_with ports a.next_hop))) alike.ports
+          ∙ elim (each who p a has) [ inl there ↦ is.hops who p a there | inr own ↦ own_hop s is.apart who a.next_hop own.hop ];
+      routed = λ who p a has. subst (λ n. who.0 < n) (sym declared) (elim (each who p a has) [ inl there ↦ is.routed who p a there | inr own ↦ own.declared ]);
+      apart = subst PortsDiffer (sym alike.ports) is.apart;
+      numbered = subst PortsAreNumbered (sym alike.ports) is.numbered;
+      rules = rules ∙ is.rules ∙ sym declared;
+      resolved = is.resolved ∙ ap length (sym alike.ports);
       rising = is.rising;
       few = subst (λ n. n ≤ 256) (sym declared) is.few;
-      drop = record {
-        outbound = is.drop.outbound ∙ ap (map (λ (x : Participant). codes "drop")) (sym after.alike.participants);
-        inbound = is.drop.inbound ∙ ap (map (λ (x : Participant). codes "drop")) (sym after.alike.participants);
-        named = named ∙ is.drop.named ∙ ap (map (λ (x : Participant). nobody)) (sym after.alike.participants);
-      };
       idle = ap (option_map (λ n. capped (n + more_units s r))) is.idle;
       sized = sized_later s (retagged s r) is.sized later (λ e. cc) refl refl refl;
-      new = λ e. absurd (e refl);
     }
 
-told_tidy : (s : State) (who : Pid) → (s.phase ≡ Start → ⊥) → IsTidy s → IsTidy (taken s who)
-told_tidy s who later is = record {
-  pooled = λ t live. is.pooled t (tag_was_live s who (present s who) (present_are_known s who) t live);
-  kept = keeps_live s who (present s who);
-  live = live_kept s who (present s who) (present_are_known s who) is.live;
-  owners = is.owners;
-  told = set_length s.told who.0 (present s who) ∙ is.told;
-  hops = is.hops;
-  routed = is.routed;
-  apart = is.apart;
-  numbered = is.numbered;
-  rules = is.rules;
-  resolved = is.resolved;
-  rising = is.rising;
-  few = is.few;
-  drop = record { outbound = is.drop.outbound; inbound = is.drop.inbound; named = is.drop.named };
-  idle = is.idle;
-  sized = sized_later s (taken s who) is.sized later (λ e. cc) refl refl refl;
-  new = λ e. absurd (e refl);
-}
+-- ---- other policies
 
-step_tidy : (s : State) (e : Event) {s1 : State} → Step s e s1 → IsTidy s → IsTidy s1
-step_tidy s e (quiet s1 step) is = quiet_tidy s step is
-step_tidy s e (routes after named later) is = routes_tidy s e after named later is
-step_tidy s e (told who later) is = told_tidy s who later is
-
--- the table is another one
-retable : (s : State) (table : TableOf) → IsTidy s → IsTidy (record s { table = table })
-retable s table is = record {
+-- a job that begins anew changes nothing else
+restarted_tidy : (s : State) → IsTidy s → IsTidy (restarted s)
+restarted_tidy s is = record {
   pooled = is.pooled;
   kept = is.kept;
   live = is.live;
+  whole = is.whole;
   owners = is.owners;
   told = is.told;
   hops = is.hops;
@@ -299,10 +324,137 @@ retable s table is = record {
   resolved = is.resolved;
   rising = is.rising;
   few = is.few;
-  drop = record { outbound = is.drop.outbound; inbound = is.drop.inbound; named = is.drop.named };
+  idle = ap (option_map (λ n. all_units s)) is.idle;
+  sized = record { start = is.sized.start; small = is.sized.small; low = is.sized.low; high = is.sized.high; room = is.sized.room };
+}
+
+-- another text, and the signatures trimmed
+outbound_tidy : (s : State) (who : Pid) (text : List ℕ) (named : List Pid) → IsTidy s → IsTidy (with_outbound s who text named)
+outbound_tidy s who text named is = record {
+  pooled = is.pooled;
+  kept = λ t there. is.kept t (sym (kept_there s who text named t) ∙ there);
+  live = λ t live. kept_there s who text named t ∙ is.live t live;
+  whole = kept_whole s who text named is.whole;
+  owners = is.owners;
+  told = is.told;
+  hops = is.hops;
+  routed = is.routed;
+  apart = is.apart;
+  numbered = is.numbered;
+  rules = is.rules;
+  resolved = is.resolved;
+  rising = is.rising;
+  few = is.few;
   idle = is.idle;
   sized = record { start = is.sized.start; small = is.sized.small; low = is.sized.low; high = is.sized.high; room = is.sized.room };
-  new = λ e. let new = is.new e in record { routes = new.routes; tag = new.tag; kept = new.kept; told = new.told };
+}
+
+sends_tidy : (s : State) (who : Pid) (text : List ℕ) (named : List Pid) → (s.phase ≡ Start → ⊥) → IsTidy s → IsTidy (sending s who text named)
+sends_tidy s who text named later is =
+    let s0 : State = with_outbound s who text named in
+    let r : Routing = with_named s.routing who named in
+    restarted_tidy (retagged s0 r) (routes_tidy s0 r (record { participants = refl; ports = refl }) refl (λ w p a there. inl there) later (outbound_tidy s who text named is))
+
+receives_tidy : (s : State) (who : Pid) (text : List ℕ) → (s.phase ≡ Start → ⊥) → IsTidy s → IsTidy (receiving s who text)
+receives_tidy s who text later is = record {
+  pooled = is.pooled;
+  kept = is.kept;
+  live = is.live;
+  whole = is.whole;
+  owners = is.owners;
+  told = is.told;
+  hops = is.hops;
+  routed = is.routed;
+  apart = is.apart;
+  numbered = is.numbered;
+  rules = is.rules;
+  resolved = is.resolved;
+  rising = is.rising;
+  few = is.few;
+  idle = ap (option_map (λ n. all_units (running (record s { inbound = slice_set s.inbound who.0 text })))) is.idle;
+  sized = sized_later s (receiving s who text) is.sized later (λ e. cc) refl refl refl;
+}
+
+-- ---- what was told
+
+told_whole : (s : State) (who : Pid) (entries : FinMap prefix_cmp Entry) → KeptAreWhole s → KeptAreWhole (told_so s who entries)
+told_whole s who entries whole t sig is part m = whole t sig (was (is_live (told_so s who entries) t) (sym (kept_is s who entries t) ∙ is)) part m
+  where
+    was : (b : Bool) → cond b (get s.kept t) None ≡ Some sig → get s.kept t ≡ Some sig
+    was true e = e
+    was false e = absurd (cc)
+
+told_tidy : (s : State) (who : Pid) (entries : FinMap prefix_cmp Entry) → (s.phase ≡ Start → ⊥) → AreKnownTo s who entries → IsTidy s → IsTidy (told_so s who entries)
+told_tidy s who entries later known is = record {
+  pooled = λ t live. is.pooled t (tag_was_live s who entries known t live);
+  kept = keeps_live s who entries;
+  live = live_kept s who entries known is.live;
+  whole = told_whole s who entries is.whole;
+  owners = is.owners;
+  told = set_length s.told who.0 entries ∙ is.told;
+  hops = is.hops;
+  routed = is.routed;
+  apart = is.apart;
+  numbered = is.numbered;
+  rules = is.rules;
+  resolved = is.resolved;
+  rising = is.rising;
+  few = is.few;
+  idle = is.idle;
+  sized = sized_later s (told_so s who entries) is.sized later (λ e. cc) refl refl refl;
+}
+
+-- ---- each line
+
+step_tidy : (s : State) (e : Event) {s1 : State} → Step s e s1 → IsNewYet s → IsTidy s → IsTidy s1
+step_tidy s e (quiet s1 step) yet is = quiet_tidy s step yet is
+step_tidy s e (routes to later) yet is = routes_tidy s to.routing to.alike to.rules to.each later is
+step_tidy s e (told who entries later known) yet is = told_tidy s who entries later known is
+step_tidy s e (sends who text p later read clear) yet is = sends_tidy s who text (named_in (pid_of s.routing) p) later is
+step_tidy s e (receives who text p later read clear) yet is = receives_tidy s who text later is
+
+step_new : (s : State) (e : Event) {s1 : State} → Step s e s1 → IsNewYet s → IsNewYet s1
+step_new s e (quiet s1 step) yet not = quiet_new s step yet not
+step_new s e (routes to later) yet not = absurd (not refl)
+step_new s e (told who entries later known) yet not = absurd (not refl)
+step_new s e (sends who text p later read clear) yet not = absurd (not refl)
+step_new s e (receives who text p later read clear) yet not = absurd (not refl)
+
+-- what holds of a steady state, whatever its table
+record IsLaid (s : State) : Type 0 where
+  tidy : IsTidy s
+  passed : HavePassed s
+  new : IsNewYet s
+
+-- the table is another one
+retable : (s : State) (table : TableOf) → IsLaid s → IsLaid (record s { table = table })
+retable s table laid = let is : IsTidy s = laid.tidy in record {
+  tidy = record {
+    pooled = is.pooled;
+    kept = is.kept;
+    live = is.live;
+    whole = is.whole;
+    owners = is.owners;
+    told = is.told;
+    hops = is.hops;
+    routed = is.routed;
+    apart = is.apart;
+    numbered = is.numbered;
+    rules = is.rules;
+    resolved = is.resolved;
+    rising = is.rising;
+    few = is.few;
+    idle = is.idle;
+    sized = record { start = is.sized.start; small = is.sized.small; low = is.sized.low; high = is.sized.high; room = is.sized.room };
+  };
+  passed = retabled_passed s table laid.passed;
+  new = λ e. let new : IsNew s = laid.new e in record {
+    routes = new.routes;
+    tag = new.tag;
+    kept = new.kept;
+    told = new.told;
+    drop = record { outbound = new.drop.outbound; inbound = new.drop.inbound; named = new.drop.named };
+  };
 }
 
 -- ---- any reply
@@ -312,6 +464,7 @@ tidy s steady = record {
   pooled = steady.pooled;
   kept = steady.kept;
   live = steady.live;
+  whole = steady.whole;
   owners = steady.owners;
   told = steady.told;
   hops = steady.hops;
@@ -322,28 +475,30 @@ tidy s steady = record {
   resolved = steady.resolved;
   rising = steady.rising;
   few = steady.few;
-  drop = steady.drop;
   idle = steady.idle;
   sized = steady.sized;
-  new = steady.new;
 }
 
 module _ (s : State) (e : Event) (r : Reply) (steady : IsSteady s) (formed : IsWellFormed e) where
-  accepted_tidy : refusal s e ≡ None → IsTidy (accepted s e r)
-  accepted_tidy none = retable (after s e) _ (step_tidy s e (step_of s e none formed) (tidy s steady))
+  accepted_laid : refusal s e ≡ None → IsLaid (accepted s e r)
+  accepted_laid none =
+      let step : Step s e (after s e) = step_of s e none formed in
+      let new : IsNewYet (after s e) = step_new s e step steady.new in
+      retable (after s e) _ (record { tidy = step_tidy s e step steady.new (tidy s steady); passed = step_passed s e step new steady.policies; new = new })
 
-  next_tidy : refusal s e ≡ None → (h : Head) → IsTidy (next_by h s e r)
-  next_tidy none (Refused why) = tidy s steady
-  next_tidy none Fine = accepted_tidy none
-  next_tidy none (Working units) = accepted_tidy none
-  next_tidy none Finished = accepted_tidy none
-  next_tidy none Unrouted = accepted_tidy none
-  next_tidy none (Unresolved ip) = accepted_tidy none
-  next_tidy none Silent = accepted_tidy none
+  next_laid : refusal s e ≡ None → (h : Head) → IsLaid (next_by h s e r)
+  next_laid none (Refused why) = record { tidy = tidy s steady; passed = steady.policies; new = steady.new }
+  next_laid none Fine = accepted_laid none
+  next_laid none (Working units) = accepted_laid none
+  next_laid none Finished = accepted_laid none
+  next_laid none Unrouted = accepted_laid none
+  next_laid none (Unresolved ip) = accepted_laid none
+  next_laid none Silent = accepted_laid none
 
   passed : refusal s e ≡ None → IsSound (next s e r) → IsSteady (next s e r)
   passed none sound =
-      let is : IsTidy (next s e r) = next_tidy none r.head in record {
+      let laid : IsLaid (next s e r) = next_laid none r.head in
+      let is : IsTidy (next s e r) = laid.tidy in record {
         sound = sound;
         pooled = is.pooled;
         kept = is.kept;
@@ -358,10 +513,11 @@ module _ (s : State) (e : Event) (r : Reply) (steady : IsSteady s) (formed : IsW
         resolved = is.resolved;
         rising = is.rising;
         few = is.few;
-        drop = is.drop;
+        policies = laid.passed;
+        whole = is.whole;
         idle = is.idle;
         sized = is.sized;
-        new = is.new;
+        new = laid.new;
       }
 
   step : (o : Option Refusal) → refusal s e ≡ o → FitsBy o s e r → IsSteady (next s e r)

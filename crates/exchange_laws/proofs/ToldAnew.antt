@@ -1,35 +1,39 @@
 -- What becomes of a sound state where a participant is told anew.
 use Rattle.std.proofs.Common.{◌≡◌, ◌⊎◌, ℕ, zero, suc, ◌+◌, ◌≤◌, Bool, true, false, cond, ◌&&◌, ◌||◌, List, [], ◌∷◌, filter, length, map, sum_by, sym, ap, subst, ◌∙◌, refl, arith, inl, inr}
-use Rattle.std.specs.Prelude.{Option, Some, None, MatchOption, is_none, is_some, slice_get, slice_set, unwrap_or}
+use Rattle.std.specs.Prelude.{Option, Some, None, MatchOption, is_none, is_some, slice_get, slice_set, take, unwrap_or}
 use Rattle.std.specs.Cmp.{IsTotalOrder}
-use Rattle.std.specs.FinMap.{FinMap, IsAntisymmetric, empty, entries, entries_sorted, get, get-entries, get-retain_keys, retain_keys, same_map, values}
+use Rattle.std.specs.FinMap.{FinMap, IsAntisymmetric, empty, entries, entries_sorted, get, get-entries, get-insert, get-remove, get-retain_keys, insert, remove, retain_keys, same_map, values}
 use Rattle.std.specs.FinMap.Entries.{find-where_key, is_sorted-where_key, same_entries, where_key}
 use Rattle.std.specs.List.{list_any}
 use Rattle.std.specs.Option.{option_and_then}
+use Rattle.std.specs.Ordering.{eq_by_cmp}
 use Rattle.std.specs.declared.cmp.Ordering.{Ordering}
 use Rattle.std.proofs.lemmas.Bool.{or_cases, or_left, or_parts, or_right}
 use Rattle.std.proofs.lemmas.List.Sums.{sum_by-cons}
-use Rattle.events.specs.After.{next, next_by, put_flows, running, settled, with_known, with_told, without_pairs}
-use Rattle.events.specs.Fits.{IsAccepted, IsTaken, dropped, none_rebuilt}
-use Rattle.events.specs.Pending.{pending}
+use Rattle.events.specs.After.{after, next, next_by, put_flows, rules_put, running, settled, taken, with_known, with_told, without_pairs}
+use Rattle.events.specs.Fits.{IsAccepted, IsAnswer, IsTaken, dropped, none_rebuilt}
+use Rattle.events.specs.Pending.{pending, with_all_news, with_news}
 use Rattle.events.specs.Sound.{IsRight, IsSound, owners_part, part_of, rule_count}
 use Rattle.events.specs.State.{State, port_of, present, told_to}
 use Rattle.events.specs.declared.Entry.{Entry}
 use Rattle.events.specs.Tags.{is_live, is_live_pair, same_tag, tells}
-use Rattle.events.specs.declared.Event.TheVariants.{Drain}
+use Rattle.events.specs.declared.Event.{Event}
+use Rattle.events.specs.declared.Event.TheVariants.{Drain, Take}
 use Rattle.events.specs.declared.Reply.{Reply}
 use Rattle.exchange_laws.proofs.Flows.{get_undropped}
 use Rattle.exchange_laws.proofs.Lists.{clash, cond_there}
 use Rattle.exchange_laws.proofs.LivePairs.{live_at, live_from, live_tag, present_tag, told_live}
 use Rattle.exchange_laws.proofs.TagsAfter.{live_of}
 use Rattle.exchange_laws.specs.Retagging.{LiveAreKept}
-use Rattle.exchange_laws.specs.Telling.{AreKnownTo, DrainsAreAccepted, GonePairsWereTold, GoneTagsWereTold, PresentAreKnown, TellingKeepsLive, TellingStaysKept, TellingStaysPooled, TellingStaysSound, told_anew}
-use Rattle.net_types.proofs.OrderLemmas.{pairs_total}
+use Rattle.exchange_laws.specs.Telling.{AreKnownTo, DrainsAreAccepted, GonePairsWereTold, GoneTagsWereTold, NewsAreKnown, PresentAreKnown, TakesAreAccepted, TellingKeepsLive, TellingStaysKept, TellingStaysPooled, TellingStaysSound, told_anew}
+use Rattle.net_types.proofs.OrderLemmas.{pairs_total, prefixes_total}
 use Rattle.net_types.proofs.TieLemmas.{pair_cmp-IsAntisymmetric, tag_cmp-IsAntisymmetric}
+use Rattle.net_types.proofs.ValueLemmas.{any_value, value_at}
 use Rattle.net_types.specs.Exports.{pid_of}
 use Rattle.net_types.specs.Keys.{pair_cmp, prefix_cmp}
 use Rattle.net_types.specs.declared.address.Pid.{Pid}
 use Rattle.net_types.specs.declared.address.Tag.{Tag}
+use Rattle.net_types.specs.declared.prefix.Prefix.{Prefix}
 use Rattle.net_types.specs.declared.route.Part.{Part}
 use Rattle.net_types.specs.declared.route.PortInfo.{PortInfo}
 use Rattle.net_types.specs.declared.rule.Pair.{Pair}
@@ -102,7 +106,7 @@ module _ (s : State) (who : Pid) (es : FinMap prefix_cmp Entry) where
   s1 = told_anew s who es
 
   -- the signature of a live tag is kept, and no other's
-  kept_is : (t : Tag) → get s1.kept t ≡ cond (is_live s1 t) (get s.kept t) None
+  pub kept_is : (t : Tag) → get s1.kept t ≡ cond (is_live s1 t) (get s.kept t) None
   kept_is t = get-retain_keys s.kept (is_live s1) t (λ x e. ap (is_live s1) (sym (tag_cmp-IsAntisymmetric t x e)))
 
   table_is : (pair : Pair) → get s1.table pair ≡ cond (is_live_pair s1 pair) (get s.table pair) None
@@ -232,28 +236,77 @@ telling_stays_kept s who entries kept known t live = live_kept s who entries kno
 pub telling_keeps_live : TellingKeepsLive
 telling_keeps_live s who entries t there = keeps_live s who entries t there
 
-module _ (s : State) (name : List ℕ) (who : Pid) (declared : pid_of s.routing name ≡ Some who) (reply : Reply) (taken : IsTaken s (told_anew s who (present s who)) who (pending s who) reply) where
+-- ---- some of what is pending
+
+module _ (known : FinMap prefix_cmp Entry) (t : Tag) where
+  abbrev tagged : Entry → Bool
+  tagged e = same_tag e.tag t
+
+  -- a tag that some entry of a map has
+  tells_at : (m : FinMap prefix_cmp Entry) (p : Prefix) (e : Entry) → get m p ≡ Some e → tagged e ≡ true → tells m t ≡ true
+  tells_at m p e there passes = any_value prefix_cmp prefixes_total tagged m p e there passes
+
+  one_known : (p : Prefix) (told : FinMap prefix_cmp Entry) (o : Option Entry) → get known p ≡ o → tells (with_news told p o) t ≡ true → (tells told t || tells known t) ≡ true
+  one_known p told None none is =
+      let v = value_at prefix_cmp prefixes_total tagged (remove told p) is in
+      or_left (tells told t) (tells known t) (tells_at told v.key v.value (left (eq_by_cmp prefix_cmp v.key p) (sym (get-remove prefixes_total told p v.key) ∙ v.there)) v.passes)
+    where
+      left : {o : Option Entry} {e : Entry} (b : Bool) → cond b None o ≡ Some e → o ≡ Some e
+      left true e = absurd (cc)
+      left false e = e
+  one_known p told (Some e) there is =
+      let v = value_at prefix_cmp prefixes_total tagged (insert told p e) is in
+      by v.key v.value v.passes (eq_by_cmp prefix_cmp v.key p) (sym (get-insert prefixes_total told p e v.key) ∙ v.there)
+    where
+      by : (q : Prefix) (x : Entry) → tagged x ≡ true → (b : Bool) → cond b (Some e) (get told q) ≡ Some x → (tells told t || tells known t) ≡ true
+      by q x passes true new = or_right (tells told t) (tells known t) (tells_at known p x (there ∙ new) passes)
+      by q x passes false old = or_left (tells told t) (tells known t) (tells_at told q x old passes)
+
+  news_known : (ps : List Prefix) (told : FinMap prefix_cmp Entry) → tells (with_all_news known told ps) t ≡ true → (tells told t || tells known t) ≡ true
+  news_known [] told is = or_left (tells told t) (tells known t) is
+  news_known (p ∷ ps) told is = elim (or_cases (tells (with_news told p (get known p)) t) (tells known t) (news_known ps (with_news told p (get known p)) is)) [
+    | inl new ↦ one_known p told (get known p) refl new
+    | inr there ↦ or_right (tells told t) (tells known t) there
+  ]
+
+pub news_are_known : NewsAreKnown
+news_are_known s who ps t is = news_known (present s who) t ps (told_to s who) is
+
+-- ---- lines by which a participant takes what is pending
+
+-- A line after which a participant was told these entries is accepted with the reply that says so.
+module _ (s : State) (who : Pid) (es : FinMap prefix_cmp Entry) (ps : List Prefix) (reply : Reply) (taken : IsTaken s (told_anew s who es) who ps reply)
+    (e : Event) (leaves : after s e ≡ settled (running (with_told s who es))) (put : rules_put e reply ≡ reply.adds) where
   abbrev s2 : State
-  s2 = told_anew s who (present s who)
+  s2 = told_anew s who es
 
-  next_is : next s (Drain name) reply ≡ s2
+  next_is : next s e reply ≡ s2
   next_is =
-      let after_is : with_known s (pid_of s.routing name) (λ w. settled (running (with_told s w (present s w)))) ≡ settled (running (with_told s who (present s who))) = ap (λ o. with_known s o (λ w. settled (running (with_told s w (present s w))))) declared in
-      let table_left : put_flows (without_pairs s.table reply.drops) reply.adds ≡ s2.table =
-      ap (put_flows (without_pairs s.table reply.drops)) taken.adds ∙ ap (without_pairs s.table) taken.drops ∙ undropped s who (present s who) in
-      ap (λ h. next_by h s (Drain name) reply) taken.head ∙ (λ i. record (after_is i) { table = table_left i })
+      let table_left : put_flows (without_pairs s.table reply.drops) (rules_put e reply) ≡ s2.table =
+      ap (put_flows (without_pairs s.table reply.drops)) (put ∙ taken.adds) ∙ ap (without_pairs s.table) taken.drops ∙ undropped s who es in
+      ap (λ h. next_by h s e reply) taken.head ∙ (λ i. record (leaves i) { table = table_left i })
 
-  pub drain_accepted : IsSound s → (next s (Drain name) reply ≡ s2) × IsAccepted s (Drain name) reply
-  drain_accepted sound = (
+  telling_accepted : (IsTaken s (next s e reply) who ps reply → IsAnswer s e reply (next s e reply)) → AreKnownTo s who es → IsSound s → (next s e reply ≡ s2) × IsAccepted s e reply
+  telling_accepted answers known sound = (
     next_is,
-    record {
-      answer = subst (λ o. MatchOption o ⊥ (λ w. IsTaken s (next s (Drain name) reply) w (pending s w) reply)) (sym declared) (subst (λ x. IsTaken s x who (pending s who) reply) (sym next_is) taken);
-      sound = subst IsSound (sym next_is) (told_sound s who (present s who) (present_are_known s who) sound);
-    },
+    record { answer = answers (subst (λ x. IsTaken s x who ps reply) (sym next_is) taken); sound = subst IsSound (sym next_is) (told_sound s who es known sound) },
   )
 
+-- a line whose participant is declared
+declared_taken : (s s1 : State) (name : List ℕ) (who : Pid) (f : Pid → List Prefix) (reply : Reply) → pid_of s.routing name ≡ Some who → IsTaken s s1 who (f who) reply
+    → MatchOption (pid_of s.routing name) ⊥ (λ w. IsTaken s s1 w (f w) reply)
+declared_taken s s1 name who f reply declared is = subst (λ o. MatchOption o ⊥ (λ w. IsTaken s s1 w (f w) reply)) (sym declared) is
+
 pub drains_are_accepted : DrainsAreAccepted
-drains_are_accepted s name who reply sound declared taken = drain_accepted s name who declared reply taken sound
+drains_are_accepted s name who reply sound declared taken =
+    telling_accepted s who (present s who) (pending s who) reply taken (Drain name) (ap (λ o. with_known s o (λ w. settled (running (with_told s w (present s w))))) declared) refl
+    (declared_taken s (next s (Drain name) reply) name who (pending s) reply declared) (present_are_known s who) sound
+
+pub takes_are_accepted : TakesAreAccepted
+takes_are_accepted s name who count reply sound declared is =
+    let ps : List Prefix = take count (pending s who) in
+    telling_accepted s who (with_all_news (present s who) (told_to s who) ps) ps reply is (Take name count) (ap (λ o. with_known s o (λ w. settled (running (taken s w (take count (pending s w)))))) declared) refl
+    (declared_taken s (next s (Take name count) reply) name who (λ w. take count (pending s w)) reply declared) (news_are_known s who ps) sound
 
 pub gone_pairs_were_told : GonePairsWereTold
 gone_pairs_were_told s who entries pair live dead = gone_pair s who entries pair live dead

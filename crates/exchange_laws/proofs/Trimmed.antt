@@ -16,7 +16,6 @@ use Rattle.net_types.specs.Signatures.{counts, offer, offers, part, signature, t
 use Rattle.net_types.specs.declared.address.Pid.{Pid}
 use Rattle.net_types.specs.declared.prefix.Prefix.{Prefix}
 use Rattle.net_types.specs.declared.route.Offer.{Offer}
-use Rattle.net_types.specs.declared.route.Part.{Part}
 
 -- ---- lists
 

@@ -111,3 +111,17 @@ abbrev pub InboundsAreEdits : Type 0
 InboundsAreEdits =
     (s : State) (name text : List ℕ) (who : Pid) (p : Policy) → IsSteady s → pid_of s.routing name ≡ Some who → policy_of_text text ≡ Ok p → refusal s (Inbound name text) ≡ None
     → IsEdit s (Inbound name text) (inbound_base s who text) s.routing (is_receivers s who)
+
+-- A line that changes the routes, and that no refusal stops, is a change of routes for which there are enough tags.
+abbrev pub ReroutingsAreChanges : Type 0
+ReroutingsAreChanges = (s : State) (e : Event) (r : Routing) → IsBase s none_rebuilt → IsRerouting s e r → IsChange s r
+
+-- so is an outbound policy, by whom it names
+abbrev pub OutboundsAreChanges : Type 0
+OutboundsAreChanges =
+    (s : State) (name text : List ℕ) (who : Pid) (p : Policy) → IsSteady s → pid_of s.routing name ≡ Some who → policy_of_text text ≡ Ok p → refusal s (Outbound name text) ≡ None
+    → let named = named_in (pid_of s.routing) p in IsChange (outbound_base s who text named) (with_named s.routing who named)
+
+-- and an inbound one, by which the routes stay
+abbrev pub InboundsAreChanges : Type 0
+InboundsAreChanges = (s : State) (who : Pid) (text : List ℕ) (p : Policy) → IsSteady s → policy_of_text text ≡ Ok p → IsChange (inbound_base s who text) s.routing

@@ -1,27 +1,21 @@
 -- Lines that change the routes: an UPDATE, a participant whose routes go, and export rules (this exchange's own rule).
-use Rattle.std.specs.Prelude.{◌≡◌, ℕ, ◌≤◌, Bool, true, false, List, Ok, Some, None}
-use Rattle.std.specs.FinMap.{FinMap}
+use Rattle.std.specs.Prelude.{◌≡◌, ℕ, Bool, true, false, List, Ok, Some, None}
 use Rattle.events.specs.After.{after, bound_read, next, running, with_rules, with_update, without_from}
-use Rattle.events.specs.Fits.{Fits, IsBuilt, bare, none_rebuilt}
+use Rattle.events.specs.Fits.{Fits, bare}
 use Rattle.events.specs.Refusals.{refusal}
-use Rattle.events.specs.Sound.{IsSound, rule_count}
+use Rattle.events.specs.Sound.{IsSound}
 use Rattle.events.specs.State.{State}
 use Rattle.events.specs.Tags.{retagged}
 use Rattle.events.specs.declared.Event.{Event}
 use Rattle.events.specs.declared.Event.TheVariants.{Bad, Exchange, Participant as DeclaresParticipant, Port as DeclaresPort, Update, Down, Export, Outbound, Inbound, Take, Drain, Arp, Resolve, Packet, Frame, Recompile, Work, Table}
 use Rattle.events.specs.declared.Head.TheVariants.{Fine}
-use Rattle.events.specs.declared.Reply.{Reply}
-use Rattle.exchange_laws.specs.Replies.{HasNewRules}
 use Rattle.exchange_laws.specs.Retagging.{KeptAreLive, TagsArePooled}
-use Rattle.exchange_laws.specs.Rules.{IsChange, IsTableAfter, OwnersAreDeclared}
 use Rattle.exchange_laws.specs.Unchanged.{OwesFew}
 use Rattle.net_types.specs.ExportReading.{rules_of_text}
 use Rattle.net_types.specs.Exports.{Routing, pid_of}
-use Rattle.net_types.specs.Keys.{pair_cmp}
 use Rattle.net_types.specs.UpdateReading.{decoded}
 use Rattle.net_types.specs.declared.address.Pid.{Pid}
 use Rattle.net_types.specs.declared.export.ExportRule.{ExportRule}
-use Rattle.net_types.specs.declared.rule.Rule.{Rule}
 use Rattle.net_types.specs.declared.update.Update.{Update as Message}
 
 -- the lines that change the routes

@@ -1,5 +1,5 @@
 -- The rules after a line that builds rules (this exchange's own rule).
-use Rattle.std.specs.Prelude.{◌≡◌, ◌<◌, ◌≤◌, Bool, true, false, ◌||◌, not, List, [], length, Some, is_some}
+use Rattle.std.specs.Prelude.{◌≡◌, ◌<◌, ◌≤◌, Bool, true, false, ◌||◌, not, List, length, Some, is_some}
 use Rattle.std.specs.FinMap.{FinMap, get}
 use Rattle.events.specs.Sound.{IsRight, IsSound, owners_part, rule_count}
 use Rattle.events.specs.State.{State, ArePolicies}
@@ -11,7 +11,6 @@ use Rattle.net_types.specs.Exports.{Routing}
 use Rattle.net_types.specs.Keys.{pair_cmp}
 use Rattle.net_types.specs.Sets.{Member}
 use Rattle.net_types.specs.Signatures.{signature}
-use Rattle.net_types.specs.declared.address.PortNo.{PortNo}
 use Rattle.net_types.specs.declared.address.Tag.{Tag}
 use Rattle.net_types.specs.declared.prefix.Prefix.{Prefix}
 use Rattle.net_types.specs.declared.route.Part.{Part}

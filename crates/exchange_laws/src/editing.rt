@@ -1,6 +1,6 @@
 //! Lines that build rules: those that change the routes, and policies.
 
-ghost use Rattle.exchange_laws.specs.Editing.{EditsAreAccepted, InboundBases, InboundsAreEdits, OutboundBases, OutboundsAreEdits, ReroutingsAreEdits, SteadyAreBases};
+ghost use Rattle.exchange_laws.specs.Editing.{EditsAreAccepted, InboundBases, InboundsAreChanges, InboundsAreEdits, OutboundBases, OutboundsAreChanges, OutboundsAreEdits, ReroutingsAreChanges, ReroutingsAreEdits, SteadyAreBases};
 
 /// Where the rules fit the table, such a line is accepted with the reply that says what is dropped and added.
 pub fn edits_are_accepted()
@@ -27,4 +27,11 @@ pub fn outbounds_are_edits()
 pub fn inbounds_are_edits()
     ensures bases { InboundBases }
     ensures edits { InboundsAreEdits }
+{}
+
+/// Where no refusal stops it, each such line is a change of routes for which there are enough tags.
+pub fn edits_are_changes()
+    ensures reroutings { ReroutingsAreChanges }
+    ensures outbounds { OutboundsAreChanges }
+    ensures inbounds { InboundsAreChanges }
 {}

@@ -19,8 +19,8 @@ pub use counts::{
     free_tags_are_counted, numbers_fit_cells, pairs_are_live, rules_are_counted, tags_are_counted,
 };
 pub use editing::{
-    edits_are_accepted, inbounds_are_edits, outbounds_are_edits, reroutings_are_edits,
-    steady_states_are_bases,
+    edits_are_accepted, edits_are_changes, inbounds_are_edits, outbounds_are_edits,
+    reroutings_are_edits, steady_states_are_bases,
 };
 pub use fitting::{accepted_lines_fit, full_tables_are_refused};
 pub use quiet::quiet_lines_are_accepted;

@@ -6,9 +6,9 @@ use Rattle.std.proofs.lemmas.Bool.{and_parts, leb-true}
 use Rattle.net_types.specs.declared.address.Ip.{Ip}
 use Rattle.net_types.specs.declared.address.PortNo.{PortNo}
 use Rattle.events.specs.declared.Event.{Event}
-use Rattle.events.specs.declared.Event.TheVariants.{Bad, Exchange, Participant, Port, Update, Down, Export, Drain, Arp, Resolve, Packet, Frame, Table}
+use Rattle.events.specs.declared.Event.TheVariants.{Bad, Exchange, Participant, Port, Update, Down, Export, Outbound, Inbound, Take, Drain, Arp, Resolve, Packet, Frame, Table}
 use Rattle.events.specs.Forms.{IsWellFormed}
-use Rattle.events.specs.Lines.{only_if, number, number_within, port_number, as_number, address, hardware_address, is_name, name, is_utf8, is_text, bytes, first_space, exchange_event, exchange_line, participant_line, port_line, update_line, arp_line, packet_line, frame_line, export_line, is_word, or_bad, pieces, event_of_word, event_of_words, event_of_verb, event_of_line}
+use Rattle.events.specs.Lines.{only_if, number, number_within, port_number, as_number, address, hardware_address, is_name, name, is_utf8, is_text, bytes, first_space, exchange_event, exchange_line, participant_line, port_line, update_line, arp_line, packet_line, frame_line, name_and_text, export_line, out_line, in_line, take_line, is_word, or_bad, pieces, event_of_word, event_of_words, event_of_verb, event_of_line}
 
 pub then_holds : {X Y : Type 0} (P : X → Type 0) (Q : Y → Type 0) (o : Option X) (f : X → Option Y) → IfSome o P → ((x : X) → P x → IfSome (f x) Q) → IfSome (option_and_then f o) Q
 then_holds P Q None f h next = tt
@@ -103,16 +103,23 @@ text_holds : (text : List ℕ) → IfSome (only_if is_text (Some text)) (λ t. I
 text_holds text =
     only_holds (λ t. Unit {0}) (λ t. IsTrue (is_utf8 t)) is_text (Some text) tt (λ t any passes. (and_parts (nat_lt 0 (length t)) (is_utf8 t) passes).1)
 
-export_formed : (rest : List ℕ) → IfSome (export_line rest) IsWellFormed
-export_formed rest =
+-- a name and a text, whatever is made of them
+with_text : (f : List ℕ → List ℕ → Event) → ((who t : List ℕ) → IsTrue (is_name who) → IsTrue (is_utf8 t) → IsWellFormed (f who t)) → (rest : List ℕ) → IfSome (name_and_text f rest) IsWellFormed
+with_text f is rest =
     then_holds (λ at. Unit {0}) IsWellFormed (first_space rest) _ (any_holds (first_space rest))
     (λ at any. then_holds (λ who. IsTrue (is_name who)) IsWellFormed (name (take at rest)) _ (name_holds (take at rest))
-    (λ who n. map_holds (λ t. IsTrue (is_utf8 t)) IsWellFormed (only_if is_text (Some (drop (at + 1) rest))) (λ t. Export who t) (text_holds (drop (at + 1) rest)) (λ t is. (n, is))))
+    (λ who n. map_holds (λ t. IsTrue (is_utf8 t)) IsWellFormed (only_if is_text (Some (drop (at + 1) rest))) (f who) (text_holds (drop (at + 1) rest)) (λ t h. is who t n h)))
+
+take_formed : (a b : List ℕ) → IfSome (take_line a b) IsWellFormed
+take_formed a b =
+    then_holds (λ who. IsTrue (is_name who)) IsWellFormed (name a) _ (name_holds a)
+    (λ who n. map_holds (IsWithin 1 1000000) IsWellFormed (number_within 1 1000000 b) (λ count. Take who count) (number_holds 1 1000000 b) (λ count h. (n, h.0, h.1)))
 
 -- What is so of the events of all kinds of lines is so of the event of each line.
 module _ (Q : Event → Type 0) (bad : Q Bad) (table : Q Table)
     (exchange : (a b c : List ℕ) → IfSome (exchange_line a b c) Q) (participant : (a b c : List ℕ) → IfSome (participant_line a b c) Q) (port : (a b c d : List ℕ) → IfSome (port_line a b c d) Q)
     (update : (a b : List ℕ) → IfSome (update_line a b) Q) (down : (a : List ℕ) → IfSome (option_map (λ who. Down who) (name a)) Q) (export : (rest : List ℕ) → IfSome (export_line rest) Q)
+    (outbound : (rest : List ℕ) → IfSome (out_line rest) Q) (inbound : (rest : List ℕ) → IfSome (in_line rest) Q) (takes : (a b : List ℕ) → IfSome (take_line a b) Q)
     (drain : (a : List ℕ) → IfSome (option_map (λ who. Drain who) (name a)) Q) (arp : (a b : List ℕ) → IfSome (arp_line a b) Q) (resolve : (a : List ℕ) → IfSome (option_map (λ n. Resolve n) (port_number a)) Q)
     (packet : (a b : List ℕ) → IfSome (packet_line a b) Q) (frame : (a b : List ℕ) → IfSome (frame_line a b) Q) where
   or_bad_holds : (o : Option Event) → IfSome o Q → Q (or_bad o)
@@ -132,9 +139,10 @@ module _ (Q : Event → Type 0) (bad : Q Bad) (table : Q Table)
       (if_holds (is_word w (codes "resolve")) _ _ (or_bad_holds _ (resolve a)) bad))
   words_hold (w ∷ a ∷ b ∷ []) =
       if_holds (is_word w (codes "update")) _ _ (or_bad_holds _ (update a b))
+      (if_holds (is_word w (codes "take")) _ _ (or_bad_holds _ (takes a b))
       (if_holds (is_word w (codes "arp")) _ _ (or_bad_holds _ (arp a b))
       (if_holds (is_word w (codes "packet")) _ _ (or_bad_holds _ (packet a b))
-      (if_holds (is_word w (codes "frame")) _ _ (or_bad_holds _ (frame a b)) bad)))
+      (if_holds (is_word w (codes "frame")) _ _ (or_bad_holds _ (frame a b)) bad))))
   words_hold (w ∷ a ∷ b ∷ c ∷ []) =
       if_holds (is_word w (codes "exchange")) _ _ (or_bad_holds _ (exchange a b c))
       (if_holds (is_word w (codes "participant")) _ _ (or_bad_holds _ (participant a b c)) bad)
@@ -142,7 +150,10 @@ module _ (Q : Event → Type 0) (bad : Q Bad) (table : Q Table)
   words_hold (w ∷ a ∷ b ∷ c ∷ d ∷ e ∷ others) = bad
 
   verb_holds : (w rest : List ℕ) → Q (event_of_verb w rest)
-  verb_holds w rest = if_holds (is_word w (codes "export")) _ _ (or_bad_holds _ (export rest)) (words_hold (w ∷ pieces 32 rest))
+  verb_holds w rest =
+      if_holds (is_word w (codes "export")) _ _ (or_bad_holds _ (export rest))
+      (if_holds (is_word w (codes "out")) _ _ (or_bad_holds _ (outbound rest))
+      (if_holds (is_word w (codes "in")) _ _ (or_bad_holds _ (inbound rest)) (words_hold (w ∷ pieces 32 rest))))
 
   word_holds : (w : List ℕ) → Q (event_of_word w)
   word_holds w = if_holds (is_word w (codes "table")) _ _ table bad
@@ -157,5 +168,6 @@ module _ (Q : Event → Type 0) (bad : Q Bad) (table : Q Table)
 -- whatever a line says
 pub line_formed : (line : List ℕ) → IsWellFormed (event_of_line line)
 line_formed =
-    line_holds IsWellFormed tt tt exchange_formed participant_formed port_formed update_formed down_formed export_formed drain_formed (at_port (λ n octets. Arp n octets) (λ n octets h. h)) resolve_formed
+    line_holds IsWellFormed tt tt exchange_formed participant_formed port_formed update_formed down_formed (with_text (λ who text. Export who text) (λ who t n h. (n, h)))
+    (with_text (λ who text. Outbound who text) (λ who t n h. (n, h))) (with_text (λ who text. Inbound who text) (λ who t n h. (n, h))) take_formed drain_formed (at_port (λ n octets. Arp n octets) (λ n octets h. h)) resolve_formed
     (at_port (λ n octets. Packet n octets) (λ n octets h. h)) (at_port (λ n octets. Frame n octets) (λ n octets h. h))

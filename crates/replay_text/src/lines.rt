@@ -1,16 +1,16 @@
 //! Reading a line.
 ghost use Rattle.std.specs.Prelude.{◌≡◌, ◌∷◌, codes, nat_eq, not, IfOk, IfSome};
 ghost use Rattle.std.specs.Option.{option_map};
-ghost use Rattle.events.specs.declared.Event.TheVariants.{Arp, Export, Frame, Packet, Participant, Port};
+ghost use Rattle.events.specs.declared.Event.TheVariants.{Arp, Export, Frame, Inbound, Outbound, Packet, Participant, Port, Take};
 ghost use Rattle.events.specs.Forms.{IsWellFormed};
-ghost use Rattle.events.specs.Lines.{address, arp_line, event_of, event_of_line, event_of_verb, event_of_word, event_of_words, export_line, frame_line, is_skipped, only_if, or_bad, packet_line, pieces, update_line};
+ghost use Rattle.events.specs.Lines.{address, arp_line, event_of, event_of_line, event_of_verb, event_of_word, event_of_words, export_line, frame_line, in_line, is_skipped, only_if, or_bad, out_line, packet_line, pieces, take_line, update_line};
 
 use super::fields::{
     address, as_number, bytes, copied, hardware_address, is_text, name, number_within, port_number,
 };
 use super::pieces::{four_pieces, one_piece, split_once, three_pieces, two_pieces};
 use events::Event;
-use net_types::{Bytes, Ip, Mac, Memory, PortNo};
+use net_types::{Bytes, Ip, Mac, Memory, Name, PortNo, Text};
 use std::alloc::Global;
 
 fn exchange(text: &[u8]) -> Option<Event>
@@ -136,28 +136,82 @@ fn down(alloc: Global, text: &[u8]) -> Result<Option<Event>, Memory>
     Ok(Some(Event::Down { name }))
 }
 
-/// A name and the text of its rules, which is all that stands behind the space.
-fn export_parts(text: &[u8]) -> Option<(&[u8], &[u8])>
-    ensures { option_map (λ p. Export p.0.now p.1.now) result ≡ export_line text.now }
+/// A name, and behind the space the rest of the line: the parts of `export`, `out` and `in`.
+fn name_and_text(text: &[u8]) -> Option<(&[u8], &[u8])>
+    ensures export { option_map (λ p. Export p.0.now p.1.now) result ≡ export_line text.now }
+    ensures outbound { option_map (λ p. Outbound p.0.now p.1.now) result ≡ out_line text.now }
+    ensures inbound { option_map (λ p. Inbound p.0.now p.1.now) result ≡ in_line text.now }
 {
-    let (who, rules) = split_once(text, b' ')?;
+    let (who, rest) = split_once(text, b' ')?;
     let who = name(who)?;
-    if is_text(rules) {
-        Some((who, rules))
+    if is_text(rest) {
+        Some((who, rest))
     } else {
         None
     }
 }
 
-fn export(alloc: Global, text: &[u8]) -> Result<Option<Event>, Memory>
-    ensures { IfOk result (λ event. event ≡ export_line text.now) }
+/// Copies of a name and of the text behind it.
+fn copied_name_and_text(alloc: Global, text: &[u8]) -> Result<Option<(Name, Text)>, Memory>
+    ensures export { IfOk result (λ parts. option_map (λ p. Export p.0 p.1) parts ≡ export_line text.now) }
+    ensures outbound { IfOk result (λ parts. option_map (λ p. Outbound p.0 p.1) parts ≡ out_line text.now) }
+    ensures inbound { IfOk result (λ parts. option_map (λ p. Inbound p.0 p.1) parts ≡ in_line text.now) }
 {
-    let Some((name, rules)) = export_parts(text) else {
+    let Some((name, text)) = name_and_text(text) else {
         return Ok(None);
     };
     let name = copied(alloc, name)?;
-    let text = copied(alloc, rules)?;
-    Ok(Some(Event::Export { name, text }))
+    let text = copied(alloc, text)?;
+    Ok(Some((name, text)))
+}
+
+fn export(alloc: Global, text: &[u8]) -> Result<Option<Event>, Memory>
+    ensures { IfOk result (λ event. event ≡ export_line text.now) }
+{
+    match copied_name_and_text(alloc, text)? {
+        Some((name, text)) => Ok(Some(Event::Export { name, text })),
+        None => Ok(None),
+    }
+}
+
+fn outbound(alloc: Global, text: &[u8]) -> Result<Option<Event>, Memory>
+    ensures { IfOk result (λ event. event ≡ out_line text.now) }
+{
+    match copied_name_and_text(alloc, text)? {
+        Some((name, text)) => Ok(Some(Event::Outbound { name, text })),
+        None => Ok(None),
+    }
+}
+
+fn inbound(alloc: Global, text: &[u8]) -> Result<Option<Event>, Memory>
+    ensures { IfOk result (λ event. event ≡ in_line text.now) }
+{
+    match copied_name_and_text(alloc, text)? {
+        Some((name, text)) => Ok(Some(Event::Inbound { name, text })),
+        None => Ok(None),
+    }
+}
+
+fn take_event(alloc: Global, who: &[u8], count: &[u8]) -> Result<Option<Event>, Memory>
+    ensures { IfOk result (λ event. event ≡ take_line who.now count.now) }
+{
+    let Some(who) = name(who) else {
+        return Ok(None);
+    };
+    let Some(count) = number_within(1, 1000000, count) else {
+        return Ok(None);
+    };
+    let name = copied(alloc, who)?;
+    Ok(Some(Event::Take { name, count }))
+}
+
+fn take(alloc: Global, text: &[u8]) -> Result<Option<Event>, Memory>
+    ensures { IfOk result (λ event. or_bad event ≡ event_of_words (codes "take" ∷ pieces 32 text.now)) }
+{
+    match two_pieces(text, b' ') {
+        Some((who, count)) => take_event(alloc, who, count),
+        None => Ok(None),
+    }
 }
 
 fn resolve(text: &[u8]) -> Option<Event>
@@ -237,6 +291,8 @@ fn words_event(alloc: Global, word: &[u8], rest: &[u8]) -> Result<Option<Event>,
 {
     if word == b"update".as_slice() {
         update(alloc, rest)
+    } else if word == b"take".as_slice() {
+        take(alloc, rest)
     } else if word == b"drain".as_slice() {
         drain(alloc, rest)
     } else if word == b"down".as_slice() {
@@ -266,6 +322,10 @@ fn verb_event(alloc: Global, word: &[u8], rest: &[u8]) -> Result<Option<Event>, 
 {
     if word == b"export".as_slice() {
         export(alloc, rest)
+    } else if word == b"out".as_slice() {
+        outbound(alloc, rest)
+    } else if word == b"in".as_slice() {
+        inbound(alloc, rest)
     } else {
         words_event(alloc, word, rest)
     }

@@ -88,11 +88,11 @@ short_withdrawal p =
 abbrev RoutesFit : State → Type 0
 RoutesFit s = (who : Pid) (p : Prefix) (a : Attrs) → route s.routing who p ≡ Some a → length (announcement p a a.next_hop) ≤ 4096
 
-abbrev RoutesOf : Type 0
+abbrev pub RoutesOf : Type 0
 RoutesOf = FinMap route_cmp Attrs
 
 -- a route that stays was there
-still_there : (from : Pid) (ps : List Prefix) (m : RoutesOf) (k : RouteKey) (a : Attrs) → get (withdrawn from ps m) k ≡ Some a → get m k ≡ Some a
+pub still_there : (from : Pid) (ps : List Prefix) (m : RoutesOf) (k : RouteKey) (a : Attrs) → get (withdrawn from ps m) k ≡ Some a → get m k ≡ Some a
 still_there from [] m k a e = e
 still_there from (p ∷ ps) m k a e =
     let key : RouteKey = record { from = from; prefix = p } in
@@ -102,24 +102,26 @@ still_there from (p ∷ ps) m k a e =
     by true is = absurd (cc)
     by false is = is
 
--- a route that is there after an announcement was there, or is of the announced prefixes
-set_or_there : (from : Pid) (attrs : Attrs) (ps : List Prefix) (m : RoutesOf) (k : RouteKey) (a : Attrs) → get (announced_by from attrs ps m) k ≡ Some a → (get m k ≡ Some a) ⊎ (Member k.prefix ps × (attrs ≡ a))
+-- a route that is there after an announcement was there, or is the announcer's, of the announced prefixes
+pub set_or_there : (from : Pid) (attrs : Attrs) (ps : List Prefix) (m : RoutesOf) (k : RouteKey) (a : Attrs) → get (announced_by from attrs ps m) k ≡ Some a → (get m k ≡ Some a) ⊎ ((k.from ≡ from) × (attrs ≡ a) × Member k.prefix ps)
 set_or_there from attrs [] m k a e = inl e
 set_or_there from attrs (p ∷ ps) m k a e =
     let key : RouteKey = record { from = from; prefix = p } in
     elim (set_or_there from attrs ps (insert m key attrs) k a e) [
       | inl there ↦ by (eq_by_cmp route_cmp k key) refl (sym (get-insert routes_total m key attrs k) ∙ there)
-      | inr new ↦ inr (inr new.0, new.1)
+      | inr new ↦ inr (new.0, new.1, inr new.2)
     ]
   where
     some_of : (x y : Attrs) → Some x ≡ Some y → x ≡ y
     some_of x y e = cc
 
-    by : (b : Bool) → eq_by_cmp route_cmp k (record { from = from; prefix = p }) ≡ b → cond b (Some attrs) (get m k) ≡ Some a → (get m k ≡ Some a) ⊎ (Member k.prefix (p ∷ ps) × (attrs ≡ a))
-    by true is e = inr (inl (ap (λ (x : RouteKey). x.prefix) (same_from_tie route_cmp route_cmp-IsAntisymmetric k (record { from = from; prefix = p }) is)), some_of attrs a e)
+    by : (b : Bool) → eq_by_cmp route_cmp k (record { from = from; prefix = p }) ≡ b → cond b (Some attrs) (get m k) ≡ Some a → (get m k ≡ Some a) ⊎ ((k.from ≡ from) × (attrs ≡ a) × Member k.prefix (p ∷ ps))
+    by true is e =
+        let same : k ≡ record { from = from; prefix = p } = same_from_tie route_cmp route_cmp-IsAntisymmetric k (record { from = from; prefix = p }) is in
+        inr (ap (λ (x : RouteKey). x.from) same, some_of attrs a e, inl (ap (λ (x : RouteKey). x.prefix) same))
     by false is e = inl e
 
-not_gone : (from : Pid) (m : RoutesOf) (k : RouteKey) (a : Attrs) → get (changes.without_routes from m) k ≡ Some a → get m k ≡ Some a
+pub not_gone : (from : Pid) (m : RoutesOf) (k : RouteKey) (a : Attrs) → get (changes.without_routes from m) k ≡ Some a → get m k ≡ Some a
 not_gone from m k a e = by (not (nat_eq k.from.0 from.0)) (sym (get-retain_keys m (λ (x : RouteKey). not (nat_eq x.from.0 from.0)) k (λ x tie. ap (λ (y : RouteKey). not (nat_eq y.from.0 from.0)) (sym (route_cmp-IsAntisymmetric k x tie)))) ∙ e)
   where
     by : (b : Bool) → cond b (get m k) None ≡ Some a → get m k ≡ Some a
@@ -146,7 +148,7 @@ update_fits s who u small routes w p a e = by u.attrs small e
     by None small e = routes w p a (still_there who u.withdrawn s.routing.routes key a e)
     by (Some attrs) small e = elim (set_or_there who attrs u.announced (withdrawn who u.withdrawn s.routing.routes) key a e) [
       | inl there ↦ routes w p a (still_there who u.withdrawn s.routing.routes key a there)
-      | inr new ↦ subst (λ (x : Attrs). length (announcement p x x.next_hop) ≤ 4096) new.1 (announced_fit attrs u.announced small p new.0)
+      | inr new ↦ subst (λ (x : Attrs). length (announcement p x x.next_hop) ≤ 4096) new.1 (announced_fit attrs u.announced small p new.2)
     ]
 
 -- ---- lines

@@ -67,7 +67,7 @@ use Rattle.run_laws.specs.Given.{IsGivenIn, IsHeld, KeptOffersWereExported, Offe
 clash : {b : Bool} → b ≡ true → b ≡ false → ⊥
 clash e f = cc
 
-found : {A : Type 0} (test : A → Bool) (xs : List A) → list_any test xs ≡ true → (x : A) × Member x xs × (test x ≡ true)
+pub found : {A : Type 0} (test : A → Bool) (xs : List A) → list_any test xs ≡ true → (x : A) × Member x xs × (test x ≡ true)
 found test xs any =
     let there = some_there (find test xs) (is_some-any test xs ∙ any) in
     let is = find-IsFound test xs there.0 there.1 in
@@ -118,10 +118,10 @@ tells_tags s e r (inr (inr ending)) = told_changes s (next s e r) r (ending.tags
 -- ---- parts that lose offers
 
 -- a part with no offers but those of another, and with its best one
-record IsNarrower (one whole : Part) : Type 0 where
-  best : one.best ≡ whole.best
-  offers : (o : Offer) → Member o one.offers → Member o whole.offers
-  offered : is_offered whole.offers whole.best ≡ true → is_offered one.offers one.best ≡ true
+pub record IsNarrower (one whole : Part) : Type 0 where
+  pub best : one.best ≡ whole.best
+  pub offers : (o : Offer) → Member o one.offers → Member o whole.offers
+  pub offered : is_offered whole.offers whole.best ≡ true → is_offered one.offers one.best ≡ true
 
 as_wide : (x : Part) → IsNarrower x x
 as_wide x = record { best = refl; offers = λ o m. m; offered = λ is. is }
@@ -129,7 +129,7 @@ as_wide x = record { best = refl; offers = λ o m. m; offered = λ is. is }
 narrower_yet : (a b c : Part) → IsNarrower a b → IsNarrower b c → IsNarrower a c
 narrower_yet a b c ab bc = record { best = ab.best ∙ bc.best; offers = λ o m. bc.offers o (ab.offers o m); offered = λ is. ab.offered (bc.offered is) }
 
-trimmed_narrower : (who : Pid) (named : List Pid) (x : Part) → IsNarrower (trimmed_part who named x) x
+pub trimmed_narrower : (who : Pid) (named : List Pid) (x : Part) → IsNarrower (trimmed_part who named x) x
 trimmed_narrower who named x = by (nat_eq x.sender.0 who.0)
   where
     by : (b : Bool) → IsNarrower (cond b (record x { offers = filter (λ (o : Offer). counts named x.best o.exporter) x.offers }) x) x
@@ -219,7 +219,7 @@ outbound_leaves s who text named s1 is = record { told = is.told; kept = λ t si
               (whole.0, whole.1, narrower_yet one next_part.0 whole.0 next_part.2 (subst (λ x. IsNarrower x whole.0) whole.2 (trimmed_narrower who named whole.0)));
         }
 
-settled_kept : (s : State) (t : Tag) (sig : List Part) → get (settled s).kept t ≡ Some sig → get s.kept t ≡ Some sig
+pub settled_kept : (s : State) (t : Tag) (sig : List Part) → get (settled s).kept t ≡ Some sig → get s.kept t ≡ Some sig
 settled_kept s t sig is =
     some_cond (is_live s t) (get s.kept t) sig (sym (get-retain_keys s.kept (is_live s) t (λ x tie. ap (is_live s) (sym (tag_cmp-IsAntisymmetric t x tie)))) ∙ is)
 

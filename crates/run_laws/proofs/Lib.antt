@@ -7,3 +7,6 @@ pub mod Taking
 pub mod Answering
 pub mod Sharing
 pub mod Giving
+pub mod OwnPorts
+pub mod OwnHops
+pub mod Reaching

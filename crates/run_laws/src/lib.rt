@@ -2,7 +2,7 @@
 //! have empty bodies, and their contracts are the laws.
 #![tactic(auto)]
 
-ghost use Rattle.run_laws.specs.Given.{KeptOffersWereExported};
+ghost use Rattle.run_laws.specs.Given.{KeptOffersWereExported, StaleTagsReachExporters};
 ghost use Rattle.run_laws.specs.Promises.{AdvertsFitMessages, PoliciesHavePassed, RefusalsChangeNothing};
 ghost use Rattle.run_laws.specs.Sharing.{FreshTagsWereDead, SharedTagsShareSignatures};
 ghost use Rattle.run_laws.specs.Taking.{TakesTellTheFirst};
@@ -46,4 +46,11 @@ pub fn shared_tags_share_signatures()
 /// it in the state just after the last line that gave the prefix the tag.
 pub fn kept_offers_were_exported()
     ensures { KeptOffersWereExported }
+{}
+
+/// After any legal run of lines that can be written, a frame that comes in at a port for a tag that the port's owner was told of a
+/// prefix, fresh or stale, leaves only by ports of participants that exported the prefix to it in the state just after the
+/// last line that gave the prefix the tag.
+pub fn stale_tags_reach_exporters()
+    ensures { StaleTagsReachExporters }
 {}

@@ -2,4 +2,4 @@ use Rattle.exchange_laws.proofs.Parts.{signature_whole}
 use Rattle.exchange_laws.proofs.whole.signatures_are_whole.Goals as goal
 
 pub returns : goal.returns
-returns c r p part m = signature_whole r p part m
+returns c = signature_whole
