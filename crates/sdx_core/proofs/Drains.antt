@@ -47,6 +47,8 @@ use Rattle.sdx_core.proofs.Steps.{in_place, placed, steady_after}
 use Rattle.sdx_core.proofs.Taken.{pairs_go, tags_go, tags_unused}
 use Rattle.sdx_core.specs.Changing.{IsSender}
 use Rattle.sdx_core.specs.Taking.{IsTaker, all_pairs, dead_tags, gone_for, has_none}
+use Rattle.sdx_core.specs.Programs.{inbound_texts, outbound_texts}
+use Rattle.sdx_core.specs.declared.programs.Programs.{Programs}
 use Rattle.sdx_core.specs.View.{IsKept, state_of}
 use Rattle.std.specs.Prelude.{codes}
 use Rattle.events.specs.declared.Phase.{Phase}
@@ -119,7 +121,7 @@ module _ (s : State) (who : Pid) (dead : List Tag) (are : AreDead s (told_anew s
 
 -- ---- the line
 
-module _ (s : State) (who : Pid) (pool : Tags) (kept : IsKept s pool) (taker : IsTaker s who) where
+module _ (s : State) (who : Pid) (pool : Tags) {all : List Programs} (kept : IsKept s pool all) (taker : IsTaker s who) where
   pub place : who.0 < length s.told
   place =
       let within : who.0 < length s.routing.participants = declared_pid s.routing taker.name who taker.sender.known in
@@ -197,30 +199,31 @@ module _ (s : State) (who : Pid) (pool : Tags) (kept : IsKept s pool) (taker : I
   given_back = given_in_turn s who dead are_dead kept.steady.pooled pool of_pool dead_rise
 
   -- what is kept holds of it
-  pub drain_kept : IsKept s2 (marked_all pool dead false)
+  pub drain_kept : IsKept s2 (marked_all pool dead false) all
   drain_kept =
       let of = pool_then s who dead are_dead kept.steady.pooled pool of_pool in record {
         steady = steady_after s (Drain taker.name) drain_reply s2 kept.steady taker.formed (drain_step taker.name taker.sender);
         free = sym of.free;
         base = of.base;
         size = of.size;
+        compiled = kept.compiled;
       }
 
 -- the parts make the state in which the participant was told what is present
-pub told_then : (phase : Phase) (base : Ip) (size : ℕ) (names : Registered) (served : Served) (resolved : List (List Ip)) (classes : Classes) (heard : List (FinMap prefix_cmp Entry)) (installed : Installed) (who : Pid)
+pub told_then : (phase : Phase) (base : Ip) (size : ℕ) (names : Registered) (served : Served) (resolved : List (List Ip)) (classes : Classes) (heard : List (FinMap prefix_cmp Entry)) (installed : Installed) (all : List Programs) (who : Pid)
     (classes' : Classes) (heard' : List (FinMap prefix_cmp Entry)) (installed' : Installed)
-    → let s = state_of phase base size names served resolved classes heard installed in
+    → let s = state_of phase base size names served resolved classes heard installed all in
     let s' = told_anew s who (present s who) in
     heard' ≡ s'.told → classes'.tag ≡ classes.tag → classes'.kept ≡ s'.kept → installed'.table ≡ s'.table → installed'.capacity ≡ installed.capacity
-    → state_of Running base size names served resolved classes' heard' installed' ≡ s'
-told_then phase base size names served resolved classes heard installed who classes' heard' installed' heard_is tag kept table capacity = λ i. record {
+    → state_of Running base size names served resolved classes' heard' installed' all ≡ s'
+told_then phase base size names served resolved classes heard installed all who classes' heard' installed' heard_is tag kept table capacity = λ i. record {
   phase = Running;
   base = base;
   size = size;
   capacity = capacity i;
   routing = record { participants = names.participants; ports = names.ports; rules = served.rules; named = served.named; routes = served.routes };
-  outbound = map (λ m. codes "drop") names.participants;
-  inbound = map (λ m. codes "drop") names.participants;
+  outbound = outbound_texts all;
+  inbound = inbound_texts all;
   tag = tag i;
   kept = kept i;
   told = heard_is i;

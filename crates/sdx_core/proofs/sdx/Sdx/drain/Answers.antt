@@ -10,7 +10,7 @@ use Rattle.sdx_core.proofs.sdx.Sdx.drain.Goals as goal
 pub taking-requires : goal.taking-requires
 taking-requires c =
     let a = c.self.inside in
-    let s : State = state_of a.phase a.base a.size a.registry a.server a.resolved.items a.classes a.told.items a.switch in
+    let s : State = state_of a.phase a.base a.size a.registry a.server a.resolved.items a.classes a.told.items a.switch a.programs.items in
     let taker : IsTaker s c.in-Ok.who = record {
       name = c.args.name.now;
       formed = c.requires;

@@ -34,7 +34,7 @@ dead_among-requires c =
 pub returns : goal.returns
 returns c =
     let a = c.self.inside in
-    let s : State = state_of a.phase a.base a.size a.registry a.server a.resolved.items a.classes a.told.items a.switch in
+    let s : State = state_of a.phase a.base a.size a.registry a.server a.resolved.items a.classes a.told.items a.switch a.programs.items in
     let place : c.args.who.0 < length a.told.items = subst (λ (x : State). c.args.who.0 < length x.told) (sym c.self.view_is) c.requires in
     let now_is : c.in_ok-present.present ≡ present s c.args.who = c.in_ok-present.ensures ∙ ap (λ x. present x c.args.who) (sym c.self.view_is) in
     let told_is : c.index-told.result.now ≡ told_to s c.args.who = read_at a.told.items c.args.who.0 c.index-told.result.now empty place c.index-told.ensures in
