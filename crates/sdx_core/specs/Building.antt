@@ -77,7 +77,7 @@ Asks s e (Err why) = refusal s e ≡ Some why
 pub record IsSending (s : State) (who : Pid) (text : List ℕ) (p : Policy) (q : Request) : Type 0 where
   pub program : Program
   pub change : q.change ≡ Outbound who program
-  pub text : program.text ≡ text
+  pub read : program.text ≡ text
   pub compiled : IsCompiled (pid_of s.routing) program
   pub named : q.proposal.named ≡ Some (who, named_in (pid_of s.routing) p)
   pub proposes : IsProposal (with_named s.routing who (both (named_by s.routing who) (named_in (pid_of s.routing) p))) (with_named s.routing who (named_in (pid_of s.routing) p)) q.proposal
@@ -88,7 +88,7 @@ pub record IsSending (s : State) (who : Pid) (text : List ℕ) (p : Policy) (q :
 pub record IsReceiving (s : State) (who : Pid) (text : List ℕ) (q : Request) : Type 0 where
   pub program : Program
   pub change : q.change ≡ Inbound who program
-  pub text : program.text ≡ text
+  pub read : program.text ≡ text
   pub compiled : IsCompiled (pid_of s.routing) program
   pub named : q.proposal.named ≡ None
   pub proposes : IsProposal s.routing s.routing q.proposal
