@@ -97,7 +97,7 @@ entry_found R o (d ∷ es) sorted e (inr m) =
     let later = entry_found R o es sorts.1 e m in
     ap (λ b. cond b (Some d.1) (find R e.0 es)) (later_apart R o d.0 e.0 e.1 es sorts.0 later) ∙ later
 
-entry_at : (t : FinMap pair_cmp (List Rule)) (e : Pair × List Rule) → Member e (entries t) → get t e.0 ≡ Some e.1
+pub entry_at : (t : FinMap pair_cmp (List Rule)) (e : Pair × List Rule) → Member e (entries t) → get t e.0 ≡ Some e.1
 entry_at t e m = get-entries t e.0 ∙ entry_found pair_cmp pairs_total (entries t) (entries_sorted t) e m
 
 -- ---- rules

@@ -22,6 +22,7 @@ pub mod OwnHops
 pub mod NewStates
 pub mod LineSteps
 pub mod PassedSteps
+pub mod TidySteps
 pub mod SteadySteps
 pub mod QuietLines
 pub mod ListedPairs

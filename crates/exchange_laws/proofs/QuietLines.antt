@@ -17,7 +17,7 @@ use Rattle.events.specs.declared.Reply.{Reply}
 use Rattle.exchange_laws.proofs.LineSteps.{QuietStep, arp_step, exchange_step, participant, participant_step, pool, port, port_step, resolve_step, resolved, running_step}
 use Rattle.exchange_laws.proofs.NewStates.{new_sound, no_pair}
 use Rattle.exchange_laws.proofs.Rerouted.{passes}
-use Rattle.exchange_laws.proofs.SteadySteps.{IsNewYet, not_running, not_running_yet, quiet_new}
+use Rattle.exchange_laws.proofs.TidySteps.{IsNewYet, not_running, not_running_yet, quiet_new}
 use Rattle.exchange_laws.specs.Quiet.{QuietLinesAreAccepted, is_quiet}
 use Rattle.exchange_laws.specs.Steady.{IsNew, IsSteady}
 use Rattle.net_types.specs.Arp.{arp_reply, asked_ip, asker_ip, asker_mac}

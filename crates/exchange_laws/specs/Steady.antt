@@ -62,7 +62,8 @@ pub record IsNew (s : State) : Type 0 where
 
 -- The state is sound. The live tags are the pool's, and exactly they are kept. Each port, each route and each map of what
 -- was told is a declared participant's, ports differ, and each NEXT_HOP is at a port of its route's participant. The lists
--- are as long as what is declared, all policies drop, no job runs, and nothing is there before the exchange runs.
+-- are as long as what is declared, each policy passed isolation, rules can be built of the parts that are kept, no job runs,
+-- and nothing is there before the exchange runs.
 pub record IsSteady (s : State) : Type 0 where
   pub sound : IsSound s
   pub pooled : TagsArePooled s

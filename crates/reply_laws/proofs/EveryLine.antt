@@ -1,65 +1,70 @@
 -- Each line has a reply that fits.
-use Rattle.std.proofs.Common.{◌≡◌, ◌⊎◌, ◌&&◌, nat_eq, ℕ, ◌<◌, ◌≤◌, ◌^◌, Bool, true, false, cond, not, List, [], ◌∷◌, ◌++◌, map, sym, ap, subst, ◌∙◌, refl, arith, inl, inr}
-use Rattle.std.specs.Prelude.{Option, Some, None, is_some, MatchOption, slice_get, slice_set, unwrap_or}
+use Rattle.std.proofs.Common.{◌≡◌, ◌&&◌, nat_eq, nat_lt, ℕ, ◌<◌, ◌≤◌, ◌^◌, Bool, true, false, cond, not, List, [], ◌∷◌, ◌++◌, length, map, sym, ap, subst, ◌∙◌, refl, arith, inl, inr}
+use Rattle.std.specs.Prelude.{Option, Some, None, Result, Ok, Err, is_some, MatchOption, slice_get, slice_set, take, unwrap_or}
 use Rattle.std.specs.FinMap.{FinMap, contains_key-keys, empty, get, get-empty, keys}
 use Rattle.std.specs.Option.{option_map_or}
-use Rattle.std.proofs.lemmas.Bool.{cases_lt, false≢true}
-use Rattle.net_types.proofs.OrderedLemmas.{member_any}
-use Rattle.events.specs.After.{after, next, next_by, running, settled, with_known, with_port, with_told}
+use Rattle.std.proofs.lemmas.Bool.{false≢true}
+use Rattle.events.proofs.Reached.{declared_pid}
+use Rattle.events.specs.After.{after, next, next_by, received_by, running, sent_by, settled, taken, with_known, with_named, with_port, with_told}
 use Rattle.events.specs.Forms.{IsWellFormed}
-use Rattle.events.specs.Fits.{Fits, FitsBy, IsAnswer, IsSent, IsTagged, added, adverts, asks_for, bare, by_table, all_flows, destination, dropped, none_rebuilt, responder_reply, tag_changes, tagged_frame}
+use Rattle.events.specs.Fits.{Fits, FitsBy, IsAnswer, IsSent, IsTagged, adverts, asks_for, bare, by_table, all_flows, destination, dropped, is_receivers, is_senders, none_rebuilt, responder_reply, tagged_frame}
 use Rattle.events.specs.Legal.{LegalFrom}
-use Rattle.events.specs.Pending.{pending}
-use Rattle.events.specs.Refusals.{is_datagram, refusal, refused_if}
+use Rattle.events.specs.Pending.{pending, with_all_news}
+use Rattle.events.specs.Refusals.{if_short, inbound_refusal, is_datagram, outbound_refusal, refusal, refused_if}
 use Rattle.events.specs.Resolving.{is_pool_request, is_resolved, port_place, resolved_at, tag_address, unresolved, with_answer, with_resolved}
-use Rattle.events.specs.Sound.{rule_count}
 use Rattle.events.specs.State.{State, first, port_of, present, told_to}
-use Rattle.events.specs.Tags.{retagged}
 use Rattle.events.specs.declared.Entry.{Entry}
 use Rattle.events.specs.declared.Event.{Event}
 use Rattle.events.specs.declared.Event.TheVariants.{Bad, Exchange, Participant as DeclaresParticipant, Port as DeclaresPort, Update, Down, Export, Outbound, Inbound, Take, Drain, Arp, Resolve, Packet, Frame, Recompile, Work, Table}
 use Rattle.events.specs.declared.Head.{Head}
 use Rattle.events.specs.declared.Head.TheVariants.{Fine, Working, Finished, Unrouted, Unresolved, Silent, Refused}
 use Rattle.events.specs.declared.Refusal.{Refusal}
-use Rattle.events.specs.declared.Refusal.TheVariants.{BadPacket, TableFull}
+use Rattle.events.specs.declared.Refusal.TheVariants.{BadPacket}
 use Rattle.events.specs.declared.Reply.{Reply}
-use Rattle.exchange_laws.proofs.AcceptedChanges.{reroutings_are_accepted, reroutings_are_changes}
-use Rattle.exchange_laws.proofs.Built.{defaults_are_rules}
+use Rattle.exchange_laws.proofs.Bases.{inbound_bases, outbound_bases, steady_are_bases}
+use Rattle.exchange_laws.proofs.Edited.{reroutings_are_changes, reroutings_are_edits}
 use Rattle.exchange_laws.proofs.Forwarded.{forwarded}
 use Rattle.exchange_laws.proofs.Framing.{readdressed, tagged_octets}
-use Rattle.exchange_laws.proofs.FullTables.{accepted_lines_fit, full_tables_are_refused}
-use Rattle.exchange_laws.proofs.OneRuleEach.{steady_have_one_each}
-use Rattle.exchange_laws.proofs.PoolTags.{told_small}
+use Rattle.exchange_laws.proofs.FullTables.{accepted_lines_fit}
+use Rattle.exchange_laws.proofs.LineSteps.{short}
 use Rattle.exchange_laws.proofs.Octets.{no_octets, octets_append, octets_more}
+use Rattle.exchange_laws.proofs.PolicyEdits.{inbounds_are_changes, inbounds_are_edits, outbounds_are_changes, outbounds_are_edits}
+use Rattle.exchange_laws.proofs.PoolTags.{told_small}
 use Rattle.exchange_laws.proofs.QuietLines.{quiet_lines_are_accepted}
 use Rattle.exchange_laws.proofs.Rerouted.{Rerouted, known, passes, rerouted}
-use Rattle.exchange_laws.proofs.RulesAfter.{defaults_are_tables}
 use Rattle.exchange_laws.proofs.SteadySteps.{starts_steady, steps_stay_steady}
-use Rattle.exchange_laws.proofs.ToldAnew.{drains_are_accepted}
-use Rattle.exchange_laws.specs.Quiet.{is_quiet}
+use Rattle.exchange_laws.proofs.ToldAnew.{drains_are_accepted, takes_are_accepted}
+use Rattle.exchange_laws.specs.Editing.{IsBase, inbound_base, outbound_base}
 use Rattle.exchange_laws.specs.Octets.{AreOctets, IsMac}
-use Rattle.reply_laws.specs.Replying.{HasOctets, LinesHaveReplies, PortsHaveMacs, RunsGoOn}
+use Rattle.exchange_laws.specs.Quiet.{is_quiet}
 use Rattle.exchange_laws.specs.Rerouting.{IsRerouting, is_rerouting}
-use Rattle.exchange_laws.specs.Rules.{IsChange, table_after, with_default_rules}
 use Rattle.exchange_laws.specs.Steady.{IsSteady}
 use Rattle.exchange_laws.specs.Telling.{told_anew}
+use Rattle.grammar.specs.TextReading.{Fault as Misread}
 use Rattle.net_types.proofs.FindLemmas.{find-IsFound}
 use Rattle.net_types.proofs.LongestLemmas.{IsLongest, is_longest}
 use Rattle.net_types.proofs.OrderLemmas.{prefix_tie, prefixes_total}
+use Rattle.net_types.proofs.OrderedLemmas.{member_any}
 use Rattle.net_types.proofs.SetLemmas.{Member-append_cases}
 use Rattle.net_types.specs.Arp.{asked_ip, asker_mac, no_mac}
 use Rattle.net_types.specs.Exports.{pid_of}
+use Rattle.net_types.specs.Frames.{framed}
 use Rattle.net_types.specs.Keys.{ip_cmp, prefix_cmp}
 use Rattle.net_types.specs.Maps.{ordered}
+use Rattle.net_types.specs.Naming.{named_in}
 use Rattle.net_types.specs.Octets.{same_octets}
+use Rattle.net_types.specs.Policies.{Policy}
+use Rattle.net_types.specs.PolicyReading.{policy_of_text}
 use Rattle.net_types.specs.Routes.{longest_of}
 use Rattle.net_types.specs.Sets.{Member}
 use Rattle.net_types.specs.declared.address.Ip.{Ip}
 use Rattle.net_types.specs.declared.address.Mac.{Mac}
+use Rattle.net_types.specs.declared.address.Pid.{Pid}
 use Rattle.net_types.specs.declared.address.PortNo.{PortNo}
 use Rattle.net_types.specs.declared.prefix.Prefix.{Prefix}
 use Rattle.net_types.specs.declared.route.PortInfo.{PortInfo}
-use Rattle.net_types.specs.Frames.{framed}
+use Rattle.reply_laws.proofs.BuiltLines.{built_reply}
+use Rattle.reply_laws.specs.Replying.{HasOctets, LinesHaveReplies, PortsHaveMacs, RunsGoOn}
 
 -- ---- octets
 
@@ -109,6 +114,14 @@ rerouted_macs s e macs rerouting none =
     let r = rerouted s e rerouting none in
     subst PortsHaveMacs (sym r.leaves) (λ q m. macs q (subst (Member q) r.alike.ports m))
 
+sent_macs : (s : State) (who : Pid) (text : List ℕ) (read : Result Policy Misread) → PortsHaveMacs s → PortsHaveMacs (sent_by s who text read)
+sent_macs s who text (Ok p) macs = macs
+sent_macs s who text (Err fault) macs = macs
+
+received_macs : (s : State) (who : Pid) (text : List ℕ) (read : Result Policy Misread) → PortsHaveMacs s → PortsHaveMacs (received_by s who text read)
+received_macs s who text (Ok p) macs = macs
+received_macs s who text (Err fault) macs = macs
+
 after_macs : (s : State) (e : Event) → PortsHaveMacs s → IsWellFormed e → HasOctets e → refusal s e ≡ None → PortsHaveMacs (after s e)
 after_macs s Bad macs formed octets none = macs
 after_macs s (Exchange base size capacity) macs formed octets none = macs
@@ -118,9 +131,10 @@ after_macs s (DeclaresPort name number ip mac) macs formed octets none =
 after_macs s (Update name bytes) macs formed octets none = rerouted_macs s (Update name bytes) macs refl none
 after_macs s (Down name) macs formed octets none = rerouted_macs s (Down name) macs refl none
 after_macs s (Export name text) macs formed octets none = rerouted_macs s (Export name text) macs refl none
-after_macs s (Outbound name text) macs formed octets none = absurd formed
-after_macs s (Inbound name text) macs formed octets none = absurd formed
-after_macs s (Take name count) macs formed octets none = absurd formed
+after_macs s (Outbound name text) macs formed octets none = known_macs s (pid_of s.routing name) (λ who. sent_by s who text (policy_of_text text)) macs (λ who. sent_macs s who text (policy_of_text text) macs)
+after_macs s (Inbound name text) macs formed octets none =
+    known_macs s (pid_of s.routing name) (λ who. received_by s who text (policy_of_text text)) macs (λ who. received_macs s who text (policy_of_text text) macs)
+after_macs s (Take name count) macs formed octets none = known_macs s (pid_of s.routing name) (λ who. settled (running (taken s who (take count (pending s who))))) macs (λ who. macs)
 after_macs s (Drain name) macs formed octets none = known_macs s (pid_of s.routing name) (λ who. settled (running (with_told s who (present s who)))) macs (λ who. macs)
 after_macs s (Arp n bytes) macs formed octets none = known_macs s (port_of s n) (λ q. running (with_answer s q bytes)) macs (λ q. answered_macs s q bytes macs)
 after_macs s (Resolve n) macs formed octets none = known_macs s (port_of s n) (λ q. running (with_resolved s n (unresolved s q))) macs (λ q. resolved_macs s n (unresolved s q) macs)
@@ -217,31 +231,50 @@ drain_reply s name steady none =
     let law = drains_are_accepted s name k.0 r steady.sound k.1 (record { head = refl; tags = refl; drops = refl; adds = refl; adverts = refl; asks = refl; frames = refl }) in
     (r, accepted_lines_fit s (Drain name) r none law.1)
 
+take_reply : (s : State) (name : List ℕ) (count : ℕ) → IsSteady s → refusal s (Take name count) ≡ None → (r : Reply) × Fits s (Take name count) r
+take_reply s name count steady none =
+    let k = known (pid_of s.routing name) (λ who. None) (passes s (Take name count) none).1 in
+    let ps : List Prefix = take count (pending s k.0) in
+    let s1 : State = told_anew s k.0 (with_all_news (present s k.0) (told_to s k.0) ps) in
+    let r : Reply = record (bare Fine) { drops = dropped s s1 none_rebuilt; adverts = adverts s k.0 ps } in
+    let law = takes_are_accepted s name k.0 count r steady.sound k.1 (record { head = refl; tags = refl; drops = refl; adds = refl; adverts = refl; asks = refl; frames = refl }) in
+    (r, accepted_lines_fit s (Take name count) r none law.1)
+
 rerouting_reply : (s : State) (e : Event) → IsSteady s → is_rerouting e ≡ true → refusal s e ≡ None → (r : Reply) × Fits s e r
-rerouting_reply s e steady rerouting none = by (cases_lt s.capacity (rule_count (with_default_rules s (retagged s to.routing))))
-  where
-    to : Rerouted s e
-    to = rerouted s e rerouting none
+rerouting_reply s e steady rerouting none =
+    let to : Rerouted s e = rerouted s e rerouting none in
+    let is : IsRerouting s e to.routing = record { passes = none; building = rerouting; leaves = to.leaves } in
+    let base : IsBase s none_rebuilt = steady_are_bases s steady in
+    built_reply s to.routing none_rebuilt base (reroutings_are_changes s e to.routing base is) s e (reroutings_are_edits s e to.routing is)
 
-    is : IsRerouting s e to.routing
-    is = record { passes = none; building = rerouting; leaves = to.leaves }
+-- ---- policies
 
-    change : IsChange s to.routing
-    change = reroutings_are_changes s e to.routing steady.sound steady.pooled steady.owners is
+read_outbound_reply : (s : State) (name text : List ℕ) (who : Pid) → IsSteady s → pid_of s.routing name ≡ Some who → refusal s (Outbound name text) ≡ None → (o : Result Policy Misread) → policy_of_text text ≡ o → outbound_refusal s who text o ≡ None
+    → (r : Reply) × Fits s (Outbound name text) r
+read_outbound_reply s name text who steady declared none (Err fault) read free = absurd (cc)
+read_outbound_reply s name text who steady declared none (Ok p) read free =
+    let named : List Pid = named_in (pid_of s.routing) p in
+    built_reply (outbound_base s who text named) (with_named s.routing who named) (is_senders s who) (outbound_bases s who text p steady (declared_pid s.routing name who declared) read)
+    (outbounds_are_changes s name text who p steady declared read none) s (Outbound name text) (outbounds_are_edits s name text who p steady declared read none)
 
-    s1 : State
-    s1 = with_default_rules s (retagged s to.routing)
+read_inbound_reply : (s : State) (name text : List ℕ) (who : Pid) → IsSteady s → pid_of s.routing name ≡ Some who → refusal s (Inbound name text) ≡ None → (o : Result Policy Misread) → policy_of_text text ≡ o → inbound_refusal s who o ≡ None
+    → (r : Reply) × Fits s (Inbound name text) r
+read_inbound_reply s name text who steady declared none (Err fault) read free = absurd (cc)
+read_inbound_reply s name text who steady declared none (Ok p) read free =
+    built_reply (inbound_base s who text) s.routing (is_receivers s who) (inbound_bases s who text p steady (declared_pid s.routing name who declared) read)
+    (inbounds_are_changes s who text p steady read) s (Inbound name text) (inbounds_are_edits s name text who p steady declared read none)
 
-    built : Reply
-    built = record (bare Fine) { tags = tag_changes s.tag s1.tag; drops = dropped s s1 none_rebuilt; adds = added s s1 none_rebuilt }
+outbound_reply : (s : State) (name text : List ℕ) → IsSteady s → refusal s (Outbound name text) ≡ None → (r : Reply) × Fits s (Outbound name text) r
+outbound_reply s name text steady none =
+    let refuses : Pid → Option Refusal = λ w. outbound_refusal s w text (policy_of_text text) in
+    let k = known (pid_of s.routing name) (λ w. if_short text (refuses w)) (passes s (Outbound name text) none).1 in
+    read_outbound_reply s name text k.0 steady k.1 none (policy_of_text text) refl (short (nat_lt 8192 (length text)) (refuses k.0) k.2)
 
-    by : (s.capacity < rule_count s1) ⊎ (rule_count s1 ≤ s.capacity) → (r : Reply) × Fits s e r
-    by (inl over) = (bare (Refused (TableFull (rule_count s1) s.capacity)), full_tables_are_refused s e to.routing is change (steady_have_one_each s steady) over)
-    by (inr few) = (
-      built,
-      (reroutings_are_accepted s e to.routing (table_after s (retagged s to.routing)) built is change (defaults_are_tables s to.routing change steady.drop) (defaults_are_rules s to.routing steady.pooled) few
-          (record { head = refl; tags = refl; drops = refl; adds = refl; adverts = refl; asks = refl; frames = refl })).1,
-    )
+inbound_reply : (s : State) (name text : List ℕ) → IsSteady s → refusal s (Inbound name text) ≡ None → (r : Reply) × Fits s (Inbound name text) r
+inbound_reply s name text steady none =
+    let refuses : Pid → Option Refusal = λ w. inbound_refusal s w (policy_of_text text) in
+    let k = known (pid_of s.routing name) (λ w. if_short text (refuses w)) (passes s (Inbound name text) none).1 in
+    read_inbound_reply s name text k.0 steady k.1 none (policy_of_text text) refl (short (nat_lt 8192 (length text)) (refuses k.0) k.2)
 
 answered : (s : State) (e : Event) → IsSteady s → PortsHaveMacs s → IsWellFormed e → HasOctets e → refusal s e ≡ None → (r : Reply) × Fits s e r
 answered s Bad steady macs formed octets none = absurd (let never = (passes s Bad none).1 in cc)
@@ -251,9 +284,9 @@ answered s (DeclaresPort name number ip mac) steady macs formed octets none = qu
 answered s (Update name bytes) steady macs formed octets none = rerouting_reply s (Update name bytes) steady refl none
 answered s (Down name) steady macs formed octets none = rerouting_reply s (Down name) steady refl none
 answered s (Export name text) steady macs formed octets none = rerouting_reply s (Export name text) steady refl none
-answered s (Outbound name text) steady macs formed octets none = absurd formed
-answered s (Inbound name text) steady macs formed octets none = absurd formed
-answered s (Take name count) steady macs formed octets none = absurd formed
+answered s (Outbound name text) steady macs formed octets none = outbound_reply s name text steady none
+answered s (Inbound name text) steady macs formed octets none = inbound_reply s name text steady none
+answered s (Take name count) steady macs formed octets none = take_reply s name count steady none
 answered s (Drain name) steady macs formed octets none = drain_reply s name steady none
 answered s (Arp n bytes) steady macs formed octets none = quietly s (Arp n bytes) (responder_reply s bytes) steady formed none refl refl
 answered s (Resolve n) steady macs formed octets none = resolve_reply s n steady formed none

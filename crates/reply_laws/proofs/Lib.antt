@@ -1,1 +1,2 @@
+pub mod BuiltLines
 pub mod EveryLine

@@ -1,5 +1,5 @@
 -- Each line has a reply that fits, so legal replies to the first lines of a run go on (this exchange's own rule).
-use Rattle.std.specs.Prelude.{◌≡◌, ℕ, ◌<◌, List, ◌++◌, length, slice_index}
+use Rattle.std.specs.Prelude.{List, ◌++◌}
 use Rattle.events.specs.Forms.{IsWellFormed}
 use Rattle.events.specs.Fits.{Fits}
 use Rattle.events.specs.Legal.{Legal}
@@ -9,7 +9,6 @@ use Rattle.events.specs.declared.Event.TheVariants.{Bad, Exchange, Participant a
 use Rattle.events.specs.declared.Reply.{Reply}
 use Rattle.exchange_laws.specs.Steady.{IsSteady}
 use Rattle.net_types.specs.Sets.{Member}
-use Rattle.net_types.specs.declared.address.Mac.{Mac}
 use Rattle.net_types.specs.declared.route.PortInfo.{PortInfo}
 use Rattle.exchange_laws.specs.Octets.{AreOctets, IsMac}
 

@@ -7,22 +7,20 @@ use Rattle.std.specs.FinMap.{FinMap, get}
 use Rattle.std.proofs.lemmas.Bool.{and_parts, and_from, eqb-true, eq-eqb}
 use Rattle.net_types.proofs.PrefixLemmas.{prefix_ext}
 use Rattle.net_types.specs.Changes.{Differs}
-use Rattle.net_types.specs.Exports.{Routing, same_prefix, is_given}
+use Rattle.net_types.specs.Exports.{same_prefix, is_given}
 use Rattle.net_types.specs.Keys.{RouteKey, route_cmp}
 use Rattle.net_types.specs.Routes.{Candidate, given, candidates, candidate, best_of, pids}
 use Rattle.net_types.specs.Sets.{Member}
 use Rattle.net_types.specs.Signatures.{part, offer, counts}
 use Rattle.net_types.specs.declared.address.Pid.{Pid}
-use Rattle.net_types.specs.declared.export.ExportRule.{ExportRule}
 use Rattle.net_types.specs.declared.prefix.Prefix.{Prefix}
 use Rattle.net_types.specs.declared.route.Attrs.{Attrs}
 use Rattle.net_types.specs.declared.route.Part.{Part}
 use Rattle.registry.specs.Registered.{Registered}
 use Rattle.route_server.specs.Edits.{prefixes_of}
 use Rattle.route_server.specs.Effects.{AreRowsOf}
-use Rattle.route_server.specs.Proposed.{Proposed, IsProposal, named_with}
 use Rattle.route_server.specs.Rows.{look, names_at}
-use Rattle.route_server.specs.Served.{Served, AreOwned, routing, one_after, route_after, Reaches}
+use Rattle.route_server.specs.Served.{Served, routing, one_after, route_after, Reaches}
 use Rattle.route_server.specs.declared.change.Change.{Change}
 
 same_prefix_is : (p q : Prefix) → same_prefix p q ≡ true → p ≡ q
@@ -82,18 +80,3 @@ same_routes names v w p rules named same = no_other names v w p named (λ to fro
 pub rules_are : {A B : Type 0} (f : A → B) (o : Option A) (q : Option B) (d : B) → option_map f o ≡ q → option_map_or f o d ≡ unwrap_or q d
 rules_are f None q d e = ap (λ x. unwrap_or x d) e
 rules_are f (Some x) q d e = ap (λ y. unwrap_or y d) e
-
--- what a commit does keeps next hops owned
-pub stays_owned : (p : Proposed) (old now : FinMap route_cmp Attrs) → ((m : FinMap route_cmp Attrs) → Reaches p.changes old m → now ≡ m)
-    → (r s : Routing) → r.routes ≡ old → IsProposal r s p → AreOwned r → AreOwned (record s { routes = now })
-stays_owned p old now h r s same k owned =
-    subst (λ m. AreOwned (record s { routes = m })) (sym (h s.routes (subst (λ m. Reaches p.changes m s.routes) same k.routes))) (k.owned owned)
-
--- what a commit does leads to what was proposed
-pub reached_by : (p : Proposed) (old now : FinMap route_cmp Attrs) (rules after : List (List ExportRule)) (named then : List (List Pid)) → ((m : FinMap route_cmp Attrs) → Reaches p.changes old m → now ≡ m) → after ≡ unwrap_or p.rules rules → then ≡ named_with p.named named
-    → (r s : Routing) → r.routes ≡ old → r.rules ≡ rules → r.named ≡ named → IsProposal r s p → (now ≡ s.routes) × (after ≡ s.rules) × (then ≡ s.named)
-reached_by p old now rules after named then h e g r s same_routes same_rules same_named k = (
-  h s.routes (subst (λ m. Reaches p.changes m s.routes) same_routes k.routes),
-  e ∙ ap (unwrap_or p.rules) (sym same_rules) ∙ k.rules,
-  g ∙ ap (named_with p.named) (sym same_named) ∙ k.named,
-)

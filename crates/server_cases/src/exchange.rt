@@ -8,7 +8,7 @@ use crate::said::{Said, Who, prefix, update};
 use crate::told::{bests, fault, prefixes, proposed, push_signature};
 use crate::wrong::Wrong;
 use export_rules::{Bound, parse_rules};
-use net_types::{Ip, Mac, Memory, Pid, PortNo};
+use net_types::{Ip, Items, Mac, Memory, Pid, Pids, PortNo};
 use registry::{RegFault, Registry};
 use route_server::RouteServer;
 use std::alloc::Global;
@@ -42,6 +42,7 @@ fn three(alloc: Global) -> Result<Registry, Wrong>
 /// A server of the three, without routes and rules.
 fn server_of_three(alloc: Global, names: &Registry) -> Result<RouteServer, Memory>
     ensures rules { IfOk result (λ server. length server.rules ≡ 3) }
+    ensures named { IfOk result (λ server. length server.named ≡ 3) }
     ensures declared { IfOk result (λ server. AreDeclared names.now server.routes) }
 {
     let mut server = RouteServer::new(alloc);
@@ -63,6 +64,7 @@ fn run(
     requires declared { AreDeclared names.now server.old.routes }
     ensures declared { AreDeclared names.now server.new.routes }
     ensures rules { server.new.rules ≡ server.old.rules }
+    ensures named { server.new.named ≡ server.old.named }
 {
     let update = update(alloc, said)?;
     let proposal = match server.propose_update(names, from.pid(), &update) {
@@ -84,6 +86,7 @@ fn server_after(
 ) -> Result<RouteServer, Wrong>
     requires { length names.now.participants ≡ 3 }
     ensures rules { IfOk result (λ server. length server.rules ≡ 3) }
+    ensures named { IfOk result (λ server. length server.named ≡ 3) }
     ensures declared { IfOk result (λ server. AreDeclared names.now server.routes) }
 {
     let mut server = server_of_three(alloc, names)?;
@@ -184,4 +187,80 @@ fn closed_in(alloc: Global, names: &Registry, first: (Who, Said)) -> Result<Stri
 pub fn closed(alloc: Global, first: (Who, Said)) -> Result<String, Wrong> {
     let names = three(alloc)?;
     closed_in(alloc, &names, first)
+}
+
+/// Participants by their letters.
+fn pids(alloc: Global, letters: &str) -> Result<Pids, Memory> {
+    let mut named = Items::new(alloc);
+    for letter in letters.chars() {
+        match letter {
+            'B' => named.push(Pid(1))?,
+            'C' => named.push(Pid(2))?,
+            _ => {}
+        }
+    }
+    Ok(named)
+}
+
+/// A's policy names these from now on; told are the touched prefixes.
+fn name(
+    alloc: Global,
+    server: &mut RouteServer,
+    names: &Registry,
+    letters: &str,
+) -> Result<String, Wrong>
+    requires known { 0 < length server.old.named }
+    requires declared { AreDeclared names.now server.old.routes }
+    ensures declared { AreDeclared names.now server.new.routes }
+    ensures named { length server.new.named ≡ length server.old.named }
+{
+    let named = pids(alloc, letters)?;
+    let proposal = server.propose_named(names, Pid(0), named)?;
+    let touched = prefixes(alloc, proposal.touched())?;
+    server.reserve(&proposal)?;
+    server.commit(proposal);
+    Ok(touched)
+}
+
+/// Other names after earlier ones; told are the touched prefixes and the signature of 10.0.0.0/8.
+fn renamed(
+    alloc: Global,
+    server: &mut RouteServer,
+    names: &Registry,
+    before: &str,
+    now: &str,
+) -> Result<String, Wrong>
+    requires known { 0 < length server.old.named }
+    requires declared { AreDeclared names.now server.old.routes }
+{
+    name(alloc, server, names, before)?;
+    let told = name(alloc, server, names, now)?;
+    with_signature(alloc, server, names, told)
+}
+
+fn named_in(
+    alloc: Global,
+    names: &Registry,
+    first: (Who, Said),
+    then: (Who, Said),
+    before: &str,
+    now: &str,
+) -> Result<String, Wrong>
+    requires { length names.now.participants ≡ 3 }
+{
+    let mut server = server_after(alloc, names, first.0, first.1)?;
+    run(alloc, &mut server, names, then.0, then.1)?;
+    renamed(alloc, &mut server, names, before, now)
+}
+
+/// What is touched where A's policy names others than before, after two updates, and then the signature of 10.0.0.0/8.
+pub fn named(
+    alloc: Global,
+    first: (Who, Said),
+    then: (Who, Said),
+    before: &str,
+    now: &str,
+) -> Result<String, Wrong> {
+    let names = three(alloc)?;
+    named_in(alloc, &names, first, then, before, now)
 }

@@ -1,4 +1,5 @@
-//! Reads rows, each a name, a tab and updates of participants, and prints what they touch at a route server.
+//! Reads rows, each a name, a tab and updates of participants or names of A's policy, and prints what they touch at a route
+//! server.
 //!
 //! A has the port 1, B the ports 2 and 3, and C the port 4.
 #![tactic(auto)]
@@ -10,7 +11,7 @@ mod told;
 mod wrong;
 
 use anyhow::Result;
-use exchange::{after, bests_after, closed, down};
+use exchange::{after, bests_after, closed, down, named};
 use rows::{first_word, said, who};
 use std::alloc::Global;
 use wrong::Wrong;
@@ -27,6 +28,12 @@ fn answer(alloc: Global, question: &str) -> std::result::Result<String, Wrong> {
             bests_after(alloc, said(rest), who(name))
         }
         "down" => down(alloc, said(rest)),
+        "named" => {
+            let (before, rest) = first_word(rest);
+            let (now, rest) = first_word(rest);
+            let (first, then) = rest.split_once(" | ").unwrap_or((rest, ""));
+            named(alloc, said(first), said(then), before, now)
+        }
         "closed" => closed(alloc, said(rest)),
         _ => Err(Wrong::Row),
     }

@@ -1,5 +1,5 @@
-use Rattle.exchange_laws.proofs.EveryLine.{lines_have_replies}
-use Rattle.exchange_laws.proofs.replying.lines_have_replies.Goals as goal
+use Rattle.reply_laws.proofs.EveryLine.{lines_have_replies}
+use Rattle.reply_laws.proofs.replying.lines_have_replies.Goals as goal
 
 pub returns : goal.returns
 returns c = lines_have_replies
