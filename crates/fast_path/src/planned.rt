@@ -1,8 +1,11 @@
-//! What a change of routes does.
+//! What a line that builds rules does.
+
+ghost use Rattle.std.specs.Prelude.{◌≡◌};
+ghost use Rattle.fast_path.specs.declared.planned.FastFault.TheVariants as fault;
 
 use block_build::Block;
 use events::{Flows, TagChanges};
-use net_types::{Pair, Pairs, Pid, Pids, Prefixes, Sig, Tag};
+use net_types::{Memory, Pair, Pairs, Pid, Pids, Prefixes, Sig, Tag};
 
 /// What a change of routes does to tags and rules. It changes nothing until it is committed.
 #[derive(Drop)]
@@ -48,4 +51,14 @@ pub enum FastFault {
     /// The table would have more rules than it has room for.
     TableFull { rules: usize, capacity: usize },
     Memory,
+}
+
+impl From<Memory> for FastFault {
+    ghost from_gives = { λ _ e. e ≡ fault.Memory };
+
+    fn from(_: Memory) -> FastFault
+        ensures { result ≡ fault.Memory }
+    {
+        FastFault::Memory
+    }
 }
