@@ -16,7 +16,8 @@ use Rattle.events.specs.declared.Event.{Event}
 use Rattle.events.specs.declared.Event.TheVariants.{Exchange, Participant as DeclaresParticipant, Port as DeclaresPort}
 use Rattle.events.specs.declared.Head.TheVariants.{Fine, Refused}
 use Rattle.events.specs.declared.Phase.{Phase}
-use Rattle.events.specs.declared.Phase.TheVariants.{Start, Declaring}
+use Rattle.events.specs.declared.Phase.TheVariants.{Start, Declaring, Running}
+use Rattle.exchange_laws.specs.Steady.{IsNew}
 use Rattle.match_switch.specs.Installed.{Installed}
 use Rattle.prefix_classes.specs.Classes.{Classes}
 use Rattle.registry.specs.Registered as registered
@@ -43,6 +44,7 @@ use Rattle.net_types.specs.declared.route.Participant.{Participant}
 use Rattle.net_types.specs.declared.route.PortInfo.{PortInfo}
 use Rattle.next_hop_pool.proofs.FreeLemmas.{free_by_place, free_from}
 use Rattle.next_hop_pool.specs.Free.{Tags, all_free, tag}
+use Rattle.sdx_core.proofs.Compiled.{dropping_compiled, joined_compiled}
 use Rattle.sdx_core.proofs.Steps.{kept_after, quiet_step, refused_step, steady_after}
 use Rattle.sdx_core.specs.Programs.{AreCompiled, IsDropping, inbound_texts, outbound_texts}
 use Rattle.sdx_core.specs.declared.programs.Programs.{Programs}
@@ -131,6 +133,17 @@ participant_kept {s} {pool} kept declaring name asn id formed absent few all' co
   where
     same_free : (f g : Tag → Bool) → ((t : Tag) → f t ≡ g t) → (ts : List Tag) → filter (λ t. not (f t)) ts ≡ filter (λ t. not (g t)) ts
     same_free f g same ts = ap (λ (h : Tag → Bool). filter (λ t. not (h t)) ts) (λ i t. same t i)
+
+-- the policies with those of a further participant are compiled
+pub participant_compiled : {s : State} {pool : Tags} {all : List Programs} → IsKept s pool all → s.phase ≡ Declaring → s.outbound ≡ outbound_texts all → s.inbound ≡ inbound_texts all → (names : List ℕ → Option Pid) (b : Programs) → IsDropping b.outbound → IsDropping b.inbound
+    → (all' : List Programs) → all' ≡ all ++ b ∷ [] → AreCompiled names all'
+participant_compiled {s} {pool} {all} kept declaring outbound inbound names b out_drops in_drops all' joined =
+    let new : IsNew s = kept.steady.new (λ running. declares s.phase declaring running) in
+    subst (AreCompiled names) (sym joined)
+    (joined_compiled names all b (dropping_compiled s all outbound inbound new.drop (pid_of s.routing) names kept.compiled) (out_drops.compiled names) (in_drops.compiled names))
+  where
+    declares : (p : Phase) → p ≡ Declaring → p ≡ Running → ⊥
+    declares p one two = cc
 
 pub name_refused : {s : State} {pool : Tags} {all : List Programs} → IsKept s pool all → s.phase ≡ Declaring → (st : State) → s ≡ st → (name : List ℕ) (asn : ℕ) (id : Ip) → is_name_taken s name ≡ true → (r : Reply) → r ≡ bare (Refused Clash)
     → IsStep st (DeclaresParticipant name asn id) r st

@@ -1,5 +1,5 @@
 -- Lines that build rules: what they ask for (this exchange's own rule).
-use Rattle.std.specs.Prelude.{◌≡◌, ℕ, ◌<◌, Bool, true, List, filter, length, slice_set, Option, Some, None, Result, Ok, Err}
+use Rattle.std.specs.Prelude.{◌≡◌, ℕ, ◌<◌, ◌≤◌, Bool, true, List, filter, length, slice_set, Option, Some, None, Result, Ok, Err}
 use Rattle.std.specs.FinMap.{FinMap, get, keys}
 use Rattle.std.specs.Option.{option_map}
 use Rattle.events.specs.After.{with_named}
@@ -11,7 +11,7 @@ use Rattle.events.specs.declared.Refusal.{Refusal}
 use Rattle.exchange_laws.specs.Editing.{IsBase, IsEdit, both}
 use Rattle.exchange_laws.specs.Listed.{AreThose}
 use Rattle.exchange_laws.specs.Rules.{IsDeclaredAlike}
-use Rattle.fast_path.specs.Plans.{is_rebuilt_live}
+use Rattle.fast_path.specs.Plans.{build_count, is_rebuilt_live}
 use Rattle.net_types.specs.Exports.{Routing, named_by, pid_of}
 use Rattle.net_types.specs.Keys.{tag_cmp}
 use Rattle.net_types.specs.Maps.{tabulate}
@@ -24,6 +24,7 @@ use Rattle.net_types.specs.declared.route.Part.{Part}
 use Rattle.net_types.specs.declared.rule.Pair.{Pair}
 use Rattle.route_server.specs.Proposed.{IsProposal, named_with}
 use Rattle.sdx_core.specs.Programs.{IsChangeCompiled, IsChangeOf, IsCompiled, inbound_after, outbound_after}
+use Rattle.sdx_core.specs.Steps.{built_count}
 use Rattle.sdx_core.specs.declared.programs.PolicyChange.{PolicyChange}
 use Rattle.sdx_core.specs.declared.programs.PolicyChange.TheVariants.{Outbound, Inbound}
 use Rattle.sdx_core.specs.declared.programs.Program.{Program}
@@ -54,7 +55,7 @@ abbrev pub base_of : State → Request → State
 base_of s q = base_by s q.proposal.named q.change
 
 -- The line would build rules on the state of the request, for these routes, and build these pairs anew. It is refused at most
--- for want of tags or of room for the rules.
+-- for want of tags or of room for the rules, and builds no more pairs than such a line does.
 pub record Leads (s : State) (e : Event) (r : Routing) (is_rebuilt : Pair → Bool) (q : Request) : Type 0 where
   pub building : is_building e ≡ true
   pub refuses : refusal s e ≡ tags_refusal (base_of s q) r
@@ -66,6 +67,7 @@ pub record Leads (s : State) (e : Event) (r : Routing) (is_rebuilt : Pair → Bo
   pub rebuilt : AreThose (is_rebuilt_live (base_of s q) is_rebuilt) q.rebuild.items
   pub placed : IsChangeOf (length s.routing.participants) q.change
   pub compiled : IsChangeCompiled (pid_of s.routing) q.change
+  pub bound : refusal s e ≡ None → build_count (base_of s q) r is_rebuilt ≤ built_count s e
 
 -- a line asks for what it leads to, or is refused
 abbrev pub Asks : State → Event → Result Request Refusal → Type 0

@@ -21,7 +21,7 @@ use crate::rebuilt::{pairs_from, pairs_to};
 use crate::request::Request;
 use bumpalo::Bump;
 use events::{Refusal, Reply};
-use exchange_laws::{inbounds_are_edits, outbounds_are_edits};
+use exchange_laws::{edits_are_changes, inbounds_are_edits, outbounds_are_edits};
 use net_types::{Memory, Name, Pid, Steps, Text};
 use policy_isolate::{check_in, check_out, named};
 use policy_syntax::Tree;
@@ -96,6 +96,7 @@ impl Sdx {
             Err(refusal) => return Ok(Err(refusal)),
         };
         inbounds_are_edits();
+        edits_are_changes();
         if let Some(refusal) = self.inbound_refusal(who, &tree)? {
             return Ok(Err(refusal));
         }
