@@ -1,3 +1,4 @@
 pub mod SortedLists
 pub mod EntryLists
 pub mod PendingLemmas
+pub mod NewsLemmas

@@ -6,9 +6,9 @@ use Rattle.std.specs.FinMap.Entries.{is_sorted}
 use Rattle.std.specs.List.{list_any}
 use Rattle.std.specs.Ordering.{eq_by_cmp}
 use Rattle.net_types.proofs.OrderedLemmas.{any_member, member_any, ordered_is, ordered_rises, ordered_same, any_ordered}
-use Rattle.events.specs.Pending.{pending as pending_of, same_entry}
+use Rattle.events.specs.Pending.{same_entry}
 use Rattle.events.specs.Fits.{advert, adverts as adverts_of}
-use Rattle.events.specs.State.{State, told_to, present as present_of}
+use Rattle.events.specs.State.{State, present as present_of}
 use Rattle.net_types.specs.declared.address.Pid.{Pid}
 use Rattle.events.specs.declared.Entry.{Entry}
 use Rattle.events.specs.Tags.{same_tag, tells}
@@ -137,9 +137,5 @@ advert-state s p None = refl
 advert-state s p (Some entry) = refl
 
 -- the messages of a state to a participant say what is present for it
-pub messages-state : (s : State) (who : Pid) (ps : List Prefix) → adverts_of s who ps ≡ map (λ p. advert_with s.base p (get (present_of s who) p)) ps
-messages-state s who ps = ap (λ (f : Prefix → List ℕ). map f ps) (λ i p. advert-state s p (get (present_of s who) p) i)
-
--- where a participant was told the one map and the other is present for it, the messages are those of the state
-pub adverts-state : (s : State) (who : Pid) → adverts_of s who (pending_of s who) ≡ adverts s.base (told_to s who) (present_of s who)
-adverts-state s who = messages-state s who (pending_of s who)
+pub adverts-state : (s : State) (who : Pid) (ps : List Prefix) → adverts_of s who ps ≡ adverts s.base (present_of s who) ps
+adverts-state s who ps = ap (λ (f : Prefix → List ℕ). map f ps) (λ i p. advert-state s p (get (present_of s who) p) i)

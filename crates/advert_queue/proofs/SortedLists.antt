@@ -69,3 +69,7 @@ pub tag_found : (xs ts : List Tag) (t : Tag) (r : Result ℕ ℕ) → ts ≡ ord
 tag_found xs ts t r is within found =
     let tie = same_from_tie tag_cmp tag_cmp-IsAntisymmetric in
     search_finds tag_cmp tags_total tie ts t r (subst (IsRising (before tag_cmp)) (sym is) (ordered_rises tag_cmp tags_total tie xs)) within found
+
+-- a search among prefixes that rise finds whether the prefix stands there
+pub prefix_found : (ps : List Prefix) (p : Prefix) (r : Result ℕ ℕ) → IsRising (before prefix_cmp) ps → IsSearchInRange r (length ps) → IsBinarySearchResult (λ q. prefix_cmp q p) ps r → is_ok r ≡ list_any (eq_by_cmp prefix_cmp p) ps
+prefix_found ps p r rises within found = search_finds prefix_cmp prefixes_total prefix_tie ps p r rises within found

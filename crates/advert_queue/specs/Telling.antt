@@ -28,9 +28,9 @@ abbrev pub advert_with : Ip → Prefix → Option Entry → List ℕ
 advert_with base p None = withdrawal p
 advert_with base p (Some entry) = announcement p entry.attrs (address_of base entry.tag)
 
--- what is told of each pending prefix, in order
-abbrev pub adverts : Ip → FinMap prefix_cmp Entry → FinMap prefix_cmp Entry → List (List ℕ)
-adverts base told present = map (λ p. advert_with base p (get present p)) (pending told present)
+-- what is told of each of these prefixes, in their order
+abbrev pub adverts : Ip → FinMap prefix_cmp Entry → List Prefix → List (List ℕ)
+adverts base present ps = map (λ p. advert_with base p (get present p)) ps
 
 -- the prefix of an entry
 abbrev pub entry_key : Prefix × Entry → Prefix

@@ -2,8 +2,10 @@
 #![tactic(auto)]
 
 mod ascending;
+mod news;
 mod queue;
 mod told;
 
+pub use news::with_news;
 pub use queue::{adverts, pending};
 pub use told::Told;

@@ -25,18 +25,22 @@ pub fn pending(alloc: Global, told: &Told, present: &Told) -> Result<Vec<Prefix>
     Ok(ascending_prefixes(prefixes))
 }
 
-/// The messages by which the participant is told what is present, a message a prefix, by prefix: a withdrawal (RFC 4271
-/// 4.3) of one of which nothing is present, and else an announcement of its entry with the address of the entry's tag,
-/// above `base`, as NEXT_HOP. Memory is the only refusal.
-pub fn adverts(alloc: Global, base: Ip, told: &Told, present: &Told) -> Result<Messages, Memory>
+/// The messages by which a participant is told what is present of these prefixes, a message each, in their order: a
+/// withdrawal (RFC 4271 4.3) of one of which nothing is present, and else an announcement of its entry with the address of
+/// the entry's tag, above `base`, as NEXT_HOP. Memory is the only refusal.
+pub fn adverts(
+    alloc: Global,
+    base: Ip,
+    present: &Told,
+    prefixes: &[Prefix],
+) -> Result<Messages, Memory>
     requires low { base.0 ≤ 3758096383 }
     requires small { (p : AnyPrefix) → IfSome (map.get present.now p) (λ e. e.tag.0 ≤ 65536) }
-    ensures { IfOk result (λ messages. messages ≡ adverts base told.now present.now) }
+    ensures { IfOk result (λ messages. messages ≡ adverts base present.now prefixes.now) }
 {
-    let prefixes = pending(alloc, told, present)?;
     let mut messages = Items::new(alloc);
-    for prefix in &prefixes {
-        messages.push(advert(alloc, base, *prefix, present.get(*prefix))?)?;
+    for &prefix in prefixes {
+        messages.push(advert(alloc, base, prefix, present.get(prefix))?)?;
     }
     Ok(messages)
 }

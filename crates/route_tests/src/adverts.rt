@@ -116,7 +116,8 @@ fn adverts_of(alloc: Global, told: &Told, present: &[Telling]) -> Result<Option<
         return Ok(None);
     }
     let present = Told::from_entries(alloc, entries)?;
-    Ok(Some(adverts(alloc, Ip(0xac10_0000), told, &present)?))
+    let prefixes = pending(alloc, told, &present)?;
+    Ok(Some(adverts(alloc, Ip(0xac10_0000), &present, &prefixes)?))
 }
 
 fn tag_of(entry: Option<&Entry>) -> Option<u32> {

@@ -18,11 +18,6 @@ use Rattle.net_types.specs.declared.update.Update.{Update as Message}
 use Rattle.events.specs.After as after
 use Rattle.events.specs.After.{bound_read, updated, with_known, with_rules, with_update, without_from}
 use Rattle.events.specs.Tags.{retagged}
-use Rattle.net_types.specs.declared.memory.Memory.{Memory}
-use Rattle.events.specs.Forms.{IsWellFormed}
-use Rattle.events.specs.Fits.{IsStep}
-use Rattle.events.specs.declared.Event.{Event}
-use Rattle.events.specs.declared.Reply.{Reply}
 use Rattle.events.specs.Refusals.{attrs_refusal, bound_refusal, has_next_hop, if_known, or_else, refusal, rules_refusal, tags_refusal, text_refusal, refused_if, update_refusal}
 use Rattle.events.specs.State.{State}
 use Rattle.events.specs.declared.Event.TheVariants.{Down, Export, Update}
@@ -34,7 +29,7 @@ use Rattle.route_server.specs.Proposed.{IsProposal, Proposed}
 use Rattle.route_server.specs.Rows.{ruled}
 use Rattle.route_server.specs.declared.fault.RouteFault.{RouteFault}
 use Rattle.route_server.specs.declared.fault.RouteFault.TheVariants as faults
-use Rattle.sdx_core.specs.Changing.{Asks, IsSender, Leads, bound_or, read_or, rules_or_refusal}
+use Rattle.sdx_core.specs.Changing.{IsSender, Reroutes, bound_or, read_or, rules_or_refusal}
 use Rattle.sdx_core.proofs.Steps.{in_place, placed}
 
 -- ---- why an UPDATE is refused
@@ -100,22 +95,24 @@ module _ (s : State) (name : List ℕ) (who : Pid) (sender : IsSender s name who
   pub update_faulty : (bytes : List ℕ) (u : Message) (why : Refusal) → decoded bytes ≡ Ok u → own_refusal s who u ≡ Some why → refusal s (Update name bytes) ≡ Some why
   update_faulty bytes u why is refused = update_refused bytes u is ∙ ap (λ o. or_else o (tags_refusal s (with_update s.routing who u))) refused
 
-  pub update_leads : (bytes : List ℕ) (u : Message) (p : Proposed) → decoded bytes ≡ Ok u → own_refusal s who u ≡ None → IsProposal s.routing (with_update s.routing who u) p → Leads s (Update name bytes) (with_update s.routing who u) p
-  update_leads bytes u p is none proposes = record {
+  pub update_leads : (bytes : List ℕ) (u : Message) (p : Proposed) → decoded bytes ≡ Ok u → own_refusal s who u ≡ None → IsProposal s.routing (with_update s.routing who u) p → p.named ≡ None → Reroutes s (Update name bytes) (with_update s.routing who u) p
+  update_leads bytes u p is none proposes unnamed = record {
     building = refl;
     refuses = update_refused bytes u is ∙ ap (λ o. or_else o (tags_refusal s (with_update s.routing who u))) none;
     leaves = ap (λ o. with_known s o (λ w. updated s w (decoded bytes))) sender.known ∙ ap (updated s who) is;
     alike = record { participants = refl; ports = refl };
     proposes = proposes;
+    unnamed = unnamed;
   }
 
-  pub down_leads : (p : Proposed) → IsProposal s.routing (without_from s.routing who) p → Leads s (Down name) (without_from s.routing who) p
-  down_leads p proposes = record {
+  pub down_leads : (p : Proposed) → IsProposal s.routing (without_from s.routing who) p → p.named ≡ None → Reroutes s (Down name) (without_from s.routing who) p
+  down_leads p proposes unnamed = record {
     building = refl;
     refuses = in_place s (Down name) (placed (Down name) refl refl s.phase sender.ready) ∙ ap (λ o. if_known o (λ w. tags_refusal s (without_from s.routing w))) sender.known;
     leaves = ap (λ o. with_known s o (λ w. retagged s (without_from s.routing w))) sender.known;
     alike = record { participants = refl; ports = refl };
     proposes = proposes;
+    unnamed = unnamed;
   }
 
   text_refused : (text : List ℕ) → refusal s (Export name text) ≡ text_refusal s who text
@@ -132,21 +129,16 @@ module _ (s : State) (name : List ℕ) (who : Pid) (sender : IsSender s name who
       by None e = absurd (cc)
       by (Some found) e = let same : found ≡ rules = cc in (ap (λ x. tags_refusal s (with_rules s.routing who x)) same, ap (λ x. Some x) same)
 
-  pub export_leads : (text : List ℕ) (rules : List ExportRule) (p : Proposed) → rules_or_refusal s.routing text ≡ Ok rules → IsProposal s.routing (with_rules s.routing who rules) p → Leads s (Export name text) (with_rules s.routing who rules) p
-  export_leads text rules p are proposes =
+  pub export_leads : (text : List ℕ) (rules : List ExportRule) (p : Proposed) → rules_or_refusal s.routing text ≡ Ok rules → IsProposal s.routing (with_rules s.routing who rules) p → p.named ≡ None → Reroutes s (Export name text) (with_rules s.routing who rules) p
+  export_leads text rules p are proposes unnamed =
       let both = rules_refused text (nat_lt 8192 (length text)) (rules_of_text text) rules are in record {
         building = refl;
         refuses = text_refused text ∙ both.0;
         leaves = ap (λ o. with_known s o (λ w. after.ruled s w (bound_read s.routing (rules_of_text text)))) sender.known ∙ ap (after.ruled s who) both.1;
         alike = record { participants = refl; ports = refl };
         proposes = proposes;
+        unnamed = unnamed;
       }
-
--- what was asked for is answered for each line that asks for it
-pub for_asked : (s : State) (p : Proposed) (asked : Result Proposed Refusal) → asked ≡ Ok p → (result : Result Reply Memory) (s' : State)
-    → IfOk result (λ reply. (e : Event) (r : Routing) → IsWellFormed e → Leads s e r p → IsStep s e reply s') → IfOk result (λ reply. (e : Event) → IsWellFormed e → Asks s e asked → IsStep s e reply s')
-for_asked s p asked is (Ok reply) s' done = λ e formed asks. let leads = subst (Asks s e) is asks in done e leads.0 formed leads.1
-for_asked s p asked is (Err m) s' done = tt
 
 -- the rules of a text that isn't too long, by what was read of it
 pub rules_bound : (r : Routing) (text : List ℕ) (named : List NamedRule) (o : Option (List ExportRule)) → length text ≤ 8192 → rules_of_text text ≡ Ok named → bound (pid_of r) named ≡ o → rules_or_refusal r text ≡ bound_or o

@@ -26,18 +26,19 @@ use Rattle.net_types.specs.declared.route.PortInfo.{PortInfo}
 use Rattle.next_hop_pool.specs.Free.{Tags}
 use Rattle.sdx_core.specs.Leaving.{sent_by}
 use Rattle.sdx_core.specs.Placed.{is_declared}
+use Rattle.sdx_core.specs.declared.programs.Programs.{Programs}
 use Rattle.sdx_core.specs.View.{IsKept}
 use Rattle.exchange_laws.proofs.PoolTags.{told_small}
 use Rattle.exchange_laws.proofs.Forwarded.{forwarded}
 use Rattle.exchange_laws.proofs.Framing.{destination_is, is_datagram-none, is_datagram-some, readdressed, tagged_octets}
 use Rattle.sdx_core.proofs.Steps.{in_place, kept_after, placed, quiet_step, refused_at}
 
-pub packet_refused : {s : State} {pool : Tags} → IsKept s pool → is_declared s.phase ≡ true → (st : State) → s ≡ st → (port : PortNo) (bytes : List ℕ) → port_of s port ≡ None → (r : Reply) → r ≡ bare (Refused Unknown) → IsStep st (Packet port bytes) r st
+pub packet_refused : {s : State} {pool : Tags} {all : List Programs} → IsKept s pool all → is_declared s.phase ≡ true → (st : State) → s ≡ st → (port : PortNo) (bytes : List ℕ) → port_of s port ≡ None → (r : Reply) → r ≡ bare (Refused Unknown) → IsStep st (Packet port bytes) r st
 packet_refused {s} kept ready st is port bytes none r reply =
     refused_at s st (Packet port bytes) r Unknown is (placed (Packet port bytes) refl refl s.phase ready) (ap (λ o. if_known o (λ x. refused_if (not (is_datagram bytes)) BadPacket)) none) reply
 
 -- a datagram that isn't one is refused
-pub no_packet : {s : State} {pool : Tags} → IsKept s pool → is_declared s.phase ≡ true → (st : State) → s ≡ st → (port : PortNo) (bytes : List ℕ) (q : PortInfo) → port_of s port ≡ Some q → (to : Mac) → length to.0 ≡ 6 → length q.mac.0 ≡ 6
+pub no_packet : {s : State} {pool : Tags} {all : List Programs} → IsKept s pool all → is_declared s.phase ≡ true → (st : State) → s ≡ st → (port : PortNo) (bytes : List ℕ) (q : PortInfo) → port_of s port ≡ Some q → (to : Mac) → length to.0 ≡ 6 → length q.mac.0 ≡ 6
     → (frame : List ℕ) → frame ≡ framed to q.mac bytes → headers_of port frame ≡ None → (r : Reply) → r ≡ bare (Refused BadPacket) → IsStep st (Packet port bytes) r st
 no_packet {s} kept ready st is port bytes q found to six_to six_from frame is_framed none r reply =
     refused_at s st (Packet port bytes) r BadPacket is (placed (Packet port bytes) refl refl s.phase ready)
@@ -48,7 +49,7 @@ abbrev pub reply_by : State → PortInfo → List ℕ → Option Entry → Reply
 reply_by s q frame None = bare Unrouted
 reply_by s q frame (Some e) = sent_by s q e.tag frame
 
-module _ (s : State) (pool : Tags) (kept : IsKept s pool) (port : PortNo) (q : PortInfo) (found : port_of s port ≡ Some q) (entries : FinMap prefix_cmp Entry) (told_is : slice_get s.told q.owner.0 ≡ Some entries)
+module _ (s : State) (pool : Tags) {all : List Programs} (kept : IsKept s pool all) (port : PortNo) (q : PortInfo) (found : port_of s port ≡ Some q) (entries : FinMap prefix_cmp Entry) (told_is : slice_get s.told q.owner.0 ≡ Some entries)
     (bytes frame0 : List ℕ) (to : Mac) (h : Headers) (six_to : length to.0 ≡ 6) (six_from : length q.mac.0 ≡ 6) (low_port : port.0 < 2 ^ 16) (is_framed : frame0 ≡ framed to q.mac bytes)
     (octets : (k : ℕ) → slice_index frame0 k < 256) (read : headers_of port frame0 ≡ Some h) where
   told_map : told_to s q.owner ≡ entries
@@ -107,7 +108,7 @@ module _ (s : State) (pool : Tags) (kept : IsKept s pool) (port : PortNo) (q : P
       (subst (λ x. MatchOption x ⊥ (λ y. IsSent s y bytes r (longest_of (keys (told_to s y.owner)) (destination bytes)))) (sym found)
       (subst (IsSent s q bytes r) (longer ∙ sym longest) (subst (λ x. IsSent s q bytes x (option_map (λ (e : Prefix × Bor Entry). e.0) o)) (sym is) (right o has))))
 
-  pub packet_kept : is_declared s.phase ≡ true → IsWellFormed (Packet port bytes) → (o : Option (Prefix × Bor Entry)) → option_map (λ (e : Prefix × Bor Entry). e.0) o ≡ longest_of (keys entries) h.dst → IfSome o (λ e. Some e.1.now ≡ get entries e.0) → IsKept (running s) pool
+  pub packet_kept : is_declared s.phase ≡ true → IsWellFormed (Packet port bytes) → (o : Option (Prefix × Bor Entry)) → option_map (λ (e : Prefix × Bor Entry). e.0) o ≡ longest_of (keys entries) h.dst → IfSome o (λ e. Some e.1.now ≡ get entries e.0) → IsKept (running s) pool all
   packet_kept ready formed o longer has =
       let r : Reply = reply_by s q frame0 (option_map (λ (e : Prefix × Bor Entry). e.1.now) o) in
-      kept_after s (Packet port bytes) r (running s) pool kept formed (packet_step ready formed o longer has r refl) refl refl refl
+      kept_after s (Packet port bytes) r (running s) pool kept formed (packet_step ready formed o longer has r refl) refl refl refl _ kept.compiled

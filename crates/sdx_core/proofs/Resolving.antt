@@ -42,6 +42,7 @@ use Rattle.net_types.proofs.SetLemmas.{map-Member, map-map, same_map}
 use Rattle.next_hop_pool.specs.Free.{Tags}
 use Rattle.sdx_core.specs.Placed.{is_declared}
 use Rattle.sdx_core.specs.Resolved.{exchange_for, missing_hops, pool_request, reply_to}
+use Rattle.sdx_core.specs.declared.programs.Programs.{Programs}
 use Rattle.sdx_core.specs.View.{IsKept}
 use Rattle.sdx_core.proofs.AddressSets.{ips_tie}
 use Rattle.fast_path.proofs.TagOrder.{less_from, tag_tie}
@@ -53,11 +54,11 @@ use Rattle.advert_queue.specs.Telling.{address_of}
 
 -- ---- ports that aren't declared
 
-pub arp_refused : {s : State} {pool : Tags} → IsKept s pool → is_declared s.phase ≡ true → (st : State) → s ≡ st → (port : PortNo) (bytes : List ℕ) → port_place s port ≡ None → (r : Reply) → r ≡ bare (Refused Unknown) → IsStep st (Arp port bytes) r st
+pub arp_refused : {s : State} {pool : Tags} {all : List Programs} → IsKept s pool all → is_declared s.phase ≡ true → (st : State) → s ≡ st → (port : PortNo) (bytes : List ℕ) → port_place s port ≡ None → (r : Reply) → r ≡ bare (Refused Unknown) → IsStep st (Arp port bytes) r st
 arp_refused {s} kept ready st is port bytes none r reply =
     refused_at s st (Arp port bytes) r Unknown is (placed (Arp port bytes) refl refl s.phase ready) (ap (λ o. if_known o (λ x. None)) (found_nowhere (numbered port) 0 s.routing.ports none)) reply
 
-pub resolve_refused : {s : State} {pool : Tags} → IsKept s pool → is_declared s.phase ≡ true → (st : State) → s ≡ st → (port : PortNo) → port_place s port ≡ None → (r : Reply) → r ≡ bare (Refused Unknown) → IsStep st (Resolve port) r st
+pub resolve_refused : {s : State} {pool : Tags} {all : List Programs} → IsKept s pool all → is_declared s.phase ≡ true → (st : State) → s ≡ st → (port : PortNo) → port_place s port ≡ None → (r : Reply) → r ≡ bare (Refused Unknown) → IsStep st (Resolve port) r st
 resolve_refused {s} kept ready st is port none r reply =
     refused_at s st (Resolve port) r Unknown is (placed (Resolve port) refl refl s.phase ready) (ap (λ o. if_known o (λ x. None)) (found_nowhere (numbered port) 0 s.routing.ports none)) reply
 
@@ -67,19 +68,19 @@ resolve_refused {s} kept ready st is port none r reply =
 abbrev pub resolving : State → List (List Ip) → State
 resolving s lists = record s { phase = Running; resolved = lists }
 
-pub arp_step : {s : State} {pool : Tags} → IsKept s pool → is_declared s.phase ≡ true → (port : PortNo) (bytes : List ℕ) (q : PortInfo) → IsWellFormed (Arp port bytes) → port_of s port ≡ Some q
+pub arp_step : {s : State} {pool : Tags} {all : List Programs} → IsKept s pool all → is_declared s.phase ≡ true → (port : PortNo) (bytes : List ℕ) (q : PortInfo) → IsWellFormed (Arp port bytes) → port_of s port ≡ Some q
     → (r : Reply) → r ≡ responder_reply s bytes → (lists : List (List Ip)) → resolving s lists ≡ running (with_answer s q bytes) → IsStep s (Arp port bytes) r (resolving s lists)
 arp_step {s} kept ready port bytes q formed found r is lists then =
     subst (IsStep s (Arp port bytes) r) (ap (λ o. with_known s o (λ x. running (with_answer s x bytes))) found ∙ sym then)
     (quiet_step s (Arp port bytes) r kept.steady formed
     (in_place s (Arp port bytes) (placed (Arp port bytes) refl refl s.phase ready) ∙ ap (λ o. if_known o (λ x. None)) found) refl is)
 
-pub arp_kept : {s : State} {pool : Tags} → IsKept s pool → is_declared s.phase ≡ true → (port : PortNo) (bytes : List ℕ) (q : PortInfo) → IsWellFormed (Arp port bytes) → port_of s port ≡ Some q
-    → (lists : List (List Ip)) → resolving s lists ≡ running (with_answer s q bytes) → IsKept (resolving s lists) pool
+pub arp_kept : {s : State} {pool : Tags} {all : List Programs} → IsKept s pool all → is_declared s.phase ≡ true → (port : PortNo) (bytes : List ℕ) (q : PortInfo) → IsWellFormed (Arp port bytes) → port_of s port ≡ Some q
+    → (lists : List (List Ip)) → resolving s lists ≡ running (with_answer s q bytes) → IsKept (resolving s lists) pool all
 arp_kept {s} {pool} kept ready port bytes q formed found lists then =
-    kept_after s (Arp port bytes) (responder_reply s bytes) (resolving s lists) pool kept formed (arp_step kept ready port bytes q formed found (responder_reply s bytes) refl lists then) refl refl refl
+    kept_after s (Arp port bytes) (responder_reply s bytes) (resolving s lists) pool kept formed (arp_step kept ready port bytes q formed found (responder_reply s bytes) refl lists then) refl refl refl _ kept.compiled
 
-pub resolve_step : {s : State} {pool : Tags} → IsKept s pool → is_declared s.phase ≡ true → (port : PortNo) (q : PortInfo) → IsWellFormed (Resolve port) → port_of s port ≡ Some q
+pub resolve_step : {s : State} {pool : Tags} {all : List Programs} → IsKept s pool all → is_declared s.phase ≡ true → (port : PortNo) (q : PortInfo) → IsWellFormed (Resolve port) → port_of s port ≡ Some q
     → (r : Reply) → r ≡ record (bare Fine) { asks = map (asks_for s q) (unresolved s q) } → (lists : List (List Ip)) → resolving s lists ≡ running (with_resolved s port (unresolved s q)) → IsStep s (Resolve port) r (resolving s lists)
 resolve_step {s} kept ready port q formed found r is lists then =
     subst (IsStep s (Resolve port) r) (ap (λ o. with_known s o (λ x. running (with_resolved s port (unresolved s x)))) found ∙ sym then)
@@ -87,11 +88,11 @@ resolve_step {s} kept ready port q formed found r is lists then =
     (in_place s (Resolve port) (placed (Resolve port) refl refl s.phase ready) ∙ ap (λ o. if_known o (λ x. None)) found) refl
     (subst (λ o. MatchOption o ⊥ (λ x. r ≡ record (bare Fine) { asks = map (asks_for s x) (unresolved s x) })) (sym found) is))
 
-pub resolve_kept : {s : State} {pool : Tags} → IsKept s pool → is_declared s.phase ≡ true → (port : PortNo) (q : PortInfo) → IsWellFormed (Resolve port) → port_of s port ≡ Some q
-    → (lists : List (List Ip)) → resolving s lists ≡ running (with_resolved s port (unresolved s q)) → IsKept (resolving s lists) pool
+pub resolve_kept : {s : State} {pool : Tags} {all : List Programs} → IsKept s pool all → is_declared s.phase ≡ true → (port : PortNo) (q : PortInfo) → IsWellFormed (Resolve port) → port_of s port ≡ Some q
+    → (lists : List (List Ip)) → resolving s lists ≡ running (with_resolved s port (unresolved s q)) → IsKept (resolving s lists) pool all
 resolve_kept {s} {pool} kept ready port q formed found lists then =
     let r : Reply = record (bare Fine) { asks = map (asks_for s q) (unresolved s q) } in
-    kept_after s (Resolve port) r (resolving s lists) pool kept formed (resolve_step kept ready port q formed found r refl lists then) refl refl refl
+    kept_after s (Resolve port) r (resolving s lists) pool kept formed (resolve_step kept ready port q formed found r refl lists then) refl refl refl _ kept.compiled
 
 -- ---- what the router at a port has resolved
 
@@ -183,19 +184,19 @@ abbrev pub tags_told : FinMap prefix_cmp Entry → List Tag
 tags_told entries = ordered tag_cmp (map (λ (e : Entry). e.tag) (values entries))
 
 -- each is one of the pool's
-tag_small : {s : State} {pool : Tags} → IsKept s pool → (k : ℕ) (entries : FinMap prefix_cmp Entry) → slice_get s.told k ≡ Some entries → (t : Tag) → Member t (tags_told entries) → t.0 ≤ 65536
+tag_small : {s : State} {pool : Tags} {all : List Programs} → IsKept s pool all → (k : ℕ) (entries : FinMap prefix_cmp Entry) → slice_get s.told k ≡ Some entries → (t : Tag) → Member t (tags_told entries) → t.0 ≤ 65536
 tag_small {s} kept k entries at t m =
     let image = map-Member (λ (e : Entry). e.tag) (values entries) t ((ordered_same tag_cmp tags_total tag_tie (map (λ (e : Entry). e.tag) (values entries))).onto t m) in
     let equal : image.of.tag.0 ≡ t.0 = sym (ap (λ (x : Tag). x.0) image.is) in
     live_small kept.steady t (told_live s k entries at t (any_at (λ (e : Entry). same_tag e.tag t) (values entries) image.of image.stands (eq-eqb image.of.tag.0 t.0 equal)))
 
-pub tags_small : {s : State} {pool : Tags} → IsKept s pool → (k : ℕ) (entries : FinMap prefix_cmp Entry) → slice_get s.told k ≡ Some entries → (tags : List Tag) → tags ≡ tags_told entries → All (λ (t : Tag). t.0 ≤ 65536) tags
+pub tags_small : {s : State} {pool : Tags} {all : List Programs} → IsKept s pool all → (k : ℕ) (entries : FinMap prefix_cmp Entry) → slice_get s.told k ≡ Some entries → (tags : List Tag) → tags ≡ tags_told entries → All (λ (t : Tag). t.0 ≤ 65536) tags
 tags_small {s} kept k entries at tags are j d less =
     let t : Tag = slice_index_or tags j d in
     tag_small kept k entries at t (subst (Member t) are (Member-at tags j d t less refl))
 
 -- the addresses that the router asks for are the pool's
-pub hops_within : {s : State} {pool : Tags} → IsKept s pool → (k : ℕ) (entries : FinMap prefix_cmp Entry) → slice_get s.told k ≡ Some entries → (tags : List Tag) → tags ≡ tags_told entries
+pub hops_within : {s : State} {pool : Tags} {all : List Programs} → IsKept s pool all → (k : ℕ) (entries : FinMap prefix_cmp Entry) → slice_get s.told k ≡ Some entries → (tags : List Tag) → tags ≡ tags_told entries
     → (known ips : List Ip) → ips ≡ missing_hops s.base known tags → All (λ (ip : Ip). (s.base.0 ≤ ip.0) × (ip.0 ≤ s.base.0 + 65536)) ips
 hops_within {s} kept k entries at tags are known ips missing j d less =
     let x : Ip = slice_index_or ips j d in

@@ -4,7 +4,7 @@ use Rattle.std.specs.Prelude.{Option, Some, None, Ok, Err, IfSome}
 use Rattle.std.specs.FinMap.{get}
 use Rattle.events.specs.State.{State}
 use Rattle.events.specs.declared.Refusal.TheVariants.{Misplaced}
-use Rattle.exchange_laws.specs.Steady.{RoutesAreDeclared}
+use Rattle.exchange_laws.specs.Whole.{RoutesAreDeclared}
 use Rattle.net_types.specs.Exports.{Routing, pid_of}
 use Rattle.net_types.specs.Keys.{RouteKey}
 use Rattle.net_types.specs.declared.address.Pid.{Pid}

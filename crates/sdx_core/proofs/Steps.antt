@@ -1,6 +1,6 @@
 -- When a reply and a state are a step, and what holds after it.
 use Rattle.std.proofs.Common.{◌≡◌, true, cond, ◌&&◌, List, [], ap, refl, subst, sym, ◌∙◌}
-use Rattle.std.specs.Prelude.{Some, None, codes, map}
+use Rattle.std.specs.Prelude.{Some, None}
 use Rattle.std.specs.FinMap.{FinMap, empty}
 use Rattle.events.specs.After.{after, next}
 use Rattle.events.specs.Forms.{IsWellFormed}
@@ -21,6 +21,7 @@ use Rattle.exchange_laws.proofs.SteadySteps.{starts_steady, steps_stay_steady}
 use Rattle.exchange_laws.specs.Quiet.{is_quiet}
 use Rattle.exchange_laws.specs.Steady.{IsSteady}
 use Rattle.match_switch.specs.Installed.{Installed}
+use Rattle.net_types.specs.Exports.{pid_of}
 use Rattle.net_types.specs.Keys.{prefix_cmp}
 use Rattle.net_types.specs.declared.address.Ip.{Ip}
 use Rattle.next_hop_pool.specs.Free.{Tags}
@@ -28,7 +29,9 @@ use Rattle.prefix_classes.specs.Classes.{Classes}
 use Rattle.registry.specs.Registered.{Registered}
 use Rattle.route_server.specs.Served.{Served}
 use Rattle.sdx_core.specs.Placed.{is_declared}
+use Rattle.sdx_core.specs.Programs.{AreCompiled, inbound_texts, outbound_texts}
 use Rattle.sdx_core.specs.View.{IsKept, state_of}
+use Rattle.sdx_core.specs.declared.programs.Programs.{Programs}
 
 -- a refusal, which leaves all as it was
 pub refused_step : (s : State) (e : Event) (r : Reply) (why : Refusal) → refusal s e ≡ Some why → r ≡ bare (Refused why) → IsStep s e r s
@@ -63,30 +66,31 @@ pub steady_after : (s : State) (e : Event) (r : Reply) (s' : State) → IsSteady
 steady_after s e r s' steady formed step = subst IsSteady (sym step.next) (steps_stay_steady s e r steady formed step.fits)
 
 -- where the free tags stay, the pool is still theirs
-pub kept_after : (s : State) (e : Event) (r : Reply) (s' : State) (pool : Tags) → IsKept s pool → IsWellFormed e → IsStep s e r s'
-    → events.free_tags s' ≡ events.free_tags s → s'.base ≡ s.base → s'.size ≡ s.size → IsKept s' pool
-kept_after s e r s' pool kept formed step free base size = record {
+pub kept_after : (s : State) (e : Event) (r : Reply) (s' : State) (pool : Tags) {all : List Programs} → IsKept s pool all → IsWellFormed e → IsStep s e r s'
+    → events.free_tags s' ≡ events.free_tags s → s'.base ≡ s.base → s'.size ≡ s.size → (all' : List Programs) → AreCompiled (pid_of s'.routing) all' → IsKept s' pool all'
+kept_after s e r s' pool kept formed step free base size all' compiled = record {
   steady = steady_after s e r s' kept.steady formed step;
   free = free ∙ kept.free;
   base = kept.base ∙ sym base;
   size = kept.size ∙ sym size;
+  compiled = compiled;
 }
 
 -- an exchange without lines
-pub starts_kept : (names : Registered) (served : Served) (resolved : List (List Ip)) (classes : Classes) (told : List (FinMap prefix_cmp Entry)) (installed : Installed) (pool : Tags)
+pub starts_kept : (names : Registered) (served : Served) (resolved : List (List Ip)) (classes : Classes) (told : List (FinMap prefix_cmp Entry)) (installed : Installed) (pool : Tags) (all : List Programs)
     → names ≡ record { participants = []; ports = [] } → served.routes ≡ empty → served.rules ≡ [] → served.named ≡ [] → resolved ≡ [] → classes.tag ≡ empty → classes.kept ≡ empty → told ≡ []
-    → installed.table ≡ empty → installed.capacity ≡ 0 → pool ≡ record { base = record { 0 = 0 }; taken = [] }
-    → IsKept (state_of Start (record { 0 = 0 }) 0 names served resolved classes told installed) pool
-starts_kept names served resolved classes told installed pool declared routes rules named none tag kept nothing table capacity free =
+    → installed.table ≡ empty → installed.capacity ≡ 0 → pool ≡ record { base = record { 0 = 0 }; taken = [] } → all ≡ []
+    → IsKept (state_of Start (record { 0 = 0 }) 0 names served resolved classes told installed all) pool all
+starts_kept names served resolved classes told installed pool all declared routes rules named none tag kept nothing table capacity free nobody =
     let none_free : Tags = record { base = record { 0 = 0 }; taken = [] } in
-    let is : first ≡ state_of Start (record { 0 = 0 }) 0 names served resolved classes told installed = sym (λ i. record {
+    let is : first ≡ state_of Start (record { 0 = 0 }) 0 names served resolved classes told installed all = sym (λ i. record {
       phase = Start;
       base = record { 0 = 0 };
       size = 0;
       capacity = capacity i;
       routing = record { participants = (declared i).participants; ports = (declared i).ports; rules = rules i; named = named i; routes = routes i };
-      outbound = map (λ m. codes "drop") (declared i).participants;
-      inbound = map (λ m. codes "drop") (declared i).participants;
+      outbound = outbound_texts (nobody i);
+      inbound = inbound_texts (nobody i);
       tag = tag i;
       kept = kept i;
       told = nothing i;
@@ -94,5 +98,5 @@ starts_kept names served resolved classes told installed pool declared routes ru
       table = table i;
       owed = None;
     }) in
-    let at_first : IsKept first none_free = record { steady = starts_steady; free = refl; base = refl; size = refl } in
-    subst (λ s. IsKept s pool) is (subst (IsKept first) (sym free) at_first)
+    let at_first : IsKept first none_free [] = record { steady = starts_steady; free = refl; base = refl; size = refl; compiled = λ b m. absurd (elim m [ ]) } in
+    subst (λ s. IsKept s pool all) is (subst (λ (p : Tags). IsKept first p all) (sym free) (subst (IsKept first none_free) (sym nobody) at_first))

@@ -1,4 +1,4 @@
--- The pairs and tags that go where a participant is told what is present.
+-- The pairs and tags that go where a participant is told anew.
 use Rattle.std.proofs.Common.{◌≡◌, ℕ, zero, suc, ◌+◌, ◌<◌, Bool, true, false, ◌||◌, not, take, drop, nat_eq, List, [], ◌∷◌, length, map, sym, ap, subst, ◌∙◌, refl, inl, inr, arith}
 use Rattle.std.specs.Prelude.{Some, slice_set}
 use Rattle.std.specs.FinMap.{FinMap, empty}
@@ -10,7 +10,7 @@ use Rattle.events.specs.State.{State, port_of, present, told_to}
 use Rattle.events.specs.Tags.{is_live, is_live_pair, tells}
 use Rattle.events.specs.declared.Entry.{Entry}
 use Rattle.exchange_laws.proofs.Lists.{clash, not_true, some_of}
-use Rattle.exchange_laws.proofs.LivePairs.{live_at, live_from, port_Member, told_live}
+use Rattle.exchange_laws.proofs.LivePairs.{live_at, live_from, port_Member, present_tag, told_live}
 use Rattle.exchange_laws.proofs.OwnHops.{numbered_port}
 use Rattle.exchange_laws.proofs.ToldAnew.{gone_pairs_were_told, gone_tags_were_told}
 use Rattle.exchange_laws.specs.Listed.{AreLiveOnly}
@@ -35,30 +35,42 @@ use Rattle.net_types.specs.declared.rule.Pair.{Pair}
 use Rattle.prefix_classes.proofs.MemberLemmas.{no_members}
 use Rattle.prefix_classes.specs.Classes.{members}
 use Rattle.registry.specs.Registered.{ports_of}
-use Rattle.sdx_core.specs.Taking.{all_pairs, dead_tags, gone_tags, has_none, pairs_at}
+use Rattle.sdx_core.specs.News.{gone_tags}
+use Rattle.sdx_core.specs.Taking.{all_pairs, dead_tags, gone_for, has_none, pairs_at}
 
 -- ---- tags that were told and are told no more
 
--- the tag is told in the one and not in the other
-pub record IsGone (told now : FinMap prefix_cmp Entry) (t : Tag) : Type 0 where
+-- the tag was told, and is neither told then nor present
+pub record IsGone (told then now : FinMap prefix_cmp Entry) (t : Tag) : Type 0 where
   pub was : tells told t ≡ true
+  pub not_then : tells then t ≡ false
   pub not_now : tells now t ≡ false
 
 alone : (b : Bool) → (b || false) ≡ b
 alone true = refl
 alone false = refl
 
-pub gone_tag : (told now : FinMap prefix_cmp Entry) (t : Tag) → Member t (gone_tags told now) → IsGone told now t
-gone_tag told now t m =
-    let left = filter-Member (λ u. not (is_told (now ∷ []) u)) (tags_of told) t m in record {
-      was = sym (told_among told t) ∙ member_any tag_cmp tags_total tag_tie t (tags_of told) left.stands;
-      not_now = sym (alone (tells now t)) ∙ not_true (is_told (now ∷ []) t) left.passes;
+-- what stands in the list without the tags that a map tells
+left : (m : FinMap prefix_cmp Entry) (ts : List Tag) (t : Tag) → Member t (untold (m ∷ []) ts) → Member t ts × (tells m t ≡ false)
+left m ts t k =
+    let is = filter-Member (λ u. not (is_told (m ∷ []) u)) ts t k in
+    (is.stands, sym (alone (tells m t)) ∙ not_true (is_told (m ∷ []) t) is.passes)
+
+stays : (m : FinMap prefix_cmp Entry) (ts : List Tag) (t : Tag) → Member t ts → tells m t ≡ false → Member t (untold (m ∷ []) ts)
+stays m ts t k none = Member-filter (λ u. not (is_told (m ∷ []) u)) ts t k (ap (λ b. not b) (alone (tells m t) ∙ none))
+
+pub gone_tag : (told then now : FinMap prefix_cmp Entry) (t : Tag) → Member t (gone_tags told then now) → IsGone told then now t
+gone_tag told then now t m =
+    let late = left then (untold (now ∷ []) (tags_of told)) t m in
+    let early = left now (tags_of told) t late.0 in record {
+      was = sym (told_among told t) ∙ member_any tag_cmp tags_total tag_tie t (tags_of told) early.0;
+      not_then = late.1;
+      not_now = early.1;
     }
 
-pub tag_gone : (told now : FinMap prefix_cmp Entry) (t : Tag) → tells told t ≡ true → tells now t ≡ false → Member t (gone_tags told now)
-tag_gone told now t was none =
-    Member-filter (λ u. not (is_told (now ∷ []) u)) (tags_of told) t (any_member tag_cmp tags_total tag_tie t (tags_of told) (told_among told t ∙ was))
-    (ap (λ b. not b) (alone (tells now t) ∙ none))
+pub tag_gone : (told then now : FinMap prefix_cmp Entry) (t : Tag) → IsGone told then now t → Member t (gone_tags told then now)
+tag_gone told then now t is =
+    stays then (untold (now ∷ []) (tags_of told)) t (stays now (tags_of told) t (any_member tag_cmp tags_total tag_tie t (tags_of told) (told_among told t ∙ is.was)) is.not_now) is.not_then
 
 -- ---- a list with another member at a place
 
@@ -89,22 +101,22 @@ any_here test [] k x below none = absurd (omega arith)
 any_here test (y ∷ xs) zero x below none = (or_parts (test x) (list_any test xs) none).0
 any_here test (y ∷ xs) (suc k) x below none = any_here test xs k x (omega arith) (or_parts (test y) (list_any test (slice_set xs k x)) none).1
 
-module _ (s : State) (who : Pid) (apart : PortsDiffer s.routing.ports) (place : who.0 < length s.told) where
+module _ (s : State) (who : Pid) (then : FinMap prefix_cmp Entry) (apart : PortsDiffer s.routing.ports) (place : who.0 < length s.told) where
   abbrev s1 : State
-  s1 = told_anew s who (present s who)
+  s1 = told_anew s who then
 
   abbrev gone : List Tag
-  gone = gone_tags (told_to s who) (present s who)
+  gone = gone_for s who then
 
   abbrev ports : List PortNo
   ports = ports_of (registered s) who
 
-  told_now : told_to s1 who ≡ present s who
-  told_now = get_set s.told who.0 (present s who) empty place
+  told_now : told_to s1 who ≡ then
+  told_now = get_set s.told who.0 then empty place
 
   -- ---- the pairs that go
 
-  one_pair : (t : Tag) (n : PortNo) → IsGone (told_to s who) (present s who) t → IsPortOf s who n → (is_live_pair s (pair_at t n) ≡ true) × (is_live_pair s1 (pair_at t n) ≡ false)
+  one_pair : (t : Tag) (n : PortNo) → IsGone (told_to s who) then (present s who) t → IsPortOf s who n → (is_live_pair s (pair_at t n) ≡ true) × (is_live_pair s1 (pair_at t n) ≡ false)
   one_pair t n is at = (
     live_from s (pair_at t n) at.port found (or_left (tells (told_to s at.port.owner) t) (tells (present s at.port.owner) t) (ap (λ w. tells (told_to s w) t) at.owner ∙ is.was)),
     false_from_ne_true (is_live_pair s1 (pair_at t n)) (λ live.
@@ -112,7 +124,7 @@ module _ (s : State) (who : Pid) (apart : PortsDiffer s.routing.ports) (place : 
         let q : PortInfo = there.0 in
         let same : q.owner ≡ who = ap (λ (x : PortInfo). x.owner) (some_of q at.port (sym there.1.port ∙ found)) ∙ at.owner in
         elim (or_cases (tells (told_to s1 q.owner) t) (tells (present s1 q.owner) t) there.1.for) [
-          | inl told ↦ clash told (ap (λ w. tells (told_to s1 w) t) same ∙ ap (λ es. tells es t) told_now ∙ is.not_now)
+          | inl told ↦ clash told (ap (λ w. tells (told_to s1 w) t) same ∙ ap (λ es. tells es t) told_now ∙ is.not_then)
           | inr now ↦ clash now (ap (λ w. tells (present s1 w) t) same ∙ is.not_now)
         ]),
   )
@@ -125,15 +137,17 @@ module _ (s : State) (who : Pid) (apart : PortsDiffer s.routing.ports) (place : 
       let of_tag = union-Member (pairs_at ports) gone pair m in
       let image = map-Member (pair_at of_tag.of) ports pair of_tag.gives in
       subst (λ y. (is_live_pair s y ≡ true) × (is_live_pair s1 y ≡ false)) (sym image.is)
-      (one_pair of_tag.of image.of (gone_tag (told_to s who) (present s who) of_tag.of of_tag.stands) (port_listed s who image.of image.stands))
+      (one_pair of_tag.of image.of (gone_tag (told_to s who) then (present s who) of_tag.of of_tag.stands) (port_listed s who image.of image.stands))
 
   all_gone : (pair : Pair) → is_live_pair s pair ≡ true → is_live_pair s1 pair ≡ false → Member pair (union_over (pairs_at ports) gone)
   all_gone pair live dead =
-      let was = gone_pairs_were_told s who (present s who) pair live dead in
+      let was = gone_pairs_were_told s who then pair live dead in
       let q : PortInfo = was.0 in
+      let nor : tells then pair.tag ≡ false = false_from_ne_true (tells then pair.tag) (λ told.
+      clash (live_from s1 pair q was.1 (or_left (tells (told_to s1 q.owner) pair.tag) (tells (present s1 q.owner) pair.tag) (ap (λ w. tells (told_to s1 w) pair.tag) was.2 ∙ ap (λ es. tells es pair.tag) told_now ∙ told))) dead) in
       let none : tells (present s who) pair.tag ≡ false = false_from_ne_true (tells (present s who) pair.tag) (λ now.
       clash (live_from s1 pair q was.1 (or_right (tells (told_to s1 q.owner) pair.tag) (tells (present s1 q.owner) pair.tag) (ap (λ w. tells (present s1 w) pair.tag) was.2 ∙ now))) dead) in
-      Member-union (pairs_at ports) gone pair.tag pair (tag_gone (told_to s who) (present s who) pair.tag was.3 none)
+      Member-union (pairs_at ports) gone pair.tag pair (tag_gone (told_to s who) then (present s who) pair.tag (record { was = was.3; not_then = nor; not_now = none }))
       (subst (λ w. Member pair (map (pair_at pair.tag) (ports_of (registered s) w))) was.2
       (subst (λ y. Member y (map (pair_at pair.tag) (ports_of (registered s) q.owner))) (λ i. record { port = sym (found_number s pair.port q was.1) i; tag = pair.tag })
       (Member-map (pair_at pair.tag) (ports_of (registered s) q.owner) q.number (number_listed s q (port_Member s pair q was.1)))))
@@ -160,21 +174,22 @@ module _ (s : State) (who : Pid) (apart : PortsDiffer s.routing.ports) (place : 
       let held = filter-Member (has_none s.tag) (untold (drop (who.0 + 1) s.told) (untold (take who.0 s.told) gone)) t m in
       let after = filter-Member (λ u. not (is_told (drop (who.0 + 1) s.told) u)) (untold (take who.0 s.told) gone) t held.stands in
       let before = filter-Member (λ u. not (is_told (take who.0 s.told) u)) gone t after.stands in
-      let is = gone_tag (told_to s who) (present s who) t before.stands in (
+      let is = gone_tag (told_to s who) then (present s who) t before.stands in (
         or_right (has_prefix s t) (is_told s.told t) (told_live s who t is.was),
-        ap (λ b. b || is_told (slice_set s.told who.0 (present s who)) t) (unheld t held.passes)
-            ∙ any_split (λ es. tells es t) s.told who.0 (present s who) (not_true (is_told (take who.0 s.told) t) before.passes) (ap (λ n. is_told (drop n s.told) t) (sym (one_more who.0)) ∙ not_true (is_told (drop (who.0 + 1) s.told) t) after.passes) is.not_now,
+        ap (λ b. b || is_told (slice_set s.told who.0 then) t) (unheld t held.passes)
+            ∙ any_split (λ es. tells es t) s.told who.0 then (not_true (is_told (take who.0 s.told) t) before.passes) (ap (λ n. is_told (drop n s.told) t) (sym (one_more who.0)) ∙ not_true (is_told (drop (who.0 + 1) s.told) t) after.passes) is.not_then,
       )
 
   all_tags : (t : Tag) → is_live s t ≡ true → is_live s1 t ≡ false → Member t dead_here
   all_tags t live dead =
-      let parts = or_parts (has_prefix s t) (is_told (slice_set s.told who.0 (present s who)) t) dead in
-      let was = gone_tags_were_told s who (present s who) t live dead in
-      let here : tells (present s who) t ≡ false = any_here (λ es. tells es t) s.told who.0 (present s who) place parts.1 in
+      let parts = or_parts (has_prefix s t) (is_told (slice_set s.told who.0 then) t) dead in
+      let was = gone_tags_were_told s who then t live dead in
+      let here : tells then t ≡ false = any_here (λ es. tells es t) s.told who.0 then place parts.1 in
+      let now : tells (present s who) t ≡ false = false_from_ne_true (tells (present s who) t) (λ is. let p = present_tag s who t is in clash (has_prefix_of s p.0 t p.1.tagged) parts.0) in
       Member-filter (has_none s.tag) (untold (drop (who.0 + 1) s.told) (untold (take who.0 s.told) gone)) t
       (Member-filter (λ u. not (is_told (drop (who.0 + 1) s.told) u)) (untold (take who.0 s.told) gone) t
-      (Member-filter (λ u. not (is_told (take who.0 s.told) u)) gone t (tag_gone (told_to s who) (present s who) t was here) (ap not (any_before (λ es. tells es t) s.told who.0 (present s who) parts.1)))
-      (ap not (ap (λ n. is_told (drop n s.told) t) (one_more who.0) ∙ any_after (λ es. tells es t) s.told who.0 (present s who) parts.1)))
+      (Member-filter (λ u. not (is_told (take who.0 s.told) u)) gone t (tag_gone (told_to s who) then (present s who) t (record { was = was; not_then = here; not_now = now })) (ap not (any_before (λ es. tells es t) s.told who.0 then parts.1)))
+      (ap not (ap (λ n. is_told (drop n s.told) t) (one_more who.0) ∙ any_after (λ es. tells es t) s.told who.0 then parts.1)))
       (ap (λ n. nat_eq n 0) ((no_members s.tag t).1 (λ p is. clash (has_prefix_of s p t is) parts.0)))
 
   -- exactly the tags that are live no more

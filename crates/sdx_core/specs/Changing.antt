@@ -33,17 +33,18 @@ pub record IsSender (s : State) (name : List ℕ) (who : Pid) : Type 0 where
   pub known : pid_of s.routing name ≡ Some who
 
 -- The line would leave this routing, refused at most for want of tags or rules, and the proposal is for it.
-pub record Leads (s : State) (e : Event) (r : Routing) (p : Proposed) : Type 0 where
+pub record Reroutes (s : State) (e : Event) (r : Routing) (p : Proposed) : Type 0 where
   pub building : is_rerouting e ≡ true
   pub refuses : refusal s e ≡ tags_refusal s r
   pub leaves : after s e ≡ retagged s r
   pub alike : IsDeclaredAlike s.routing r
   pub proposes : IsProposal s.routing r p
+  pub unnamed : p.named ≡ None
 
--- a line asks for a proposal that leads to some routing, or is refused
-abbrev pub Asks : State → Event → Result Proposed Refusal → Type 0
-Asks s e (Ok p) = (r : Routing) × Leads s e r p
-Asks s e (Err why) = refusal s e ≡ Some why
+-- a line proposes routes to which it leads, or is refused
+abbrev pub Proposes : State → Event → Result Proposed Refusal → Type 0
+Proposes s e (Ok p) = (r : Routing) × Reroutes s e r p
+Proposes s e (Err why) = refusal s e ≡ Some why
 
 -- rules that are bound, or a name in them isn't declared
 abbrev pub bound_or : Option (List ExportRule) → Result (List ExportRule) Refusal

@@ -1,15 +1,15 @@
 -- What a participant is told anew, and the pairs and tags that go with what it was told (this exchange's own rule).
-use Rattle.std.specs.Prelude.{◌≡◌, ℕ, ◌+◌, Bool, nat_eq, List, [], ◌∷◌, map, filter, take, drop, Option}
+use Rattle.std.specs.Prelude.{◌≡◌, ℕ, ◌+◌, Bool, nat_eq, List, map, filter, take, drop, Option, Some, None}
 use Rattle.std.specs.FinMap.{FinMap, get}
 use Rattle.std.specs.List.{filter_map}
 use Rattle.std.specs.Option.{option_map}
-use Rattle.advert_queue.specs.Telling.{tags_of}
 use Rattle.events.specs.Forms.{IsWellFormed}
 use Rattle.events.specs.Fits.{adverts}
 use Rattle.events.specs.Pending.{pending}
 use Rattle.events.specs.State.{State, present, told_to}
 use Rattle.events.specs.declared.Entry.{Entry}
-use Rattle.events.specs.declared.Event.TheVariants.{Drain}
+use Rattle.events.specs.declared.Event.{Event}
+use Rattle.events.specs.declared.Event.TheVariants.{Drain, Take}
 use Rattle.fast_path.specs.LiveOnly.{registered}
 use Rattle.fast_path.specs.Pairs.{Told, pair_at, untold}
 use Rattle.net_types.specs.Keys.{pair_cmp, prefix_cmp}
@@ -24,6 +24,7 @@ use Rattle.net_types.specs.declared.rule.Pair.{Pair}
 use Rattle.prefix_classes.specs.Classes.{members}
 use Rattle.registry.specs.Registered.{ports_of}
 use Rattle.sdx_core.specs.Changing.{IsSender}
+use Rattle.sdx_core.specs.News.{first_of, gone_tags, told_by}
 use Rattle.sdx_core.specs.declared.sdx.take.Taking.{Taking}
 
 -- the entry of a route, where its prefix has a tag
@@ -50,23 +51,38 @@ has_none m t = nat_eq (members m t) 0
 abbrev pub dead_tags : FinMap prefix_cmp Tag → Told → ℕ → List Tag → List Tag
 dead_tags m told at ts = filter (has_none m) (untold (drop (at + 1) told) (untold (take at told) ts))
 
--- those of the tags in the one map that the other doesn't tell
-abbrev pub gone_tags : FinMap prefix_cmp Entry → FinMap prefix_cmp Entry → List Tag
-gone_tags told now = untold (now ∷ []) (tags_of told)
+-- the prefixes that a participant takes: the first that are pending, at most so many, or all where there is no limit
+abbrev pub taken_of : State → Pid → Option ℕ → List Prefix
+taken_of s who limit = first_of limit (pending s who)
 
--- the tags that a participant was told, and that it won't be told any more
-abbrev pub gone_for : State → Pid → List Tag
-gone_for s who = gone_tags (told_to s who) (present s who)
+-- what it was told then
+abbrev pub told_after : State → Pid → Option ℕ → FinMap prefix_cmp Entry
+told_after s who limit = told_by limit (told_to s who) (present s who) (taken_of s who limit)
 
--- What a participant that takes all is told, the messages by which it is, and the pairs and tags that go.
-pub record IsTaking (s : State) (who : Pid) (taking : Taking) : Type 0 where
-  pub present : taking.present ≡ present s who
-  pub adverts : taking.adverts ≡ adverts s who (pending s who)
-  pub drops : taking.drops ≡ all_pairs (ports_of (registered s) who) (gone_for s who)
-  pub dead : taking.dead ≡ dead_tags s.tag s.told who.0 (gone_for s who)
+-- the tags that a participant was told, and that are neither among these entries nor present for it
+abbrev pub gone_for : State → Pid → FinMap prefix_cmp Entry → List Tag
+gone_for s who then = gone_tags (told_to s who) then (present s who)
 
--- a line by which the participant takes all is in place
-pub record IsTaker (s : State) (who : Pid) : Type 0 where
+-- With what a participant is told exactly these pairs and tags go.
+pub record GoesWith (s : State) (who : Pid) (taking : Taking) : Type 0 where
+  pub drops : taking.drops ≡ all_pairs (ports_of (registered s) who) (gone_for s who taking.told)
+  pub dead : taking.dead ≡ dead_tags s.tag s.told who.0 (gone_for s who taking.told)
+
+-- What a participant that takes so many at most, or all, is told, the messages by which it is, and what goes.
+pub record IsTaking (s : State) (who : Pid) (limit : Option ℕ) (taking : Taking) : Type 0 where
+  pub told : taking.told ≡ told_after s who limit
+  pub adverts : taking.adverts ≡ adverts s who (taken_of s who limit)
+  pub goes : GoesWith s who taking
+
+-- the line by which the participant of a name takes so many at most, or all
+abbrev pub line_of : List ℕ → Option ℕ → Event
+line_of name None = Drain name
+line_of name (Some count) = Take name count
+
+-- A line is in place by which the participant takes what it is told then.
+pub record IsTaker (s : State) (who : Pid) (then : FinMap prefix_cmp Entry) : Type 0 where
   pub name : List ℕ
-  pub formed : IsWellFormed (Drain name)
+  pub limit : Option ℕ
+  pub formed : IsWellFormed (line_of name limit)
   pub sender : IsSender s name who
+  pub told : then ≡ told_after s who limit

@@ -10,6 +10,7 @@ ghost use Rattle.sdx_core.specs.Placed.{lies_in};
 use super::Sdx;
 use crate::address_set::AddressSet;
 use crate::pool_range::is_in_pool;
+use crate::programs::both_dropping;
 use crate::replies::{bare_reply, refused};
 use advert_queue::Told;
 use events::{Head, Phase, Refusal, Reply};
@@ -51,7 +52,9 @@ impl Sdx {
         if declared >= 256 {
             return Ok(refused(self.alloc, Refusal::Full));
         }
+        let programs = both_dropping(self.alloc)?;
         self.told.reserve(1)?;
+        self.programs.reserve(1)?;
         self.server.add_participant()?;
         match self.registry.add_octets(name.items(), asn, id) {
             Ok(_) => {}
@@ -59,6 +62,10 @@ impl Sdx {
                 self.server.drop_last();
                 return Err(Memory);
             }
+        }
+        match self.programs.push(programs) {
+            Ok(()) => {}
+            Err(_) => unreachable!(),
         }
         match self.told.push(Told::new(self.alloc)) {
             Ok(()) => Ok(bare_reply(self.alloc, Head::Fine)),

@@ -1,25 +1,26 @@
-//! The line by which a participant takes what is pending for it.
+//! The lines by which a participant takes what is pending for it.
 
-ghost use Rattle.std.specs.Prelude.{◌≡◌, ◌<◌, ℕ, IfOk, List, length};
+ghost use Rattle.std.specs.Prelude.{◌≡◌, ◌<◌, IfOk, length};
 ghost use Rattle.events.specs.Forms.{IsWellFormed};
-ghost use Rattle.events.specs.Fits.{IsStep};
+ghost use Rattle.events.specs.Fits.{IsStep, bare};
 ghost use Rattle.events.specs.State.{present};
-ghost use Rattle.events.specs.declared.Event.TheVariants as lines;
-ghost use Rattle.sdx_core.specs.Changing.{IsSender};
-ghost use Rattle.sdx_core.specs.Taking.{IsTaker, IsTaking};
+ghost use Rattle.exchange_laws.specs.Telling.{told_anew};
+ghost use Rattle.sdx_core.specs.Taking.{GoesWith, IsTaker, IsTaking, line_of};
 
 use super::Sdx;
+use crate::news::{News, news_for};
 use crate::replies::{bare_reply, refused};
 use crate::taking::{dead_among, entries_of, pairs_of};
-use advert_queue::{Told, adverts};
+use advert_queue::Told;
 use events::{Head, Messages, Phase, Reply};
-use fast_path::{forget_all, give_all, remove_all, untold};
+use fast_path::{forget_all, give_all, remove_all};
 use net_types::{Items, Memory, Name, Pairs, Pid, Tags};
 
-/// What a participant that takes all is told, and what goes with what it was told before.
+/// What a participant that takes some of what is pending is told, and what goes with what it was told before.
 #[derive(Drop)]
 struct Taking {
-    present: Told,
+    /// What it was told then.
+    told: Told,
     adverts: Messages,
     /// The pairs that are live no more.
     drops: Pairs,
@@ -28,33 +29,38 @@ struct Taking {
 }
 
 impl Sdx {
-    /// The participant takes all that is pending. All memory is taken before anything changes.
-    pub(super) fn drain(&mut self, name: &Name) -> Result<Reply, Memory>
-        requires { IsWellFormed (lines.Drain name.now) }
-        ensures { IfOk result (λ reply. IsStep self.old (lines.Drain name.now) reply self.new) }
+    /// The participant takes the first of what is pending, at most so many, or all where there is no limit. All memory is
+    /// taken before anything changes.
+    pub(super) fn take(&mut self, name: &Name, limit: Option<u32>) -> Result<Reply, Memory>
+        requires { IsWellFormed (line_of name.now limit) }
+        ensures { IfOk result (λ reply. IsStep self.old (line_of name.now limit) reply self.new) }
     {
         let who = match self.session(name) {
             Ok(who) => who,
             Err(refusal) => return Ok(refused(self.alloc, refusal)),
         };
-        let taking = self.taking(who)?;
-        Ok(self.take(who, taking))
+        let taking = self.taking(who, limit)?;
+        Ok(self.tell(who, taking))
     }
 
-    /// What a participant that takes all takes.
-    fn taking(&self, who: Pid) -> Result<Taking, Memory>
+    /// What a participant takes.
+    fn taking(&self, who: Pid, limit: Option<u32>) -> Result<Taking, Memory>
         requires { who.0 < length self.now.told }
-        ensures { IfOk result (IsTaking self.now who) }
+        ensures { IfOk result (IsTaking self.now who limit) }
     {
         let at = who.0 as usize;
         let present = self.present_to(who)?;
         let told = &self.told[at];
-        let adverts = adverts(self.alloc, self.base, told, &present)?;
-        let gone = untold(self.alloc, std::slice::from_ref(&present), told.tags())?;
+        let news = news_for(self.alloc, self.base, told, present, limit)?;
+        let News {
+            told,
+            adverts,
+            gone,
+        } = news;
         let drops = pairs_of(self.alloc, self.registry.ports_of(who), &gone)?;
         let dead = dead_among(self.alloc, &self.classes, &self.told, at, &gone)?;
         Ok(Taking {
-            present,
+            told,
             adverts,
             drops: Items::from_vec(drops),
             dead: Items::from_vec(dead),
@@ -62,18 +68,19 @@ impl Sdx {
     }
 
     /// The participant takes it, which needs no memory.
-    fn take(&mut self, who: Pid, taking: Taking) -> Reply
-        requires taker { IsTaker self.old who }
-        requires taking { IsTaking self.old who taking }
-        ensures { (name : List ℕ) → IsSender self.old name who → IsStep self.old (lines.Drain name) result self.new }
+    fn tell(&mut self, who: Pid, taking: Taking) -> Reply
+        requires taker { IsTaker self.old who taking.told }
+        requires goes { GoesWith self.old who taking }
+        ensures reply { result ≡ record (bare Head.Fine) { drops = taking.drops; adverts = taking.adverts } }
+        ensures state { self.new ≡ told_anew self.old who taking.told }
     {
         let Taking {
-            present,
+            told,
             adverts,
             drops,
             dead,
         } = taking;
-        self.told[who.0 as usize] = present;
+        self.told[who.0 as usize] = told;
         remove_all(&mut self.switch, drops.items());
         forget_all(&mut self.classes, dead.items());
         give_all(&mut self.pool, dead.items());

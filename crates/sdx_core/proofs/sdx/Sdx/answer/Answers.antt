@@ -1,12 +1,17 @@
 use Rattle.std.proofs.Common.{subst}
-use Rattle.sdx_core.specs.Changing.{Asks}
-use Rattle.sdx_core.proofs.Asked.{for_asked}
+use Rattle.sdx_core.specs.Building.{Asks}
+use Rattle.sdx_core.proofs.Builds.{for_asked, steps_within}
 use Rattle.sdx_core.proofs.sdx.Sdx.answer.Goals as goal
 
-pub reroute-requires : goal.reroute-requires
-reroute-requires c =
+pub build-requires : goal.build-requires
+build-requires g c =
     let leads = subst (Asks c.args.self.now c.requires.0) c.in-Ok.is c.requires.2 in
-    (c.requires.0, c.requires.1, leads.0, leads.1)
+    (c.requires.0, c.requires.1, leads.0, leads.1, leads.2)
 
-pub returns-in-Ok : goal.returns-in-Ok
-returns-in-Ok c = for_asked c.args.self.now c.in-Ok.proposal c.args.asked c.in-Ok.is c.reroute.result c.reroute.new.self c.reroute.ensures
+pub returns-in-Ok-clause-step : goal.returns-in-Ok-clause-step
+returns-in-Ok-clause-step g c = for_asked c.args.self.now c.in-Ok.request c.args.asked c.in-Ok.is c.build.result c.build.new.self c.build.ensures.step
+
+pub returns-in-Ok-clause-steps : goal.returns-in-Ok-clause-steps
+returns-in-Ok-clause-steps g c = λ e formed asks.
+    let leads = subst (Asks c.args.self.now e) c.in-Ok.is asks in
+    steps_within c.args.self.now e leads.0 leads.1 c.in-Ok.request c.args.steps.now c.build.new.steps leads.2 (c.build.ensures.steps e leads.0 leads.1 leads.2)

@@ -20,7 +20,7 @@ returns-in_default c =
 pub returns-in_default-pool_request : goal.returns-in_default-pool_request
 returns-in_default-pool_request c =
     let a = c.self.inside in
-    let s : State = state_of a.phase a.base a.size a.registry a.server a.resolved.items a.classes a.told.items a.switch in
+    let s : State = state_of a.phase a.base a.size a.registry a.server a.resolved.items a.classes a.told.items a.switch a.programs.items in
     let q : PortInfo = get_or a.registry.ports c.in-Some.place no_port in
     let place : port_place s c.args.port ≡ Some c.in-Some.place = sym c.port_place.ensures.place ∙ c.in-Some.is in
     let here : slice_get a.registry.ports c.in-Some.place ≡ Some q = slice_get-get_or a.registry.ports c.in-Some.place no_port c.in-Some.ensures.within in
@@ -32,7 +32,7 @@ returns-in_default-pool_request c =
 pub returns-then-not-asks_as : goal.returns-then-not-asks_as
 returns-then-not-asks_as c =
     let a = c.self.inside in
-    let s : State = state_of a.phase a.base a.size a.registry a.server a.resolved.items a.classes a.told.items a.switch in
+    let s : State = state_of a.phase a.base a.size a.registry a.server a.resolved.items a.classes a.told.items a.switch a.programs.items in
     let q : PortInfo = get_or a.registry.ports c.in-Some.place no_port in
     let place : port_place s c.args.port ≡ Some c.in-Some.place = sym c.port_place.ensures.place ∙ c.in-Some.is in
     let here : slice_get a.registry.ports c.in-Some.place ≡ Some q = slice_get-get_or a.registry.ports c.in-Some.place no_port c.in-Some.ensures.within in
@@ -45,10 +45,21 @@ returns-then-not-asks_as c =
     _ (answer_reply s c.args.bytes.now asked is_asked _ (λ i. record (plain i) { asks = asks i })) a.resolved.items
     (other_state s c.args.bytes.now asked is_asked q (rw c.ports.ensures at (sym c.asks_as.ensures ∙ c.if-not-asks_as.true))))
 
+pub invariant_of-self-then-not-asks_as : goal.invariant_of-self-then-not-asks_as
+invariant_of-self-then-not-asks_as c =
+    let a = c.self.inside in
+    let s : State = state_of a.phase a.base a.size a.registry a.server a.resolved.items a.classes a.told.items a.switch a.programs.items in
+    let q : PortInfo = get_or a.registry.ports c.in-Some.place no_port in
+    let place : port_place s c.args.port ≡ Some c.in-Some.place = sym c.port_place.ensures.place ∙ c.in-Some.is in
+    let here : slice_get a.registry.ports c.in-Some.place ≡ Some q = slice_get-get_or a.registry.ports c.in-Some.place no_port c.in-Some.ensures.within in
+    let is_asked = rw c.items.ensures at (sym c.pool_request.ensures ∙ c.in-Some-pool_request.is) in
+    arp_kept c.self.invariant (sym c.is_declared.ensures ∙ c.if-not-is_declared.false) c.args.port c.args.bytes.now q c.requires (port_at s c.args.port c.in-Some.place q place here) a.resolved.items
+    (other_state s c.args.bytes.now c.in-Some-pool_request.asked is_asked q (rw c.ports.ensures at (sym c.asks_as.ensures ∙ c.if-not-asks_as.true)))
+
 pub invariant_of-self-2 : goal.invariant_of-self-2
 invariant_of-self-2 c =
     let a = c.self.inside in
-    let s : State = state_of a.phase a.base a.size a.registry a.server a.resolved.items a.classes a.told.items a.switch in
+    let s : State = state_of a.phase a.base a.size a.registry a.server a.resolved.items a.classes a.told.items a.switch a.programs.items in
     let q : PortInfo = get_or a.registry.ports c.in-Some.place no_port in
     let place : port_place s c.args.port ≡ Some c.in-Some.place = sym c.port_place.ensures.place ∙ c.in-Some.is in
     let here : slice_get a.registry.ports c.in-Some.place ≡ Some q = slice_get-get_or a.registry.ports c.in-Some.place no_port c.in-Some.ensures.within in
@@ -66,7 +77,7 @@ invariant_of-self-2 c =
 pub returns : goal.returns
 returns c =
     let a = c.self.inside in
-    let s : State = state_of a.phase a.base a.size a.registry a.server a.resolved.items a.classes a.told.items a.switch in
+    let s : State = state_of a.phase a.base a.size a.registry a.server a.resolved.items a.classes a.told.items a.switch a.programs.items in
     let q : PortInfo = get_or a.registry.ports c.in-Some.place no_port in
     let place : port_place s c.args.port ≡ Some c.in-Some.place = sym c.port_place.ensures.place ∙ c.in-Some.is in
     let here : slice_get a.registry.ports c.in-Some.place ≡ Some q = slice_get-get_or a.registry.ports c.in-Some.place no_port c.in-Some.ensures.within in

@@ -3,6 +3,6 @@ use Rattle.sdx_core.proofs.sdx.Sdx.new.Goals as goal
 
 pub invariant_of-result : goal.invariant_of-result
 invariant_of-result c =
-    starts_kept c.new.result c.new-2.result c.new-3.result.items c.new-4.result c.new-5.result.items c.new-6.result c.none.result
+    starts_kept c.new.result c.new-2.result c.new-3.result.items c.new-4.result c.new-5.result.items c.new-6.result c.none.result c.new-7.result.items
     c.new.ensures c.new-2.ensures.routes c.new-2.ensures.rules c.new-2.ensures.named c.new-3.ensures.items c.new-4.ensures.tag c.new-4.ensures.kept c.new-5.ensures.items
-    c.new-6.ensures.table c.new-6.ensures.capacity c.none.ensures
+    c.new-6.ensures.table c.new-6.ensures.capacity c.none.ensures c.new-7.ensures.items

@@ -68,7 +68,7 @@ returns c =
     let less : owner < length a.registry.participants = owner_below c.self.invariant.steady c.args.port source found in
     let even : length a.told.items ≡ length a.registry.participants = c.self.invariant.steady.told in
     let low : c.args.port.0 < 65536 = search rules in
-    let s : State = state_of a.phase a.base a.size a.registry a.server a.resolved.items a.classes a.told.items a.switch in
+    let s : State = state_of a.phase a.base a.size a.registry a.server a.resolved.items a.classes a.told.items a.switch a.programs.items in
     let e = Packet c.args.port c.args.bytes.now in
     step_from s c.args.self.now e c.match-longest.reply _ c.self.view_is
     (packet_step s a.pool c.self.invariant c.args.port source found c.index-as_slice-owner.result

@@ -20,7 +20,7 @@ returns-in_default c =
 pub overflow_cast-owner : goal.overflow_cast-owner
 overflow_cast-owner c =
     let a = c.self.inside in
-    let s : State = state_of a.phase a.base a.size a.registry a.server a.resolved.items a.classes a.told.items a.switch in
+    let s : State = state_of a.phase a.base a.size a.registry a.server a.resolved.items a.classes a.told.items a.switch a.programs.items in
     let q : PortInfo = get_or a.registry.ports c.in-Some.place no_port in
     let place : port_place s c.args.port ≡ Some c.in-Some.place = sym c.port_place.ensures.place ∙ c.in-Some.is in
     let here : slice_get a.registry.ports c.in-Some.place ≡ Some q = slice_get-get_or a.registry.ports c.in-Some.place no_port c.in-Some.ensures.within in
@@ -33,7 +33,7 @@ overflow_cast-owner c =
 pub offset_bounds-as_slice-owner : goal.offset_bounds-as_slice-owner
 offset_bounds-as_slice-owner c =
     let a = c.self.inside in
-    let s : State = state_of a.phase a.base a.size a.registry a.server a.resolved.items a.classes a.told.items a.switch in
+    let s : State = state_of a.phase a.base a.size a.registry a.server a.resolved.items a.classes a.told.items a.switch a.programs.items in
     let q : PortInfo = get_or a.registry.ports c.in-Some.place no_port in
     let place : port_place s c.args.port ≡ Some c.in-Some.place = sym c.port_place.ensures.place ∙ c.in-Some.is in
     let here : slice_get a.registry.ports c.in-Some.place ≡ Some q = slice_get-get_or a.registry.ports c.in-Some.place no_port c.in-Some.ensures.within in
@@ -46,7 +46,7 @@ offset_bounds-as_slice-owner c =
 pub bounds-as_slice-owner : goal.bounds-as_slice-owner
 bounds-as_slice-owner c =
     let a = c.self.inside in
-    let s : State = state_of a.phase a.base a.size a.registry a.server a.resolved.items a.classes a.told.items a.switch in
+    let s : State = state_of a.phase a.base a.size a.registry a.server a.resolved.items a.classes a.told.items a.switch a.programs.items in
     let q : PortInfo = get_or a.registry.ports c.in-Some.place no_port in
     let place : port_place s c.args.port ≡ Some c.in-Some.place = sym c.port_place.ensures.place ∙ c.in-Some.is in
     let here : slice_get a.registry.ports c.in-Some.place ≡ Some q = slice_get-get_or a.registry.ports c.in-Some.place no_port c.in-Some.ensures.within in
@@ -58,7 +58,7 @@ bounds-as_slice-owner c =
 pub missing_hops-requires-clause-small : goal.missing_hops-requires-clause-small
 missing_hops-requires-clause-small c =
     let a = c.self.inside in
-    let s : State = state_of a.phase a.base a.size a.registry a.server a.resolved.items a.classes a.told.items a.switch in
+    let s : State = state_of a.phase a.base a.size a.registry a.server a.resolved.items a.classes a.told.items a.switch a.programs.items in
     let q : PortInfo = get_or a.registry.ports c.in-Some.place no_port in
     let place : port_place s c.args.port ≡ Some c.in-Some.place = sym c.port_place.ensures.place ∙ c.in-Some.is in
     let here : slice_get a.registry.ports c.in-Some.place ≡ Some q = slice_get-get_or a.registry.ports c.in-Some.place no_port c.in-Some.ensures.within in
@@ -73,7 +73,7 @@ missing_hops-requires-clause-small c =
 pub exchanges-requires : goal.exchanges-requires
 exchanges-requires c =
     let a = c.self.inside in
-    let s : State = state_of a.phase a.base a.size a.registry a.server a.resolved.items a.classes a.told.items a.switch in
+    let s : State = state_of a.phase a.base a.size a.registry a.server a.resolved.items a.classes a.told.items a.switch a.programs.items in
     let q : PortInfo = get_or a.registry.ports c.in-Some.place no_port in
     let place : port_place s c.args.port ≡ Some c.in-Some.place = sym c.port_place.ensures.place ∙ c.in-Some.is in
     let here : slice_get a.registry.ports c.in-Some.place ≡ Some q = slice_get-get_or a.registry.ports c.in-Some.place no_port c.in-Some.ensures.within in
@@ -88,7 +88,7 @@ exchanges-requires c =
 pub invariant_of-self : goal.invariant_of-self
 invariant_of-self c =
     let a = c.self.inside in
-    let s : State = state_of a.phase a.base a.size a.registry a.server a.resolved.items a.classes a.told.items a.switch in
+    let s : State = state_of a.phase a.base a.size a.registry a.server a.resolved.items a.classes a.told.items a.switch a.programs.items in
     let q : PortInfo = get_or a.registry.ports c.in-Some.place no_port in
     let place : port_place s c.args.port ≡ Some c.in-Some.place = sym c.port_place.ensures.place ∙ c.in-Some.is in
     let here : slice_get a.registry.ports c.in-Some.place ≡ Some q = slice_get-get_or a.registry.ports c.in-Some.place no_port c.in-Some.ensures.within in
@@ -111,7 +111,7 @@ invariant_of-self c =
 pub returns : goal.returns
 returns c =
     let a = c.self.inside in
-    let s : State = state_of a.phase a.base a.size a.registry a.server a.resolved.items a.classes a.told.items a.switch in
+    let s : State = state_of a.phase a.base a.size a.registry a.server a.resolved.items a.classes a.told.items a.switch a.programs.items in
     let q : PortInfo = get_or a.registry.ports c.in-Some.place no_port in
     let place : port_place s c.args.port ≡ Some c.in-Some.place = sym c.port_place.ensures.place ∙ c.in-Some.is in
     let here : slice_get a.registry.ports c.in-Some.place ≡ Some q = slice_get-get_or a.registry.ports c.in-Some.place no_port c.in-Some.ensures.within in

@@ -11,7 +11,7 @@ use Rattle.route_server.specs.Proposed.{Proposed}
 use Rattle.route_server.specs.declared.fault.RouteFault.{RouteFault}
 use Rattle.route_server.specs.declared.fault.RouteFault.TheVariants as faults
 use Rattle.events.proofs.Reached.{declared_pid}
-use Rattle.sdx_core.specs.Changing.{IsSender, Leads, session}
+use Rattle.sdx_core.specs.Changing.{IsSender, Reroutes, session}
 use Rattle.sdx_core.specs.View.{state_of}
 use Rattle.sdx_core.proofs.Asked.{none_refused, refused_for, update_faulty, update_leads}
 use Rattle.sdx_core.proofs.Senders.{routes_declared, sender_of}
@@ -20,20 +20,20 @@ use Rattle.sdx_core.proofs.sdx.Sdx.update_asked.Goals as goal
 pub propose_update-requires-clause-known : goal.propose_update-requires-clause-known
 propose_update-requires-clause-known c =
     let a = c.self.inside in
-    let s : State = state_of a.phase a.base a.size a.registry a.server a.resolved.items a.classes a.told.items a.switch in
+    let s : State = state_of a.phase a.base a.size a.registry a.server a.resolved.items a.classes a.told.items a.switch a.programs.items in
     let sender : IsSender s c.args.name.now c.in-Ok.who = sender_of s c.args.name.now c.in-Ok.who (ap (λ (x : State). session x c.args.name.now) c.self.view_is ∙ sym c.session.ensures ∙ c.in-Ok.is) in
     declared_pid s.routing c.args.name.now c.in-Ok.who sender.known
 
 pub propose_update-requires-clause-declared : goal.propose_update-requires-clause-declared
 propose_update-requires-clause-declared c =
     let a = c.self.inside in
-    let s : State = state_of a.phase a.base a.size a.registry a.server a.resolved.items a.classes a.told.items a.switch in
+    let s : State = state_of a.phase a.base a.size a.registry a.server a.resolved.items a.classes a.told.items a.switch a.programs.items in
     routes_declared a.registry s.routing refl c.self.invariant.steady.routed
 
 pub returns-in-Ok-propose_update : goal.returns-in-Ok-propose_update
 returns-in-Ok-propose_update c =
     let a = c.self.inside in
-    let s : State = state_of a.phase a.base a.size a.registry a.server a.resolved.items a.classes a.told.items a.switch in
+    let s : State = state_of a.phase a.base a.size a.registry a.server a.resolved.items a.classes a.told.items a.switch a.programs.items in
     let who = c.in-Ok.who in
     let u = c.in-Ok-decode.update in
     let sender : IsSender s c.args.name.now who = sender_of s c.args.name.now who (ap (λ (x : State). session x c.args.name.now) c.self.view_is ∙ sym c.session.ensures ∙ c.in-Ok.is) in
@@ -41,8 +41,8 @@ returns-in-Ok-propose_update c =
     let none = none_refused s a.registry who refl (λ ip. refl) u (λ e. let bad = c.propose_update.ensures.first_as.1 e in let good = c.in-Ok-propose_update.is in cc)
     (λ e. let bad = c.propose_update.ensures.next_hop.1 e in let good = c.in-Ok-propose_update.is in cc)
     (λ e. let bad = c.propose_update.ensures.oversize.1 e in let good = c.in-Ok-propose_update.is in cc) in
-    subst (λ (x : State). (r : Routing) × Leads x (Update c.args.name.now c.args.bytes.now) r c.in-Ok-propose_update.proposal) c.self.view_is
-    (with_update s.routing who u, update_leads s c.args.name.now who sender c.args.bytes.now u c.in-Ok-propose_update.proposal read none c.in-Ok-propose_update.ensures.proposal)
+    subst (λ (x : State). (r : Routing) × Reroutes x (Update c.args.name.now c.args.bytes.now) r c.in-Ok-propose_update.proposal) c.self.view_is
+    (with_update s.routing who u, update_leads s c.args.name.now who sender c.args.bytes.now u c.in-Ok-propose_update.proposal read none c.in-Ok-propose_update.ensures.proposal c.in-Ok-propose_update.ensures.named)
 
 abbrev the_fault : RouteFault → Result Proposed RouteFault
 the_fault f = Err f
@@ -50,7 +50,7 @@ the_fault f = Err f
 pub returns-in-Err-FirstAs : goal.returns-in-Err-FirstAs
 returns-in-Err-FirstAs c =
     let a = c.self.inside in
-    let s : State = state_of a.phase a.base a.size a.registry a.server a.resolved.items a.classes a.told.items a.switch in
+    let s : State = state_of a.phase a.base a.size a.registry a.server a.resolved.items a.classes a.told.items a.switch a.programs.items in
     let who = c.in-Ok.who in
     let u = c.in-Ok-decode.update in
     let sender : IsSender s c.args.name.now who = sender_of s c.args.name.now who (ap (λ (x : State). session x c.args.name.now) c.self.view_is ∙ sym c.session.ensures ∙ c.in-Ok.is) in
@@ -62,7 +62,7 @@ returns-in-Err-FirstAs c =
 pub returns-in-Err-NextHop : goal.returns-in-Err-NextHop
 returns-in-Err-NextHop c =
     let a = c.self.inside in
-    let s : State = state_of a.phase a.base a.size a.registry a.server a.resolved.items a.classes a.told.items a.switch in
+    let s : State = state_of a.phase a.base a.size a.registry a.server a.resolved.items a.classes a.told.items a.switch a.programs.items in
     let who = c.in-Ok.who in
     let u = c.in-Ok-decode.update in
     let sender : IsSender s c.args.name.now who = sender_of s c.args.name.now who (ap (λ (x : State). session x c.args.name.now) c.self.view_is ∙ sym c.session.ensures ∙ c.in-Ok.is) in
@@ -74,7 +74,7 @@ returns-in-Err-NextHop c =
 pub returns-in-Err-Oversize : goal.returns-in-Err-Oversize
 returns-in-Err-Oversize c =
     let a = c.self.inside in
-    let s : State = state_of a.phase a.base a.size a.registry a.server a.resolved.items a.classes a.told.items a.switch in
+    let s : State = state_of a.phase a.base a.size a.registry a.server a.resolved.items a.classes a.told.items a.switch a.programs.items in
     let who = c.in-Ok.who in
     let u = c.in-Ok-decode.update in
     let sender : IsSender s c.args.name.now who = sender_of s c.args.name.now who (ap (λ (x : State). session x c.args.name.now) c.self.view_is ∙ sym c.session.ensures ∙ c.in-Ok.is) in
