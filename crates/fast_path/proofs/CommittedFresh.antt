@@ -26,8 +26,8 @@ use Rattle.net_types.specs.Signatures.{signature}
 use Rattle.net_types.specs.declared.address.Tag.{Tag}
 use Rattle.net_types.specs.declared.prefix.Prefix.{Prefix}
 use Rattle.net_types.specs.declared.route.Part.{Part}
+use Rattle.fast_path.proofs.CommitLemmas.{once_of}
 use Rattle.fast_path.proofs.CommittedMaps.{get_front, get_taken, take-IsRising}
-use Rattle.fast_path.proofs.NewPairs.{once_of}
 use Rattle.fast_path.specs.Committing.{Kept, kept_of, tags_of}
 use Rattle.fast_path.specs.Planned.{group_kept, is_tag_below}
 use Rattle.fast_path.specs.LiveOnly.{group_signatures, group_tags}

@@ -1,5 +1,5 @@
 -- Maps after several values are put in or taken out, members with their places, and lists that rise.
-use Rattle.std.proofs.Common.{◌≡◌, ℕ, zero, suc, ◌<◌, ◌≤◌, ◌⊎◌, Bool, true, false, cond, ◌||◌, List, [], ◌∷◌, filter, length, take, sym, ap, ◌∙◌, refl, arith, inl, inr}
+use Rattle.std.proofs.Common.{◌≡◌, ℕ, zero, suc, ◌<◌, ◌⊎◌, Bool, true, false, cond, ◌||◌, List, [], ◌∷◌, filter, map, take, sym, ap, subst, ◌∙◌, refl, arith, inl, inr}
 use Rattle.std.specs.Prelude.{Option, Some, None, slice_get}
 use Rattle.std.specs.Cmp.{IsTotalOrder}
 use Rattle.std.specs.FinMap.{FinMap, get, get-insert, get-remove, insert, remove}
@@ -10,6 +10,7 @@ use Rattle.std.proofs.lemmas.Bool.{false_from_ne_true}
 use Rattle.net_types.proofs.OrderedLemmas.{any_member, member_any}
 use Rattle.exchange_laws.proofs.Lists.{clash}
 use Rattle.net_types.proofs.FindLemmas.{Member-take}
+use Rattle.net_types.proofs.SetLemmas.{Member-map}
 use Rattle.net_types.proofs.TieLemmas.{ties_itself}
 use Rattle.net_types.specs.Sets.{IsRising, Member}
 
@@ -41,15 +42,20 @@ filter_alike f g [] same = refl
 filter_alike f g (x ∷ xs) same =
     ap (λ b. cond b (x ∷ filter f xs) (filter f xs)) (same x (inl refl)) ∙ ap (λ ys. cond (g x) (x ∷ ys) ys) (filter_alike f g xs (λ y m. same y (inr m)))
 
-pub filter-le : {A : Type 0} (f : A → Bool) (xs : List A) → length (filter f xs) ≤ length xs
-filter-le f [] = omega arith
-filter-le f (x ∷ xs) = by (f x) (filter-le f xs)
-  where
-    by : (b : Bool) → length (filter f xs) ≤ length xs → length (cond b (x ∷ filter f xs) (filter f xs)) ≤ suc (length xs)
-    by true few = omega arith
-    by false few = omega arith
-
 -- ---- maps
+
+-- the keys of entries differ
+abbrev pub AreApart : {K X : Type 0} → List (K × X) → Type 0
+AreApart [] = Unit {0}
+AreApart {K} {X} (e ∷ es) = ((d : K × X) → Member d es → d.0 ≡ e.0 → ⊥) × AreApart es
+
+-- so it is where they rise, and none comes before itself
+pub apart_from_rising : {K X : Type 0} (below : K → K → Bool) → ((k : K) → below k k ≡ true → ⊥) → (es : List (K × X)) → IsRising below (map (λ (e : K × X). e.0) es) → AreApart es
+apart_from_rising below never [] rises = tt
+apart_from_rising {K} {X} below never (e ∷ es) rises = (
+  λ d m same. never e.0 (subst (λ k. below e.0 k ≡ true) same (rises.0 d.0 (Member-map (λ (x : K × X). x.0) es d m))),
+  apart_from_rising below never es rises.1,
+)
 
 module _ {K : Type 0} (R : K → K → Ordering) (o : IsTotalOrder R) (tie : (x y : K) → eq_by_cmp R x y ≡ true → x ≡ y) where
   -- a key is one of these, or none of them
@@ -86,6 +92,21 @@ module _ {K X : Type 0} (R : K → K → Ordering) (o : IsTotalOrder R) (tie : (
       by true is there = inl (get-insert o m e.0 e.1 q ∙ ap (λ b. cond b (Some e.1) (get m q)) is ∙ sym (all e (inl refl)) ∙ ap f (sym (tie q e.0 is)))
       by false is (inl at) = inl (get-insert o m e.0 e.1 q ∙ ap (λ b. cond b (Some e.1) (get m q)) is ∙ at)
       by false is (inr put) = inr (put_later e es q is put.entry put.at put.stands)
+
+  -- a key that none of these has is as it was
+  pub get_with_others : (es : List (K × X)) (m : FinMap R X) (q : K) → ((e : K × X) → Member e es → e.0 ≡ q → ⊥) → get (with_all m es) q ≡ get m q
+  get_with_others [] m q none = refl
+  get_with_others (e ∷ es) m q none =
+      get_with_others es (insert m e.0 e.1) q (λ d k. none d (inr k)) ∙ get-insert o m e.0 e.1 q
+      ∙ ap (λ b. cond b (Some e.1) (get m q)) (false_from_ne_true (eq_by_cmp R q e.0) (λ ties. none e (inl refl) (sym (tie q e.0 ties))))
+
+  -- where the keys differ, each has its value
+  pub get_with_those : (es : List (K × X)) (m : FinMap R X) → AreApart es → (e : K × X) → Member e es → get (with_all m es) e.0 ≡ Some e.1
+  get_with_those [] m apart e stands = elim stands [ ]
+  get_with_those (d ∷ es) m apart e (inl is) =
+      subst (λ (x : K × X). get (with_all (insert m d.0 d.1) es) x.0 ≡ Some x.1) (sym is)
+      (get_with_others es (insert m d.0 d.1) d.0 apart.0 ∙ get-insert o m d.0 d.1 d.0 ∙ ap (λ b. cond b (Some d.1) (get m d.0)) (ties_itself o d.0))
+  get_with_those (d ∷ es) m apart e (inr k) = get_with_those es (insert m d.0 d.1) apart.1 e k
 
   -- the map with all of these taken out
   abbrev pub without_all : FinMap R X → List K → FinMap R X

@@ -4,10 +4,9 @@ use Rattle.std.proofs.lemmas.Bool.{ltb-true}
 use Rattle.events.specs.State.{State}
 use Rattle.events.specs.Tags.{groups, is_live, retagged, same_tag, tags}
 use Rattle.events.specs.Tags as events
-use Rattle.exchange_laws.proofs.Lists.{clash, not_true, numbers_range}
+use Rattle.exchange_laws.proofs.Lists.{TableOf, clash, not_true, numbers_range}
 use Rattle.exchange_laws.proofs.Sames.{tag_same}
 use Rattle.exchange_laws.specs.Retagging.{TagsArePooled}
-use Rattle.exchange_laws.specs.Rules.{with_default_rules}
 use Rattle.net_types.proofs.RisingLemmas.{Member-filter, filter-Member}
 use Rattle.net_types.specs.Exports.{Routing}
 use Rattle.net_types.specs.Routes.{numbers}
@@ -216,5 +215,5 @@ module _ (s : State) (r : Routing) (pooled : TagsArePooled s) (p : Tags) (pool :
     }
 
     -- whatever its table
-    pub pool_with_rules : IsPoolOf (with_default_rules s s1) settled
-    pool_with_rules = record { free = pool_then.free; size = pool_then.size; base = pool_then.base }
+    pub pool_with_rules : (table : TableOf) → IsPoolOf (record s1 { table = table }) settled
+    pool_with_rules table = record { free = pool_then.free; size = pool_then.size; base = pool_then.base }

@@ -1,23 +1,18 @@
 -- With all changes of tags made, the prefixes have the tags that they are to have.
-use Rattle.std.proofs.Common.{◌≡◌, ◌≤◌, Bool, true, false, not, List, [], ◌∷◌, ◌++◌, filter, length, map, sym, ap, subst, ◌∙◌, refl, arith}
+use Rattle.std.proofs.Common.{◌≡◌, Bool, true, false, not, List, [], ◌∷◌, ◌++◌, filter, map, sym, ap, subst, ◌∙◌, refl}
 use Rattle.std.specs.Prelude.{Option, Some, None}
 use Rattle.std.specs.FinMap.{FinMap, get, keys, same_map}
-use Rattle.std.proofs.lemmas.List.{length-map}
 use Rattle.net_types.proofs.OrderedLemmas.{ordered_rises, ordered_same}
 use Rattle.events.specs.Fits.{tag_changes}
-use Rattle.events.specs.State.{State}
-use Rattle.events.specs.Tags.{new_tag, retagged, same_tag}
+use Rattle.events.specs.Tags.{same_tag}
 use Rattle.events.specs.declared.TagChange.{TagChange}
 use Rattle.exchange_laws.proofs.Lists.{clash, is_some_of, key_Member}
 use Rattle.exchange_laws.proofs.Sames.{tags_test}
-use Rattle.exchange_laws.proofs.TouchedPrefixes.{touched_have_changes}
-use Rattle.exchange_laws.specs.Touched.{IsTouching}
 use Rattle.net_types.proofs.OrderLemmas.{prefix_tie, prefixes_total}
 use Rattle.net_types.proofs.RisingLemmas.{Member-filter, filter-IsRising, filter-Member}
 use Rattle.net_types.proofs.SetLemmas.{Member-append_left, Member-append_right, Member-map, map-Member}
 use Rattle.net_types.proofs.TieLemmas.{prefix_cmp-IsAntisymmetric}
 use Rattle.net_types.specs.Attributes.{same_option}
-use Rattle.net_types.specs.Exports.{Routing}
 use Rattle.net_types.specs.Keys.{prefix_cmp}
 use Rattle.net_types.specs.Maps.{ordered}
 use Rattle.net_types.specs.Sets.{IsRising, Member}
@@ -25,7 +20,6 @@ use Rattle.net_types.specs.UpdateSpelling.{is_before}
 use Rattle.net_types.specs.declared.address.Tag.{Tag}
 use Rattle.net_types.specs.declared.prefix.Prefix.{Prefix}
 use Rattle.prefix_classes.proofs.ChangeLemmas.{changed_prefixes_have_new_tags, other_prefixes_keep_their_tags}
-use Rattle.fast_path.proofs.CommittedMaps.{filter-le}
 use Rattle.fast_path.specs.Committing.{change_of, tags_with}
 use Rattle.prefix_classes.specs.Laws.{AreRising, Change}
 
@@ -91,12 +85,3 @@ module _ (old new : TagsOf) where
   -- with the changes made the tags are those
   pub tags_then : tags_with old (tag_changes old new) ≡ new
   tags_then = same_map prefixes_total prefix_cmp-IsAntisymmetric (tags_with old (tag_changes old new)) new tag_then
-
--- there are no more changes than touched prefixes
-pub changes_few : (s : State) (r : Routing) (ps : List Prefix) → IsTouching s r ps → length (tag_changes s.tag (retagged s r).tag) ≤ length ps
-changes_few s r ps touching =
-    let differ : Prefix → Bool = λ p. not (same_option same_tag (get s.tag p) (new_tag s r p)) in
-    let same = ap length (touched_have_changes s r ps touching) in
-    let mapped = length-map (filter differ ps) (λ p. let c : TagChange = record { prefix = p; tag = new_tag s r p } in c) in
-    let few = filter-le differ ps in
-    omega (arith, same, mapped, few)

@@ -1,19 +1,21 @@
 -- Those of the emptied tags that nobody was told are the tags that are live no more.
-use Rattle.std.proofs.Common.{◌≡◌, Bool, true, false, ◌||◌, not, ap, ◌∙◌, inl, inr}
+use Rattle.std.proofs.Common.{◌≡◌, Bool, true, false, ◌||◌, not, List, ap, ◌∙◌, inl, inr}
 use Rattle.std.specs.List.{list_any}
 use Rattle.std.proofs.lemmas.Bool.{false_from_ne_true, or_cases, or_left, or_right}
 use Rattle.events.specs.State.{State}
 use Rattle.events.specs.Tags.{retagged, tells}
 use Rattle.exchange_laws.proofs.Lists.{clash, not_true}
-use Rattle.fast_path.specs.LiveOnly.{UntoldAreDead, has_prefix}
+use Rattle.fast_path.specs.LiveOnly.{AreDead, AreEmptied, has_prefix}
+use Rattle.fast_path.specs.Pairs.{untold}
 use Rattle.net_types.proofs.RisingLemmas.{Member-filter, filter-Member}
+use Rattle.net_types.specs.Exports.{Routing}
 use Rattle.net_types.specs.declared.address.Tag.{Tag}
 
 -- somebody was told the tag
 abbrev is_told : State → Tag → Bool
 is_told s t = list_any (λ entries. tells entries t) s.told
 
-pub untold_are_dead : UntoldAreDead
+pub untold_are_dead : (s : State) (r : Routing) (ts : List Tag) → AreEmptied s (retagged s r) ts → AreDead s (retagged s r) (untold s.told ts)
 untold_are_dead s r ts emptied = record {
   each = λ t m.
       let left = filter-Member (λ u. not (is_told s u)) ts t m in

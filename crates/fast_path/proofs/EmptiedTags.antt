@@ -18,7 +18,7 @@ use Rattle.exchange_laws.proofs.Sames.{tag_itself, tag_same, tags_test}
 use Rattle.exchange_laws.proofs.TagsAfter.{live_of, tags_are}
 use Rattle.fast_path.proofs.PortsAndTags.{has_prefix_of, prefix_with}
 use Rattle.fast_path.proofs.SignatureParts.{given}
-use Rattle.fast_path.specs.Emptied.{EmptiedAreThose, emptied, is_left, old_tags}
+use Rattle.fast_path.specs.Emptied.{emptied, is_left, old_tags}
 use Rattle.fast_path.specs.LiveOnly.{AreEmptied, has_prefix}
 use Rattle.net_types.proofs.OrderLemmas.{prefix_tie, prefixes_total, tags_total}
 use Rattle.net_types.proofs.RisingLemmas.{Member-filter, before, filter-IsRising, filter-Member}
@@ -229,5 +229,5 @@ module _ (s : State) (r : Routing) where
         clash (has_prefix_of (retagged s r) q t (sym (changed_get s.tag m1 q) ∙ still)) none);
   }
 
-pub emptied_are_those : EmptiedAreThose
+pub emptied_are_those : (s : State) (r : Routing) → AreEmptied s (retagged s r) (emptied s.tag (tag_changes s.tag (retagged s r).tag))
 emptied_are_those s r = emptied_are s r

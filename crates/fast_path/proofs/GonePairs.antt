@@ -6,18 +6,16 @@ use Rattle.std.proofs.lemmas.Bool.{false_from_ne_true, or_cases, or_left, or_rig
 use Rattle.net_types.proofs.OrderedLemmas.{ordered_rises, ordered_same}
 use Rattle.events.specs.State.{State, port_of, present, told_to}
 use Rattle.events.specs.Tags.{is_live_pair, retagged, tells}
-use Rattle.exchange_laws.proofs.ListedPairs.{gone_are_dropped}
 use Rattle.exchange_laws.proofs.Lists.{clash, some_of}
 use Rattle.exchange_laws.proofs.LivePairs.{live_at, live_from, port_Member, present_tag}
 use Rattle.exchange_laws.proofs.OwnHops.{numbered_port}
-use Rattle.exchange_laws.proofs.RulesAfter.{pairs_live}
 use Rattle.exchange_laws.proofs.TagsAfter.{live_of, live_tags_stay, signatures_are_kept}
 use Rattle.exchange_laws.specs.Steady.{PortsDiffer}
-use Rattle.exchange_laws.specs.Listed.{AreLiveOnly, HasLivePairs}
-use Rattle.exchange_laws.specs.Rules.{IsChange, with_default_rules}
+use Rattle.exchange_laws.specs.Listed.{AreLiveOnly}
+use Rattle.exchange_laws.specs.Rules.{IsChange}
 use Rattle.fast_path.proofs.PortsAndTags.{IsPortOf, found_number, has_prefix_of, number_listed, port_listed, prefix_with, present_from, tie}
 use Rattle.fast_path.proofs.SignatureParts.{has_part, part_senders, same_senders}
-use Rattle.fast_path.specs.LiveOnly.{AreEmptied, GonePairsAreDropped, GonePairsAreThose, has_prefix, registered}
+use Rattle.fast_path.specs.LiveOnly.{AreEmptied, has_prefix, registered}
 use Rattle.fast_path.specs.Pairs.{gone_pairs, pair_at, part_pairs, tag_pairs, was_told}
 use Rattle.net_types.proofs.OrderLemmas.{pairs_total}
 use Rattle.net_types.proofs.SetLemmas.{Member-map, Member-union, map-Member, union-Member}
@@ -89,7 +87,7 @@ module _ (s : State) (r : Routing) (change : IsChange s r) where
         let t : Tag = of_tag.of in
         let empty = emptied.each t of_tag.stands in
         let p = prefix_with s t empty.0 in
-        let among : Member pair (union_over (part_pairs names s.told t) (signature s.routing p.prefix)) = subst (λ o. Member pair (union_over (part_pairs names s.told t) (unwrap_or o []))) (change.sound.kept p.prefix t p.tagged) of_tag.gives in
+        let among : Member pair (union_over (part_pairs names s.told t) (signature s.routing p.prefix)) = subst (λ o. Member pair (union_over (part_pairs names s.told t) (unwrap_or o []))) (change.tagged.kept p.prefix t p.tagged) of_tag.gives in
         let of_part = union-Member (part_pairs names s.told t) (signature s.routing p.prefix) pair among in
         part_gone t p.prefix of_part.of pair p.tagged empty.1 of_part.stands of_part.gives
 
@@ -106,7 +104,7 @@ module _ (s : State) (r : Routing) (change : IsChange s r) where
       none_left p tagged routed = false_from_ne_true (has_prefix s1 pair.tag) (λ has.
           let p1 = prefix_with s1 pair.tag has in
           let stays = live_tags_stay s r change.pooled pair.tag (live_of s p pair.tag tagged) (live_of s1 p1.prefix pair.tag p1.tagged) in
-          let same : signature s.routing p ≡ signature r p1.prefix = some_of (signature s.routing p) (signature r p1.prefix) (sym (change.sound.kept p pair.tag tagged) ∙ sym stays ∙ signatures_are_kept s r change.pooled p1.prefix pair.tag p1.tagged) in
+          let same : signature s.routing p ≡ signature r p1.prefix = some_of (signature s.routing p) (signature r p1.prefix) (sym (change.tagged.kept p pair.tag tagged) ∙ sym stays ∙ signatures_are_kept s r change.pooled p1.prefix pair.tag p1.tagged) in
           clash (live_from s1 pair q (same_port pair.port ∙ at) (or_right (tells (told_to s q.owner) pair.tag) (tells (present s1 q.owner) pair.tag)
           (present_from s1 q.owner p1.prefix pair.tag (same_senders s.routing r p p1.prefix q.owner same (declared pair q at) routed) p1.tagged))) dead)
 
@@ -121,7 +119,7 @@ module _ (s : State) (r : Routing) (change : IsChange s r) where
           subst (λ w. Member pair (cond (was_told s.told w pair.tag) [] (map (pair_at pair.tag) (ports_of names w)))) (sym has.sender)
           (subst (λ b. Member pair (cond b [] (map (pair_at pair.tag) (ports_of names q.owner)))) (sym not_told) at_ports) in
           Member-union (tag_pairs names s.kept s.told) ts pair.tag pair (emptied.all pair.tag (has_prefix_of s p pair.tag tagged) (none_left p tagged routed))
-          (subst (λ o. Member pair (union_over (part_pairs names s.told pair.tag) (unwrap_or o []))) (sym (change.sound.kept p pair.tag tagged))
+          (subst (λ o. Member pair (union_over (part_pairs names s.told pair.tag) (unwrap_or o []))) (sym (change.tagged.kept p pair.tag tagged))
           (Member-union (part_pairs names s.told pair.tag) (signature s.routing p) has.part pair has.stands here))
 
     all_gone : (pair : Pair) → is_live_pair s pair ≡ true → is_live_pair s1 pair ≡ false → Member pair (union_over (tag_pairs names s.kept s.told) ts)
@@ -140,14 +138,7 @@ module _ (s : State) (r : Routing) (change : IsChange s r) where
       all = λ pair live dead. (ordered_same pair_cmp pairs_total tie (union_over (tag_pairs names s.kept s.told) ts)).back pair (all_gone pair live dead);
     }
 
--- the table has the live pairs after the change
-pub has_live : (s : State) (r : Routing) → IsChange s r → HasLivePairs (with_default_rules s (retagged s r))
-has_live s r change = pairs_live s r change
-
-pub gone_pairs_are_those : GonePairsAreThose
+-- the pairs of the emptied tags are those that are live no more
+pub gone_pairs_are_those : (s : State) (r : Routing) (ts : List Tag) → IsChange s r → PortsDiffer s.routing.ports → AreEmptied s (retagged s r) ts
+    → AreLiveOnly s (retagged s r) (gone_pairs (registered s) s.kept s.told ts)
 gone_pairs_are_those s r ts change own emptied = gone_live_only s r change ts own emptied
-
-pub gone_pairs_are_dropped : GonePairsAreDropped
-gone_pairs_are_dropped s r ts change own emptied =
-    gone_are_dropped s (with_default_rules s (retagged s r)) (gone_pairs (registered s) s.kept s.told ts) change.sound.pairs (has_live s r change)
-    (let are = gone_live_only s r change ts own emptied in record { rising = are.rising; each = are.each; all = are.all })

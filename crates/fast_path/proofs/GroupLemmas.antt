@@ -14,7 +14,7 @@ use Rattle.net_types.specs.declared.route.Part.{Part}
 use Rattle.fast_path.specs.Committing.{class_of, classes_of, kept_of}
 use Rattle.fast_path.specs.declared.planned.Class.{Class}
 use Rattle.fast_path.specs.Grouping.{Known, group_at, group_before, group_of_class, groups_of, is_moved, more_groups, moved_groups, one_more, same_class, change_before, changes_of, tag_after}
-use Rattle.fast_path.specs.declared.forward.Fresh.{Fresh}
+use Rattle.fast_path.specs.declared.fresh.Fresh.{Fresh}
 
 -- the element at a place is the first of those from there on
 pub drop_at : {A : Type 0} (xs : List A) (n : ℕ) (x : A) → slice_get xs n ≡ Some x → drop n xs ≡ x ∷ drop (n + 1) xs

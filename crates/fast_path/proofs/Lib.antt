@@ -1,7 +1,7 @@
 pub mod SignatureParts
+pub mod ListPlaces
 pub mod PortsAndTags
 pub mod GonePairs
-pub mod Forwards
 pub mod NewPairs
 pub mod DeadTags
 pub mod SortedLists
@@ -9,8 +9,6 @@ pub mod EmptiedTags
 pub mod Loops
 pub mod CountedTags
 pub mod EmptiedLoop
-pub mod PlannedChanges
-pub mod OneAction
 pub mod GroupLemmas
 pub mod FreeLemmas
 pub mod TagsPlanned
@@ -22,8 +20,12 @@ pub mod CommittedSignatures
 pub mod CommittedTags
 pub mod CommittedPool
 pub mod CommittedTable
+pub mod CommittedRules
 pub mod CommittedReplies
 pub mod CommittedSteps
 pub mod TagOrder
-pub mod PlanFound
+pub mod KnownSignatures
+pub mod ClassSearch
+pub mod BlockLemmas
+pub mod TrimmedKept
 pub mod CommittedPlans

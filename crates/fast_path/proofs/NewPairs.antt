@@ -1,43 +1,47 @@
--- The pairs of the fresh tags are those that become live, and their rules are those of their owners' parts.
-use Rattle.std.proofs.Common.{◌≡◌, ℕ, ◌<◌, Bool, true, false, cond, not, List, [], ◌∷◌, length, filter, map, sym, ap, subst, ◌∙◌, refl, inl, inr}
-use Rattle.std.specs.Prelude.{Option, Some, None, slice_get, is_some}
+-- The pairs of the fresh tags are those that become live, and the signatures of all tags afterwards.
+use Rattle.std.proofs.Common.{◌≡◌, ℕ, zero, suc, ◌<◌, Bool, true, false, cond, not, List, [], ◌∷◌, length, filter, map, nat_eq, sym, ap, subst, ◌∙◌, refl, inl, inr}
+use Rattle.std.specs.Prelude.{◌⊎◌, Option, Some, None, find, slice_get, is_some}
 use Rattle.std.specs.FinMap.{get}
+use Rattle.std.specs.List.{list_any}
 use Rattle.std.specs.Option.{option_and_then, option_map, option_map_or}
 use Rattle.std.proofs.lemmas.Bool.{false_from_ne_true, or_cases, or_left, or_right}
 use Rattle.std.proofs.lemmas.Option.{slice_get_within}
-use Rattle.net_types.proofs.OrderedLemmas.{ordered_rises, ordered_same}
-use Rattle.events.specs.Fits.{flows_of}
 use Rattle.events.specs.Sound.{owners_part, part_of}
 use Rattle.events.specs.State.{State, port_of, present, told_to}
-use Rattle.events.specs.Tags.{Group, carried, free_tags, fresh_tag, group_of, groups, is_carried, is_changed, is_live, is_live_pair, retagged, same_group, tells}
+use Rattle.events.specs.Tags.{Group, carried, free_tags, fresh_tag, group_of, groups, is_carried, is_changed, is_live, is_live_pair, retagged, same_group, same_tag, tells}
+use Rattle.events.specs.declared.TagChange.{TagChange}
 use Rattle.exchange_laws.proofs.FreshTags.{by_place, fresh_free, group_listed}
-use Rattle.exchange_laws.proofs.ListedPairs.{new_are_added}
 use Rattle.exchange_laws.proofs.Lists.{clash, place_of, some_of}
 use Rattle.exchange_laws.proofs.LivePairs.{live_at, live_from, live_tag, port_Member, present_tag}
 use Rattle.exchange_laws.proofs.OwnHops.{numbered_port}
-use Rattle.exchange_laws.proofs.RulesAfter.{rules_are_those}
-use Rattle.exchange_laws.proofs.Sames.{signatures_test}
-use Rattle.exchange_laws.proofs.TagsAfter.{signatures_are_kept, tags_are}
+use Rattle.exchange_laws.proofs.Parts.{signature_whole}
+use Rattle.exchange_laws.proofs.RulesAfter.{part_kept}
+use Rattle.exchange_laws.proofs.Sames.{signatures_test, tag_itself, tag_same}
+use Rattle.exchange_laws.proofs.TagsAfter.{HasTag, live_cases, live_of, live_tags_stay, signatures_are_kept, tags_are}
+use Rattle.exchange_laws.specs.Rules.{IsChange}
 use Rattle.exchange_laws.specs.Steady.{PortsDiffer}
-use Rattle.exchange_laws.specs.Listed.{AreLiveOnly}
-use Rattle.exchange_laws.specs.Rules.{IsChange, default_rule, default_rules, discarding, rule_to, with_default_rules}
-use Rattle.fast_path.proofs.Forwards.{IsBy, forward_listed, forward_of, forwards_tie, forwards_total, get_mapped, get_taken, mapped_at, one_each, pairs_rise, rules_of, taken_at}
-use Rattle.fast_path.proofs.GonePairs.{has_live}
+use Rattle.exchange_laws.specs.Whole.{IsWhole, KeptAreWhole}
+use Rattle.fast_path.proofs.ListPlaces.{get_mapped, get_taken, mapped_at, taken_at}
 use Rattle.fast_path.proofs.PortsAndTags.{IsPortOf, found_number, number_listed, port_listed, present_from}
 use Rattle.fast_path.proofs.SignatureParts.{IsSenders, has_part, part_senders, same_senders}
-use Rattle.fast_path.specs.LiveOnly.{NewFlowsAreAdded, NewPairsAreThose, group_signatures, group_tags, registered}
-use Rattle.fast_path.specs.Pairs.{default_port, forward, forward_cmp, forwards, pair_at, rule_by}
-use Rattle.fast_path.specs.declared.forward.Forward.{Forward}
-use Rattle.net_types.proofs.FindLemmas.{slice_get-Member}
+use Rattle.fast_path.specs.Building.{is_class_of, part_at, sig_after}
+use Rattle.fast_path.specs.Committing.{Kept, class_of, classes_of, kept_of}
+use Rattle.fast_path.specs.Grouping.{Known}
+use Rattle.fast_path.specs.LiveOnly.{group_signatures, group_tags, registered}
+use Rattle.fast_path.specs.Pairs.{class_pairs, fresh_pairs, pair_at, sender_pairs}
+use Rattle.fast_path.specs.Planned.{group_kept}
+use Rattle.fast_path.specs.declared.planned.Class.{Class}
+use Rattle.net_types.proofs.FindLemmas.{any_at, find-IsFound, slice_get-Member}
+use Rattle.net_types.proofs.PassLemmas.{is_some-any, some_there}
 use Rattle.net_types.proofs.RisingLemmas.{filter-Member}
-use Rattle.net_types.proofs.SetLemmas.{Member-map, map-Member, union-map}
-use Rattle.net_types.specs.Answers.{offered_hole, offered_port}
+use Rattle.net_types.proofs.SetLemmas.{Member-map, Member-union, map-Member, union-Member}
 use Rattle.net_types.specs.Exports.{Routing}
 use Rattle.net_types.specs.Keys.{prefix_cmp}
 use Rattle.net_types.specs.Maps.{each_once, ordered}
 use Rattle.net_types.specs.Routes.{announced, best}
 use Rattle.net_types.specs.Sets.{Member}
 use Rattle.net_types.specs.Signatures.{signature}
+use Rattle.net_types.specs.declared.address.Pid.{Pid}
 use Rattle.net_types.specs.declared.address.PortNo.{PortNo}
 use Rattle.net_types.specs.declared.address.Tag.{Tag}
 use Rattle.net_types.specs.declared.prefix.Prefix.{Prefix}
@@ -56,17 +60,25 @@ turned : (b : Bool) → not b ≡ false → b ≡ true
 turned true e = refl
 turned false e = cc
 
--- the port of the best offer of a pair's owner, and none where that is a hole
-abbrev pub owner_port : State → Pair → Option PortNo
-owner_port s pair = option_map_or (λ (part : Part). default_port part.offers part.best) (owners_part s pair) None
+-- ---- fresh tags with their signatures
 
--- the default rule is the one by that port
-rule_is : (part : Part) → default_rule part ≡ rule_by (default_port part.offers part.best)
-rule_is part = by (offered_hole part.offers part.best)
-  where
-    by : (b : Bool) → cond b discarding (rule_to (offered_port part.offers part.best)) ≡ rule_by (cond b None (Some (offered_port part.offers part.best)))
-    by true = refl
-    by false = refl
+-- they stand at one place
+pub kept_place : (ts : List Tag) (sigs : List (List Part)) (x : Kept) → Member x (kept_of ts sigs) → (k : ℕ) × (slice_get ts k ≡ Some x.0) × (slice_get sigs k ≡ Some x.1)
+kept_place [] sigs x m = elim m [ ]
+kept_place (t ∷ ts) [] x m = elim m [ ]
+kept_place (t ∷ ts) (sig ∷ sigs) x (inl e) = (0, ap (λ (y : Kept). Some y.0) (sym e), ap (λ (y : Kept). Some y.1) (sym e))
+kept_place (t ∷ ts) (sig ∷ sigs) x (inr m) = let later = kept_place ts sigs x m in (suc later.0, later.1, later.2)
+
+pub place_kept : (ts : List Tag) (sigs : List (List Part)) (k : ℕ) (t : Tag) (sig : List Part) → slice_get ts k ≡ Some t → slice_get sigs k ≡ Some sig → Member (t, sig) (kept_of ts sigs)
+place_kept [] sigs k t sig e h = absurd (cc)
+place_kept (u ∷ ts) [] k t sig e h = absurd (cc)
+place_kept (u ∷ ts) (ps ∷ sigs) zero t sig e h = inl (sym (λ i. let y : Kept = (some_of u t e i, some_of ps sig h i) in y))
+place_kept (u ∷ ts) (ps ∷ sigs) (suc k) t sig e h = inr (place_kept ts sigs k t sig e h)
+
+-- the signature in which a part is found
+in_sig : (o : Option (List Part)) (who : Pid) (part : Part) → option_and_then (λ ps. part_of ps who) o ≡ Some part → (sig : List Part) × (o ≡ Some sig) × (part_of sig who ≡ Some part)
+in_sig None who part e = absurd (cc)
+in_sig (Some sig) who part e = (sig, refl, e)
 
 module _ (s : State) (r : Routing) (change : IsChange s r) (own : PortsDiffer s.routing.ports) where
   abbrev s1 : State
@@ -109,26 +121,18 @@ module _ (s : State) (r : Routing) (change : IsChange s r) (own : PortsDiffer s.
       let g = get_mapped (λ (x : Group). x.after) (groups s r) k sig signed in
       subst (λ x. HasFresh x t) g.2 (of_group g.0 t (slice_get-Member (groups s r) k g.0 g.1) (by_place s r k g.0 g.1 ∙ get_taken (length (groups s r)) (free_tags s) k t tagged))
 
-  -- ---- each forward
+  -- ---- each pair
 
-  -- its pair becomes live, and it leaves as the default of its owner's part does
-  record IsNew (f : Forward) : Type 0 where
-    live : is_live_pair s1 f.pair ≡ true
-    dead : is_live_pair s f.pair ≡ false
-    part : Part
-    owns : owners_part s1 f.pair ≡ Some part
-    to : f.to ≡ default_port part.offers part.best
+  -- the pair becomes live
+  record IsNew (pair : Pair) : Type 0 where
+    live : is_live_pair s1 pair ≡ true
+    dead : is_live_pair s pair ≡ false
 
-  one_new : (sig : List Part) (t : Tag) (x : Part) (n : PortNo) → HasFresh sig t → Member x sig → Member n (ports_of names x.sender) → IsNew (forward t x n)
+  one_new : (sig : List Part) (t : Tag) (x : Part) (n : PortNo) → HasFresh sig t → Member x sig → Member n (ports_of names x.sender) → IsNew (pair_at t n)
   one_new sig t x n fresh stands at = record {
     live = live_from s1 (pair_at t n) port.port found (or_right (tells (told_to s port.port.owner) t) (tells (present s1 port.port.owner) t)
         (present_from s1 port.port.owner fresh.prefix t (subst (λ w. is_some (best r w fresh.prefix) ≡ true) (sym port.owner) senders.routed) fresh.tagged));
     dead = false_from_ne_true (is_live_pair s (pair_at t n)) (λ live. clash (live_tag s (pair_at t n) live) fresh.unused);
-    part = x;
-    owns = ap (option_and_then (λ (y : PortInfo). option_and_then (λ ps. part_of ps y.owner) (get s1.kept t))) found
-        ∙ ap (option_and_then (λ ps. part_of ps port.port.owner)) (signatures_are_kept s r change.pooled fresh.prefix t fresh.tagged)
-        ∙ ap (part_of (signature r fresh.prefix)) port.owner ∙ senders.own;
-    to = refl;
   }
     where
       port : IsPortOf s x.sender n
@@ -140,113 +144,149 @@ module _ (s : State) (r : Routing) (change : IsChange s r) (own : PortsDiffer s.
       senders : IsSenders r fresh.prefix x
       senders = part_senders r fresh.prefix x (subst (Member x) (sym fresh.signed) stands)
 
-  each_new : (f : Forward) → Member f (forwards names (group_signatures s r) (group_tags s r)) → IsNew f
-  each_new f m =
-      let from = forward_of names (group_signatures s r) (group_tags s r) f m in
-      let image = map-Member (forward from.tag from.part) (ports_of names from.part.sender) f from.gives in
-      subst IsNew (sym image.is) (one_new from.sig from.tag from.part image.of (at_place from.place from.sig from.tag from.signed from.tagged) from.stands image.stands)
+  -- the classes of the fresh tags, by some changes
+  module _ (cs : List TagChange) where
+    abbrev pub made : List Class
+    made = classes_of cs (group_kept s r)
 
-  -- ---- all of them
+    -- the class stands for a fresh tag
+    class_fresh : (c : Class) → Member c made → HasFresh c.sig c.tag
+    class_fresh c m =
+        let image = map-Member (class_of cs) (group_kept s r) c m in
+        let place = kept_place (group_tags s r) (group_signatures s r) image.of image.stands in
+        subst (λ (d : Class). HasFresh d.sig d.tag) (sym image.is) (at_place place.0 image.of.1 image.of.0 place.2 place.1)
 
-  module _ (pair : Pair) (dead : is_live_pair s pair ≡ false) (q : PortInfo) (at : port_of s pair.port ≡ Some q) (p : Prefix) (tagged : get s1.tag p ≡ Some pair.tag) (routed : is_some (best r q.owner p) ≡ true) where
-    -- a prefix that keeps its tag keeps its signature
-    not_kept : is_changed s r p ≡ false → get s.tag p ≡ Some pair.tag → ⊥
-    not_kept same before =
-        let kept = (signatures_test (option_and_then (get s.kept) (get s.tag p)) (Some (signature r p))).0 (turned _ same) in
-        let alike : signature r p ≡ signature s.routing p = some_of (signature r p) (signature s.routing p) (sym kept ∙ ap (option_and_then (get s.kept)) before ∙ change.sound.kept p pair.tag before) in
-        clash (live_from s pair q at (or_right (tells (told_to s q.owner) pair.tag) (tells (present s q.owner) pair.tag)
-        (present_from s q.owner p pair.tag (same_senders r s.routing p p q.owner alike (declared q (port_Member s pair q at)) routed) before))) dead
+    each_new : (pair : Pair) → Member pair (fresh_pairs names made) → IsNew pair
+    each_new pair m =
+        let of_class = union-Member (class_pairs names) made pair m in
+        let c : Class = of_class.of in
+        let of_part = union-Member (sender_pairs names c.tag) c.sig pair of_class.gives in
+        let image = map-Member (pair_at c.tag) (ports_of names of_part.of.sender) pair of_part.gives in
+        subst IsNew (sym image.is) (one_new c.sig c.tag of_part.of image.of (class_fresh c of_class.stands) of_part.stands image.stands)
 
-    by_fresh : is_carried r p ≡ true → is_changed s r p ≡ true → fresh_tag s r (group_of s r p) ≡ Some pair.tag → (f : Forward) × (f.pair ≡ pair) × Member f (forwards names (group_signatures s r) (group_tags s r))
-    by_fresh is changed fresh =
-        let place = place_of (groups s r) (group_of s r p) (group_listed s r p is changed) in
-        let has = has_part r p q.owner (declared q (port_Member s pair q at)) routed in
-        let f : Forward = forward pair.tag has.part pair.port in
-        let listed : Member pair.port (ports_of names has.part.sender) = subst (λ w. Member pair.port (ports_of names w)) (sym has.sender)
-        (subst (λ n. Member n (ports_of names q.owner)) (sym (found_number s pair.port q at)) (number_listed s q (port_Member s pair q at))) in (
-          f,
-          refl,
-          forward_listed names (group_signatures s r) (group_tags s r) f (record {
-            place = place.0;
-            sig = signature r p;
-            tag = pair.tag;
-            part = has.part;
-            signed = mapped_at (λ (x : Group). x.after) (groups s r) place.0 (group_of s r p) place.1;
-            tagged = taken_at (length (groups s r)) (free_tags s) place.0 pair.tag (slice_get_within (groups s r) place.0 (group_of s r p) place.1) (sym (by_place s r place.0 (group_of s r p) place.1) ∙ fresh);
-            stands = has.stands;
-            gives = Member-map (forward pair.tag has.part) (ports_of names has.part.sender) pair.port listed;
-          }),
-        )
+    -- the class of a group
+    group_class : (g : Group) (t : Tag) → Member g (groups s r) → fresh_tag s r g ≡ Some t → (c : Class) × (c.tag ≡ t) × (c.sig ≡ g.after) × Member c made
+    group_class g t m fresh =
+        let place = place_of (groups s r) g m in
+        let signed : slice_get (group_signatures s r) place.0 ≡ Some g.after = mapped_at (λ (x : Group). x.after) (groups s r) place.0 g place.1 in
+        let tagged : slice_get (group_tags s r) place.0 ≡ Some t = taken_at (length (groups s r)) (free_tags s) place.0 t (slice_get_within (groups s r) place.0 g place.1) (sym (by_place s r place.0 g place.1) ∙ fresh) in
+        let k : Kept = (t, g.after) in
+        (class_of cs k, refl, refl, Member-map (class_of cs) (group_kept s r) k (place_kept (group_tags s r) (group_signatures s r) place.0 t g.after tagged signed))
 
-    from_tag : (f : Forward) × (f.pair ≡ pair) × Member f (forwards names (group_signatures s r) (group_tags s r))
-    from_tag = by (is_carried r p) (is_changed s r p) refl refl (sym (tags_are s r p) ∙ tagged)
+    -- ---- all of them
+
+    module _ (pair : Pair) (dead : is_live_pair s pair ≡ false) (q : PortInfo) (at : port_of s pair.port ≡ Some q) (p : Prefix) (tagged : get s1.tag p ≡ Some pair.tag) (routed : is_some (best r q.owner p) ≡ true) where
+      -- a prefix that keeps its tag keeps its signature
+      not_kept : is_changed s r p ≡ false → get s.tag p ≡ Some pair.tag → ⊥
+      not_kept same before =
+          let kept = (signatures_test (option_and_then (get s.kept) (get s.tag p)) (Some (signature r p))).0 (turned _ same) in
+          let alike : signature r p ≡ signature s.routing p = some_of (signature r p) (signature s.routing p) (sym kept ∙ ap (option_and_then (get s.kept)) before ∙ change.tagged.kept p pair.tag before) in
+          clash (live_from s pair q at (or_right (tells (told_to s q.owner) pair.tag) (tells (present s q.owner) pair.tag)
+          (present_from s q.owner p pair.tag (same_senders r s.routing p p q.owner alike (declared q (port_Member s pair q at)) routed) before))) dead
+
+      by_fresh : is_carried r p ≡ true → is_changed s r p ≡ true → fresh_tag s r (group_of s r p) ≡ Some pair.tag → Member pair (fresh_pairs names made)
+      by_fresh is changed fresh =
+          let made_for = group_class (group_of s r p) pair.tag (group_listed s r p is changed) fresh in
+          let c : Class = made_for.0 in
+          let has = has_part r p q.owner (declared q (port_Member s pair q at)) routed in
+          let listed : Member pair.port (ports_of names has.part.sender) = subst (λ w. Member pair.port (ports_of names w)) (sym has.sender)
+          (subst (λ n. Member n (ports_of names q.owner)) (sym (found_number s pair.port q at)) (number_listed s q (port_Member s pair q at))) in
+          let here : Member pair (sender_pairs names pair.tag has.part) = Member-map (pair_at pair.tag) (ports_of names has.part.sender) pair.port listed in
+          Member-union (class_pairs names) made c pair made_for.3
+          (Member-union (sender_pairs names c.tag) c.sig has.part pair (subst (Member has.part) (sym made_for.2) has.stands) (subst (λ u. Member pair (sender_pairs names u has.part)) (sym made_for.1) here))
+
+      from_tag : Member pair (fresh_pairs names made)
+      from_tag = by (is_carried r p) (is_changed s r p) refl refl (sym (tags_are s r p) ∙ tagged)
+        where
+          by : (c d : Bool) → is_carried r p ≡ c → is_changed s r p ≡ d → cond c (cond d (fresh_tag s r (group_of s r p)) (get s.tag p)) None ≡ Some pair.tag → Member pair (fresh_pairs names made)
+          by true true is changed e = by_fresh is changed e
+          by true false is same e = absurd (not_kept same e)
+          by false d is changed e = absurd (cc)
+
+    all_new : (pair : Pair) → is_live_pair s1 pair ≡ true → is_live_pair s pair ≡ false → Member pair (fresh_pairs names made)
+    all_new pair live dead =
+        let there = live_at s1 pair live in
+        let q : PortInfo = there.0 in
+        let at : port_of s pair.port ≡ Some q = sym (same_port pair.port) ∙ there.1.port in
+        elim (or_cases (tells (told_to s q.owner) pair.tag) (tells (present s1 q.owner) pair.tag) there.1.for) [
+          | inl told ↦ absurd (clash (live_from s pair q at (or_left (tells (told_to s q.owner) pair.tag) (tells (present s q.owner) pair.tag) told)) dead)
+          | inr now ↦ let p = present_tag s1 q.owner pair.tag now in from_tag pair dead q at p.0 p.1.tagged (ap is_some p.1.best_is)
+        ]
+
+    -- the pairs of the fresh tags are those that become live
+    pub new_pairs_each : (pair : Pair) → Member pair (fresh_pairs names made) → (is_live_pair s1 pair ≡ true) × (is_live_pair s pair ≡ false)
+    new_pairs_each pair m = let is = each_new pair m in (is.live, is.dead)
+
+    pub new_pairs_all : (pair : Pair) → is_live_pair s1 pair ≡ true → is_live_pair s pair ≡ false → Member pair (fresh_pairs names made)
+    new_pairs_all pair live dead = all_new pair live dead
+
+    -- ---- signatures afterwards
+
+    -- where no class is the tag's, it was live
+    not_fresh : (t : Tag) → is_live s1 t ≡ true → ((c : Class) → Member c made → c.tag ≡ t → ⊥) → is_live s t ≡ true
+    not_fresh t live none = elim (live_cases s1 t live) [
+      | inl has ↦ from has.prefix (is_carried r has.prefix) (is_changed s r has.prefix) refl refl (sym (tags_are s r has.prefix) ∙ has.tagged)
+      | inr told ↦ or_right _ _ told
+    ]
       where
-        by : (c d : Bool) → is_carried r p ≡ c → is_changed s r p ≡ d → cond c (cond d (fresh_tag s r (group_of s r p)) (get s.tag p)) None ≡ Some pair.tag
-            → (f : Forward) × (f.pair ≡ pair) × Member f (forwards names (group_signatures s r) (group_tags s r))
-        by true true is changed e = by_fresh is changed e
-        by true false is same e = absurd (not_kept same e)
-        by false d is changed e = absurd (cc)
+        from : (p : Prefix) (c d : Bool) → is_carried r p ≡ c → is_changed s r p ≡ d → cond c (cond d (fresh_tag s r (group_of s r p)) (get s.tag p)) None ≡ Some t → is_live s t ≡ true
+        from p true true is changed e = let made_for = group_class (group_of s r p) t (group_listed s r p is changed) e in absurd (none made_for.0 made_for.3 made_for.1)
+        from p true false is same e = live_of s p t e
+        from p false d is changed e = absurd (cc)
 
-  all_new : (pair : Pair) → is_live_pair s1 pair ≡ true → is_live_pair s pair ≡ false → (f : Forward) × (f.pair ≡ pair) × Member f (forwards names (group_signatures s r) (group_tags s r))
-  all_new pair live dead =
-      let there = live_at s1 pair live in
-      let q : PortInfo = there.0 in
-      let at : port_of s pair.port ≡ Some q = sym (same_port pair.port) ∙ there.1.port in
-      elim (or_cases (tells (told_to s q.owner) pair.tag) (tells (present s1 q.owner) pair.tag) there.1.for) [
-        | inl told ↦ absurd (clash (live_from s pair q at (or_left (tells (told_to s q.owner) pair.tag) (tells (present s q.owner) pair.tag) told)) dead)
-        | inr now ↦ let p = present_tag s1 q.owner pair.tag now in from_tag pair dead q at p.0 p.1.tagged (ap is_some p.1.best_is)
-      ]
+    -- the signature of a live tag is its class's, or the one that was kept
+    record HasSig (t : Tag) (sig : List Part) : Type 0 where
+      is : get s1.kept t ≡ Some sig
+      whole : KeptAreWhole s → (part : Part) → Member part sig → IsWhole (length s.routing.participants) part
 
-  -- ---- in order
+    class_sig : (c : Class) (t : Tag) → Member c made → c.tag ≡ t → HasSig t c.sig
+    class_sig c t m same =
+        let fresh = class_fresh c m in
+        record {
+          is = ap (get s1.kept) (sym same) ∙ signatures_are_kept s r change.pooled fresh.prefix c.tag fresh.tagged ∙ ap Some fresh.signed;
+          whole = λ kept part stands.
+              subst (λ ms. IsWhole (length ms) part) change.alike.participants (signature_whole r fresh.prefix part (subst (Member part) (sym fresh.signed) stands));
+        }
 
-  abbrev pub listed : List Forward
-  listed = ordered forward_cmp (forwards names (group_signatures s r) (group_tags s r))
+    none_made : (t : Tag) → find (is_class_of t) made ≡ None → (c : Class) → Member c made → c.tag ≡ t → ⊥
+    none_made t e c m same =
+        let any : list_any (is_class_of t) made ≡ true = any_at (is_class_of t) made c m (ap (λ u. same_tag u t) same ∙ tag_itself t) in
+        clash any (sym (is_some-any (is_class_of t) made) ∙ ap is_some e)
 
-  new_of : (f : Forward) → Member f listed → IsNew f
-  new_of f m = each_new f ((ordered_same forward_cmp forwards_total forwards_tie (forwards names (group_signatures s r) (group_tags s r))).onto f m)
+    sig_is : (t : Tag) → is_live s1 t ≡ true → (o : Option Class) → find (is_class_of t) made ≡ o → option_map_or (λ (c : Class). Some c.sig) o (get s.kept t) ≡ get s1.kept t
+    sig_is t live None e = sym (live_tags_stay s r change.pooled t (not_fresh t live (none_made t e)) live)
+    sig_is t live (Some c) e = let found = find-IsFound (is_class_of t) made c e in sym (class_sig c t found.stands (tag_same c.tag t found.passes)).is
 
-  by_owner : IsBy (owner_port s1) listed
-  by_owner f m = let is = new_of f m in is.to ∙ sym (ap (λ o. option_map_or (λ (part : Part). default_port part.offers part.best) o None) is.owns)
+    pub sig_after_is : (k : Known) → k.kept ≡ s.kept → (t : Tag) → is_live s1 t ≡ true → sig_after k made t ≡ get s1.kept t
+    sig_after_is k kept t live = ap (λ m. option_map_or (λ (c : Class). Some c.sig) (find (is_class_of t) made) (get m t)) kept ∙ sig_is t live (find (is_class_of t) made) refl
 
-  pub new_live_only : AreLiveOnly s1 s (map (λ (f : Forward). f.pair) listed)
-  new_live_only = record {
-    rising = pairs_rise (owner_port s1) listed (ordered_rises forward_cmp forwards_total forwards_tie (forwards names (group_signatures s r) (group_tags s r))) by_owner;
-    each = λ pair m.
-        let image = map-Member (λ (f : Forward). f.pair) listed pair m in
-        let is = new_of image.of image.stands in
-        subst (λ x. (is_live_pair s1 x ≡ true) × (is_live_pair s x ≡ false)) (sym image.is) (is.live, is.dead);
-    all = λ pair live dead.
-        let f = all_new pair live dead in
-        subst (λ x. Member x (map (λ (g : Forward). g.pair) listed)) f.1
-        (Member-map (λ (g : Forward). g.pair) listed f.0 ((ordered_same forward_cmp forwards_total forwards_tie (forwards names (group_signatures s r) (group_tags s r))).back f.0 f.2));
-  }
+    sig_whole : KeptAreWhole s → (t : Tag) → is_live s1 t ≡ true → (sig : List Part) → get s1.kept t ≡ Some sig → (part : Part) → Member part sig → IsWhole (length s.routing.participants) part
+    sig_whole whole t live sig is part m = by (find (is_class_of t) made) refl
+      where
+        by : (o : Option Class) → find (is_class_of t) made ≡ o → IsWhole (length s.routing.participants) part
+        by None e = whole t sig (sym (live_tags_stay s r change.pooled t (not_fresh t live (none_made t e)) live) ∙ is) part m
+        by (Some c) e =
+            let found = find-IsFound (is_class_of t) made c e in
+            let has = class_sig c t found.stands (tag_same c.tag t found.passes) in
+            has.whole whole part (subst (Member part) (some_of sig c.sig (sym is ∙ has.is)) m)
 
-  -- the rule of each is that of its owner's part
-  pub new_flow_rules : (f : Forward) → Member f listed → option_map default_rules (owners_part s1 f.pair) ≡ Some (rule_by f.to ∷ [])
-  new_flow_rules f m = let is = new_of f m in ap (option_map default_rules) is.owns ∙ ap (λ rule. Some (rule ∷ [])) (rule_is is.part) ∙ ap (λ n. Some (rule_by n ∷ [])) (sym is.to)
+    -- the part of the owner of a live pair's port is found, and rules can be built of it
+    pub record HasOwners (k : Known) (pair : Pair) : Type 0 where
+      pub part : Part
+      pub is : part_at names k made pair ≡ Some part
+      pub owns : owners_part s1 pair ≡ Some part
+      pub whole : IsWhole (length s.routing.participants) part
 
-  -- the rule of each
-  new_rules : (pair : Pair) → Member pair (map (λ (f : Forward). f.pair) listed) → get (with_default_rules s s1).table pair ≡ Some (rules_of (owner_port s1) pair)
-  new_rules pair m =
-      let image = map-Member (λ (f : Forward). f.pair) listed pair m in
-      let is = new_of image.of image.stands in
-      let owns : owners_part s1 pair ≡ Some is.part = ap (owners_part s1) image.is ∙ is.owns in
-      let at = new_live_only.each pair m in
-      rules_are_those s r change.pooled pair
-      ∙ ap (λ b. cond b (cond (is_live_pair s pair) (get s.table pair) (option_map default_rules (owners_part s1 pair))) None) at.0
-      ∙ ap (λ b. cond b (get s.table pair) (option_map default_rules (owners_part s1 pair))) at.1
-      ∙ ap (option_map default_rules) owns
-      ∙ ap (λ rule. Some (rule ∷ [])) (rule_is is.part)
-      ∙ sym (ap (λ o. Some (rules_of (λ x. option_map_or (λ (part : Part). default_port part.offers part.best) o None) pair)) owns)
-
-pub new_pairs_are_those : NewPairsAreThose
-new_pairs_are_those s r change own = new_live_only s r change own
-
-pub new_flows_are_added : NewFlowsAreAdded
-new_flows_are_added s r change own =
-    let fs : List Forward = listed s r change own in
-    new_are_added s (with_default_rules s (retagged s r)) (map (λ (f : Forward). f.pair) fs) (rules_of (owner_port (retagged s r))) change.sound.pairs (has_live s r change)
-    (let are = new_live_only s r change own in record { rising = are.rising; each = are.each; all = are.all })
-    (new_rules s r change own)
-    ∙ union-map (λ pair. flows_of (pair, rules_of (owner_port (retagged s r)) pair)) (λ (f : Forward). f.pair) fs
-    ∙ one_each (owner_port (retagged s r)) fs (by_owner s r change own)
+    pub owners_found : (k : Known) → k.kept ≡ s.kept → KeptAreWhole s → (pair : Pair) → is_live_pair s1 pair ≡ true → HasOwners k pair
+    owners_found k kept whole pair live =
+        let there = some_there (owners_part s1 pair) (part_kept s r change pair live) in
+        let at = live_at s1 pair live in
+        let tag_lives : is_live s1 pair.tag ≡ true = live_tag s1 pair live in
+        let sig : (sigs : List Part) × (get s1.kept pair.tag ≡ Some sigs) × (part_of sigs at.0.owner ≡ Some there.0) = in_sig (get s1.kept pair.tag) at.0.owner there.0 (sym (ap (option_and_then (λ (y : PortInfo). option_and_then (λ ps. part_of ps y.owner) (get s1.kept pair.tag))) at.1.port) ∙ there.1) in
+        record {
+          part = there.0;
+          is = ap (λ o. option_and_then (λ (y : PortInfo). option_and_then (λ ps. part_of ps y.owner) o) (port_of s pair.port)) (sig_after_is k kept pair.tag tag_lives)
+              ∙ ap (option_and_then (λ (y : PortInfo). option_and_then (λ ps. part_of ps y.owner) (get s1.kept pair.tag))) (sym (same_port pair.port)) ∙ there.1;
+          owns = there.1;
+          whole = sig_whole whole pair.tag tag_lives sig.0 sig.1 there.0 (find-IsFound (λ (x : Part). nat_eq x.sender.0 at.0.owner.0) sig.0 there.0 sig.2).stands;
+        }

@@ -1,23 +1,26 @@
--- A sorted list without repeats is the list in order.
-use Rattle.std.proofs.Common.{◌≡◌, Bool, ◌&&◌, List, eqb, IsPermutation, sym, ◌∙◌, refl}
-use Rattle.std.specs.Prelude.{Option, Some, None}
-use Rattle.std.specs.Cmp.{unsigned_ties}
-use Rattle.std.specs.List.{dedup}
-use Rattle.std.specs.List.Sorted.{IsSorted}
-use Rattle.std.specs.Option.{option_cmp, option_eq}
-use Rattle.std.specs.Ordering.{eq_by_cmp, is_eq, nat_cmp}
-use Rattle.net_types.proofs.OrderedLemmas.{deduped_is}
-use Rattle.fast_path.proofs.Forwards.{forwards_tie, forwards_total}
-use Rattle.fast_path.proofs.PortsAndTags.{tie}
-use Rattle.fast_path.specs.Pairs.{forward_cmp, port_cmp}
-use Rattle.fast_path.specs.declared.forward.Forward.{Forward}
+-- A sorted list without repeats is the list in order, and what a search finds in a rising list.
+use Rattle.std.proofs.Common.{◌≡◌, ℕ, zero, suc, ◌+◌, ◌<◌, arith, length, Result, Ok, Err, Bool, true, false, ◌&&◌, List, [], ◌∷◌, eqb, IsPermutation, sym, ap, subst, ◌∙◌, refl, inl, inr}
+use Rattle.std.specs.Cmp.{IsTotalOrder, unsigned_ties}
+use Rattle.std.specs.List.{dedup, list_any}
+use Rattle.std.specs.List.Sorted.{IsBinarySearchResult, IsSearchInRange, IsSorted, IsSortedBy}
+use Rattle.std.specs.Prelude.{◌⊎◌, is_ok, slice_index_or}
+use Rattle.std.specs.Ordering.{eq_by_cmp, is_eq, is_lt, nat_cmp, ordering_reverse}
+use Rattle.std.specs.declared.cmp.Ordering.{Ordering}
+use Rattle.std.specs.declared.cmp.Ordering.TheVariants.{Less, Equal, Greater}
+use Rattle.std.proofs.lemmas.Cmp.{tied_itself}
+use Rattle.std.proofs.lemmas.Bool.{cases_lt, false_from_ne_true, false≢true}
+use Rattle.std.proofs.lemmas.List.Sorted.{searchable_from_sorted}
+use Rattle.net_types.proofs.OrderedLemmas.{any_member, member_any, deduped_is}
+use Rattle.net_types.proofs.MemberLemmas.{Contains-Member, Member-at}
 use Rattle.net_types.proofs.OrderLemmas.{pairs_total, tags_total}
+use Rattle.net_types.proofs.RisingLemmas.{before}
 use Rattle.net_types.proofs.TieLemmas.{same_from_tie, tag_cmp-IsAntisymmetric, then_ties}
 use Rattle.net_types.specs.Keys.{pair_cmp, tag_cmp}
 use Rattle.net_types.specs.Maps.{ordered}
-use Rattle.net_types.specs.declared.address.PortNo.{PortNo}
+use Rattle.net_types.specs.Sets.{IsRising}
 use Rattle.net_types.specs.declared.address.Tag.{Tag}
 use Rattle.net_types.specs.declared.rule.Pair.{Pair}
+use Rattle.fast_path.proofs.PortsAndTags.{tie}
 
 -- the derived test of pairs
 abbrev pub same_pair : Pair → Pair → Bool
@@ -29,25 +32,38 @@ pair_ties a b = (λ i. unsigned_ties a.port.0 b.port.0 i && unsigned_ties a.tag.
 pub pairs_in_order : (xs ys : List Pair) → IsPermutation xs ys → IsSorted pair_cmp ys → dedup same_pair ys ≡ ordered pair_cmp xs
 pairs_in_order = deduped_is pair_cmp pairs_total tie same_pair pair_ties
 
--- the derived test of ports
-abbrev pub same_port : PortNo → PortNo → Bool
-same_port m n = eqb m.0 n.0
-
-port_ties : (m n : Option PortNo) → option_eq same_port m n ≡ is_eq (option_cmp port_cmp m n)
-port_ties None None = refl
-port_ties None (Some n) = refl
-port_ties (Some m) None = refl
-port_ties (Some m) (Some n) = unsigned_ties m.0 n.0
-
--- the derived test of forwards
-abbrev pub same_forward : Forward → Forward → Bool
-same_forward f g = same_pair f.pair g.pair && option_eq same_port f.to g.to
-
-forward_ties : (f g : Forward) → same_forward f g ≡ eq_by_cmp forward_cmp f g
-forward_ties f g = (λ i. pair_ties f.pair g.pair i && port_ties f.to g.to i) ∙ sym (then_ties (pair_cmp f.pair g.pair) (option_cmp port_cmp f.to g.to))
-
-pub forwards_in_order : (xs ys : List Forward) → IsPermutation xs ys → IsSorted forward_cmp ys → dedup same_forward ys ≡ ordered forward_cmp xs
-forwards_in_order = deduped_is forward_cmp forwards_total forwards_tie same_forward forward_ties
-
 pub tags_in_order : (xs ys : List Tag) → IsPermutation xs ys → IsSorted tag_cmp ys → dedup (λ (t u : Tag). eqb t.0 u.0) ys ≡ ordered tag_cmp xs
 tags_in_order = deduped_is tag_cmp tags_total (same_from_tie tag_cmp tag_cmp-IsAntisymmetric) (λ t u. eqb t.0 u.0) (λ t u. unsigned_ties t.0 u.0)
+
+-- ---- search
+
+pub backward : (r s : Ordering) → r ≡ ordering_reverse s → is_lt r ≡ true → is_lt s ≡ false
+backward r Less e h = let k : is_lt r ≡ false = ap is_lt e in absurd (false≢true (sym k ∙ h))
+backward r Equal e h = refl
+backward r Greater e h = refl
+
+pub not_tied : (r : Ordering) → r ≡ Equal → (r ≡ Less) ⊎ (r ≡ Greater) → ⊥
+not_tied r e (inl h) = cc
+not_tied r e (inr h) = cc
+
+module _ {K : Type 0} (R : K → K → Ordering) (o : IsTotalOrder R) (tie : (x y : K) → eq_by_cmp R x y ≡ true → x ≡ y) where
+  -- a rising list is sorted
+  in_order : (xs : List K) → IsRising (before R) xs → IsSortedBy (λ x y. is_lt (R x y)) xs
+  in_order xs r k d low within = go xs r k within
+    where
+      go : (xs : List K) → IsRising (before R) xs → (k : ℕ) → k + 1 < length xs → is_lt (R (slice_index_or xs (k + 1) d) (slice_index_or xs k d)) ≡ false
+      go [] r k within = absurd (omega arith)
+      go (x ∷ []) r k within = absurd (omega arith)
+      go (x ∷ y ∷ ys) r zero within = backward (R x y) (R y x) (o.antisymm x y) (r.0 y (inl refl))
+      go (x ∷ y ∷ ys) r (suc k) within =
+          let e : suc k + 1 ≡ suc (k + 1) = omega arith in
+          subst (λ (j : ℕ). is_lt (R (slice_index_or (x ∷ y ∷ ys) j d) (slice_index_or (y ∷ ys) k d)) ≡ false) (sym e) (go (y ∷ ys) r.1 k (omega arith))
+
+  -- a search in a rising list finds what is there
+  pub search_finds : (xs : List K) (x : K) (r : Result ℕ ℕ) → IsRising (before R) xs → IsSearchInRange r (length xs) → IsBinarySearchResult (λ y. R y x) xs r → is_ok r ≡ list_any (eq_by_cmp R x) xs
+  search_finds xs x (Ok i) rises within found = sym (member_any R o tie x xs (Member-at xs i x x within (tie (slice_index_or xs i x) x (ap is_eq (found x)))))
+  search_finds xs x (Err i) rises within found = sym (false_from_ne_true (list_any (eq_by_cmp R x) xs) (λ among.
+      let c = Contains-Member xs x (any_member R o tie x xs among) in
+      let halves = found (searchable_from_sorted o (λ (y : K). y) xs x (in_order xs rises)) in
+      let level : R (slice_index_or xs c.0 x) x ≡ Equal = ap (λ (y : K). R y x) c.2 ∙ tied_itself o x in
+      not_tied (R (slice_index_or xs c.0 x) x) level (elim (cases_lt c.0 i) [ inl low ↦ inl (halves.0 c.0 x (omega arith) low) | inr high ↦ inr (halves.1 c.0 x high c.1) ])))

@@ -24,7 +24,7 @@ use Rattle.exchange_laws.proofs.Lists.{clash, some_of}
 use Rattle.exchange_laws.proofs.Sames.{group_itself, group_same}
 use Rattle.exchange_laws.proofs.TouchedPrefixes.{touched_have_changes, touched_have_groups}
 use Rattle.fast_path.specs.Grouping.{Known, change_before, changes_of, group_before, groups_of, is_empty, is_kept_sig, is_moved, more_groups, moved_groups, same_class, tag_after}
-use Rattle.fast_path.specs.declared.forward.Fresh.{Fresh}
+use Rattle.fast_path.specs.declared.fresh.Fresh.{Fresh}
 use Rattle.fast_path.proofs.CommittedMaps.{get_front}
 use Rattle.fast_path.proofs.GroupLemmas.{place_among}
 

@@ -1,6 +1,5 @@
 -- What a plan leads to, once it is carried out (this exchange's own rule).
-use Rattle.std.specs.Prelude.{◌≡◌, ◌≤◌, Bool, length}
-use Rattle.std.specs.FinMap.{FinMap}
+use Rattle.std.specs.Prelude.{◌≡◌, ◌≤◌, Bool, true, false, length}
 use Rattle.events.specs.After.{next, without_pairs}
 use Rattle.events.specs.Fits.{Fits, bare}
 use Rattle.events.specs.State.{State}

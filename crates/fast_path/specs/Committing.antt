@@ -16,6 +16,7 @@ use Rattle.next_hop_pool.specs.Free.{IsTag, Tags, is_taken, marked}
 use Rattle.match_switch.specs.Installed.{Installed, rule_count}
 use Rattle.prefix_classes.specs.Classes.{Classes, given, members}
 use Rattle.prefix_classes.specs.Laws.{AreRising, changed}
+use Rattle.fast_path.specs.Grouping.{known_by}
 use Rattle.fast_path.specs.declared.planned.Class.{Class}
 use Rattle.fast_path.specs.declared.planned.Plan.{Plan}
 
@@ -143,7 +144,7 @@ block_count bs = sum_by (λ (b : Block). length b.1) bs
 -- The plan can be committed: its fresh tags are free and not kept, each prefix whose tag becomes another is a member of the
 -- fresh tag that it gets, or gets none, its dead tags will be taken and no prefix's, and there is room for all that is put in.
 pub record CanCommit (plan : Plan) (classes : Classes) (pool : Tags) (switch : Installed) : Type 0 where
-  pub unkept : AreUnkept classes.kept (signed plan.fresh.items)
+  pub unkept : AreUnkept (known_by plan.named classes).kept (signed plan.fresh.items)
   pub tags_room : length plan.fresh.items ≤ classes.tags
   pub rising : AreRising (map change_of plan.tags)
   pub fresh : HaveTags (tags_of (signed plan.fresh.items)) plan.tags

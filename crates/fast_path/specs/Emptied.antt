@@ -2,12 +2,8 @@
 use Rattle.std.specs.Prelude.{Bool, nat_eq, List, filter, count_by}
 use Rattle.std.specs.FinMap.{FinMap, get}
 use Rattle.std.specs.List.{filter_map}
-use Rattle.events.specs.Fits.{tag_changes}
-use Rattle.events.specs.State.{State}
-use Rattle.events.specs.Tags.{retagged, same_tag}
+use Rattle.events.specs.Tags.{same_tag}
 use Rattle.events.specs.declared.TagChange.{TagChange}
-use Rattle.fast_path.specs.LiveOnly.{AreEmptied}
-use Rattle.net_types.specs.Exports.{Routing}
 use Rattle.net_types.specs.Keys.{prefix_cmp, tag_cmp}
 use Rattle.net_types.specs.Maps.{ordered}
 use Rattle.net_types.specs.declared.address.Tag.{Tag}
@@ -24,7 +20,3 @@ is_left m cs t = nat_eq (count_by (same_tag t) (old_tags m cs)) (members m t)
 -- the tags of changed prefixes that no other prefix has, ascending
 abbrev pub emptied : FinMap prefix_cmp Tag → List TagChange → List Tag
 emptied m cs = filter (is_left m cs) (ordered tag_cmp (old_tags m cs))
-
--- by the changes of tags that a change of routes makes, they are exactly those that no prefix has any more
-abbrev pub EmptiedAreThose : Type 0
-EmptiedAreThose = (s : State) (r : Routing) → AreEmptied s (retagged s r) (emptied s.tag (tag_changes s.tag (retagged s r).tag))

@@ -7,7 +7,7 @@ use Rattle.std.specs.Option.{option_and_then, option_map}
 use Rattle.net_types.specs.Attributes.{same_option, same_signature}
 use Rattle.net_types.specs.Keys.{prefix_cmp, tag_cmp}
 use Rattle.net_types.specs.Maps.{tabulate}
-use Rattle.net_types.specs.Signatures.{trimmed}
+use Rattle.net_types.specs.Signatures.{trimmed, trimmed_part}
 use Rattle.net_types.specs.declared.address.Pid.{Pid}
 use Rattle.net_types.specs.declared.address.Tag.{Tag}
 use Rattle.net_types.specs.declared.prefix.Prefix.{Prefix}
@@ -15,7 +15,7 @@ use Rattle.net_types.specs.declared.route.Part.{Part}
 use Rattle.events.specs.Tags.{Group, same_group, same_tag}
 use Rattle.events.specs.declared.TagChange.{TagChange}
 use Rattle.prefix_classes.specs.Classes.{Classes}
-use Rattle.fast_path.specs.declared.forward.Fresh.{Fresh}
+use Rattle.fast_path.specs.declared.fresh.Fresh.{Fresh}
 
 -- what the groups are made of: the tag of each prefix, and the signature of each tag
 pub record Known : Type 0 where
@@ -30,6 +30,11 @@ known c = record { tag = c.tag; kept = c.kept }
 abbrev pub known_by : Option (Pid × List Pid) → Classes → Known
 known_by None c = known c
 known_by (Some (who, named)) c = record { tag = c.tag; kept = tabulate tag_cmp (keys c.kept) (λ t. option_map (trimmed who named) (get c.kept t)) }
+
+-- a part without the offers that don't count any more, where a participant's policy names these
+abbrev pub part_by : Option (Pid × List Pid) → Part → Part
+part_by None part = part
+part_by (Some (who, named)) part = trimmed_part who named part
 
 -- no participant has a best route
 abbrev pub is_empty : List Part → Bool

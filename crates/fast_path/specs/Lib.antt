@@ -1,10 +1,11 @@
 pub mod Pairs
 pub mod LiveOnly
 pub mod Emptied
-pub mod PlannedChanges
 pub mod Grouping
 pub mod Shown
 pub mod Committing
 pub mod Plans
 pub mod Planned
 pub mod Carried
+pub mod Building
+pub mod Drafts

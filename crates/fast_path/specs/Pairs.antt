@@ -1,26 +1,19 @@
--- The pairs that go with tags that no prefix has any more, and those that come with fresh tags (this exchange's own rule).
-use Rattle.std.specs.Prelude.{Bool, not, List, [], ◌∷◌, ◌++◌, map, filter, slice_get, Option, Some, None, unwrap_or, if◌then◌else◌}
+-- The pairs that go with tags that no prefix has any more, and those whose rules are built (this exchange's own rule).
+use Rattle.std.specs.Prelude.{Bool, not, List, [], ◌∷◌, ◌++◌, map, filter, slice_get, unwrap_or, if◌then◌else◌}
 use Rattle.std.specs.FinMap.{FinMap, empty, get}
 use Rattle.std.specs.List.{list_any}
-use Rattle.std.specs.Option.{option_cmp}
-use Rattle.std.specs.Ordering.{nat_cmp, ordering_then}
-use Rattle.std.specs.declared.cmp.Ordering.{Ordering}
+use Rattle.std.specs.Ordering.{eq_by_cmp}
 use Rattle.events.specs.declared.Entry.{Entry}
 use Rattle.events.specs.Tags.{tells}
-use Rattle.events.specs.declared.Flow.{Flow}
-use Rattle.exchange_laws.specs.Rules.{discarding, rule_to}
-use Rattle.fast_path.specs.declared.forward.Forward.{Forward}
-use Rattle.net_types.specs.Answers.{offered_hole, offered_port}
+use Rattle.fast_path.specs.declared.planned.Class.{Class}
 use Rattle.net_types.specs.Keys.{pair_cmp, prefix_cmp, tag_cmp}
 use Rattle.net_types.specs.Maps.{ordered}
 use Rattle.net_types.specs.Sets.{union_over}
 use Rattle.net_types.specs.declared.address.Pid.{Pid}
 use Rattle.net_types.specs.declared.address.PortNo.{PortNo}
 use Rattle.net_types.specs.declared.address.Tag.{Tag}
-use Rattle.net_types.specs.declared.route.Offer.{Offer}
 use Rattle.net_types.specs.declared.route.Part.{Part}
 use Rattle.net_types.specs.declared.rule.Pair.{Pair}
-use Rattle.net_types.specs.declared.rule.Rule.{Rule}
 use Rattle.registry.specs.Registered.{Registered, ports_of}
 
 -- what each participant was told, in order of declaration
@@ -49,50 +42,35 @@ tag_pairs names kept told t = union_over (part_pairs names told t) (unwrap_or (g
 abbrev pub gone_pairs : Registered → FinMap tag_cmp (List Part) → Told → List Tag → List Pair
 gone_pairs names kept told ts = ordered pair_cmp (union_over (tag_pairs names kept told) ts)
 
--- ---- the pairs that come
+-- ---- the pairs whose rules are built
 
--- by number
-abbrev pub port_cmp : PortNo → PortNo → Ordering
-port_cmp a b = nat_cmp a.0 b.0
+-- a tag at the ports of a part's sender
+abbrev pub sender_pairs : Registered → Tag → Part → List Pair
+sender_pairs names t part = map (pair_at t) (ports_of names part.sender)
 
--- by pair, and then by port, where none comes before a port
-abbrev pub forward_cmp : Forward → Forward → Ordering
-forward_cmp a b = ordering_then (pair_cmp a.pair b.pair) (option_cmp port_cmp a.to b.to)
+-- a fresh tag at the ports of the senders in its signature
+abbrev pub class_pairs : Registered → Class → List Pair
+class_pairs names c = union_over (sender_pairs names c.tag) c.sig
 
--- the port of an offer, and none where it is a hole
-abbrev pub offer_port : Offer → Option PortNo
-offer_port o = if o.hole then None else Some o.port
+-- so it is of each fresh tag
+abbrev pub fresh_pairs : Registered → List Class → List Pair
+fresh_pairs names cs = union_over (class_pairs names) cs
 
--- the port of a participant's offer, and none where that is a hole
-abbrev pub default_port : List Offer → Pid → Option PortNo
-default_port offers who = if offered_hole offers who then None else Some (offered_port offers who)
+-- the pair is one of these
+abbrev pub is_among : List Pair → Pair → Bool
+is_among ks pair = list_any (eq_by_cmp pair_cmp pair) ks
 
--- everything with the tag at a port leaves by the port of the part's best offer, or is discarded where that is a hole
-abbrev pub forward : Tag → Part → PortNo → Forward
-forward t part port = record { pair = pair_at t port; to = default_port part.offers part.best }
+-- those of the pairs to be built anew that don't go
+abbrev pub staying : List Pair → List Pair → List Pair
+staying gone rebuild = filter (λ pair. not (is_among gone pair)) rebuild
 
--- so it is at each port of the part's sender
-abbrev pub part_forwards : Registered → Tag → Part → List Forward
-part_forwards names t part = map (forward t part) (ports_of names part.sender)
+-- the pairs whose rules are built, in order
+abbrev pub built_pairs : Registered → List Class → List Pair → List Pair → List Pair
+built_pairs names fresh gone rebuild = ordered pair_cmp (fresh_pairs names fresh ++ staying gone rebuild)
 
--- and for each part of each signature, with the tag at its place
-abbrev pub forwards : Registered → List (List Part) → List Tag → List Forward
-forwards names [] ts = []
-forwards names (sig ∷ sigs) [] = []
-forwards names (sig ∷ sigs) (t ∷ ts) = union_over (part_forwards names t) sig ++ forwards names sigs ts
-
--- everything leaves by the port, or is discarded where there is none
-abbrev pub rule_by : Option PortNo → Rule
-rule_by None = discarding
-rule_by (Some port) = rule_to port
-
--- the rule of a pair
-abbrev pub flow_of : Forward → Flow
-flow_of f = record { pair = f.pair; rule = rule_by f.to }
-
--- the pairs that come with these tags, with their rules, in order
-abbrev pub new_flows : Registered → List (List Part) → List Tag → List Flow
-new_flows names sigs ts = map flow_of (ordered forward_cmp (forwards names sigs ts))
+-- the pairs whose rules are taken out, in order
+abbrev pub dropped_pairs : List Pair → List Pair → List Pair
+dropped_pairs gone rebuild = ordered pair_cmp (gone ++ rebuild)
 
 -- ---- the tags that are live no more
 

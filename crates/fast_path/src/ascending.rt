@@ -3,9 +3,7 @@
 ghost use Rattle.std.specs.Prelude.{◌≡◌};
 ghost use Rattle.net_types.specs.Keys.{pair_cmp, tag_cmp};
 ghost use Rattle.net_types.specs.Maps.{ordered};
-ghost use Rattle.fast_path.specs.Pairs.{forward_cmp};
 
-use crate::forward::Forward;
 use net_types::{Pair, Tag};
 
 /// The same pairs, ascending by port, and then by tag, each once.
@@ -15,15 +13,6 @@ pub fn ascending_pairs(mut pairs: Vec<Pair>) -> Vec<Pair>
     pairs.sort_unstable();
     pairs.dedup();
     pairs
-}
-
-/// The same forwards, ascending by pair, and then by the port that they leave by, each once.
-pub fn ascending_forwards(mut forwards: Vec<Forward>) -> Vec<Forward>
-    ensures { result.items ≡ ordered forward_cmp forwards.items }
-{
-    forwards.sort_unstable();
-    forwards.dedup();
-    forwards
 }
 
 /// The same tags, ascending, each once.

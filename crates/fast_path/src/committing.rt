@@ -3,8 +3,11 @@
 ghost use Rattle.std.specs.Prelude.{◌≡◌, ◌≤◌, length, true, false, OnOk};
 ghost use Rattle.events.specs.After.{without_pairs};
 ghost use Rattle.fast_path.specs.Committing.{CanCommit, kept_with, kept_without, marked_all, signed, tags_of, tags_with, with_blocks};
+ghost use Rattle.fast_path.specs.Grouping.{known_by};
 
-use crate::parts::{forget_all, give_all, give_members, put_all, remove_all, take_all, untag_all};
+use crate::parts::{
+    forget_all, give_all, give_members, put_all, remove_all, take_all, trim_named, untag_all,
+};
 use crate::planned::{Changes, Plan};
 use match_switch::Switch;
 use net_types::Memory;
@@ -29,7 +32,7 @@ pub fn reserve(plan: &Plan, classes: &mut ClassMap, switch: &mut Switch) -> Resu
 pub fn commit(plan: Plan, classes: &mut ClassMap, pool: &mut Pool, switch: &mut Switch) -> Changes
     requires { CanCommit plan classes.old pool.old switch.old }
     ensures tag { classes.new.tag ≡ tags_with classes.old.tag plan.tags }
-    ensures kept { classes.new.kept ≡ kept_without (kept_with classes.old.kept (signed plan.fresh.items)) plan.dead.items }
+    ensures kept { classes.new.kept ≡ kept_without (kept_with (known_by plan.named classes.old).kept (signed plan.fresh.items)) plan.dead.items }
     ensures pool { pool.new ≡ marked_all (marked_all pool.old (tags_of (signed plan.fresh.items)) true) plan.dead.items false }
     ensures table { switch.new.table ≡ with_blocks (without_pairs switch.old.table plan.drops) plan.blocks.items }
     ensures capacity { switch.new.capacity ≡ switch.old.capacity }
@@ -42,7 +45,9 @@ pub fn commit(plan: Plan, classes: &mut ClassMap, pool: &mut Pool, switch: &mut 
         blocks,
         fresh,
         dead,
+        named,
     } = plan;
+    trim_named(classes, named);
     take_all(pool, &fresh);
     give_all(pool, &dead);
     give_members(classes, fresh);

@@ -5,11 +5,11 @@ ghost use Rattle.std.specs.Prelude.{◌≡◌, [], ◌∷◌, IfOk, OnOk};
 ghost use Rattle.std.specs.List.{list_any, position_from};
 ghost use Rattle.net_types.specs.Attributes.{same_option};
 ghost use Rattle.events.specs.Tags.{same_group, same_tag};
-ghost use Rattle.fast_path.specs.Grouping.{groups_of, is_kept_sig, is_moved, known, more_groups, moved_groups, one_more, same_class};
+ghost use Rattle.fast_path.specs.Grouping.{groups_of, is_moved, more_groups, moved_groups, one_more, same_class};
 
-use crate::forward::Fresh;
+use crate::fresh::Fresh;
+use crate::known::KnownClasses;
 use net_types::{Memory, Prefix, Sig, Tag, TryCopy, same_items};
-use prefix_classes::ClassMap;
 use route_server::Proposal;
 use std::alloc::Global;
 
@@ -29,27 +29,15 @@ pub fn same_tags(one: Option<Tag>, other: Option<Tag>) -> bool
     }
 }
 
-/// Whether a signature is the one kept for the prefix's tag.
-pub fn is_kept(classes: &ClassMap, prefix: Prefix, sig: &Sig) -> bool
-    ensures { result ≡ is_kept_sig (known classes.now) prefix sig.now }
-{
-    let Some(tag) = classes.tag_of(prefix) else {
-        return false;
-    };
-    match classes.sig_of(tag) {
-        Some(kept) => same_items(kept.items(), sig.items()),
-        None => false,
-    }
-}
-
 /// Whether a carried prefix gets another tag: its signature isn't the one kept for its tag.
-fn is_moved(classes: &ClassMap, prefix: Prefix, sig: &Sig) -> bool
-    ensures { result ≡ is_moved (known classes.now) prefix sig.now }
+fn is_moved(known: &KnownClasses<'_>, prefix: Prefix, sig: &Sig) -> Result<bool, Memory>
+    ensures { IfOk result (λ moved. moved ≡ is_moved known.now prefix sig.now) }
 {
     if sig.is_empty() {
-        return false;
+        return Ok(false);
     }
-    !is_kept(classes, prefix, sig)
+    let kept = known.is_kept(prefix, sig)?;
+    Ok(!kept)
 }
 
 /// Whether a group has this tag before and this signature after.
@@ -87,26 +75,30 @@ fn add(groups: &mut Vec<Fresh>, before: Option<Tag>, sig: &Sig) -> Result<(), Me
 /// The groups with that of a further prefix, where it moves.
 fn consider(
     groups: &mut Vec<Fresh>,
-    classes: &ClassMap,
+    known: &KnownClasses<'_>,
     prefix: Prefix,
     sig: &Sig,
 ) -> Result<(), Memory>
-    ensures { OnOk result (groups_of groups.new.items ≡ more_groups (groups_of groups.old.items) (moved_groups (known classes.now) (prefix ∷ []) (sig.now ∷ []))) }
+    ensures { OnOk result (groups_of groups.new.items ≡ more_groups (groups_of groups.old.items) (moved_groups known.now (prefix ∷ []) (sig.now ∷ []))) }
 {
-    if is_moved(classes, prefix, sig) {
-        add(groups, classes.tag_of(prefix), sig)?;
+    if is_moved(known, prefix, sig)? {
+        add(groups, known.tag_of(prefix), sig)?;
     }
     Ok(())
 }
 
 /// The groups of the touched prefixes that move, by their first places.
-pub fn groups(alloc: Global, classes: &ClassMap, proposal: &Proposal) -> Result<Vec<Fresh>, Memory>
-    ensures { IfOk result (λ groups. groups_of groups.items ≡ more_groups [] (moved_groups (known classes.now) proposal.now.touched proposal.now.sigs)) }
+pub fn groups(
+    alloc: Global,
+    known: &KnownClasses<'_>,
+    proposal: &Proposal,
+) -> Result<Vec<Fresh>, Memory>
+    ensures { IfOk result (λ groups. groups_of groups.items ≡ more_groups [] (moved_groups known.now proposal.now.touched proposal.now.sigs)) }
 {
     let mut groups = Vec::new(alloc);
     for (at, prefix) in proposal.touched().iter().enumerate() {
         let sig = proposal.sig(at);
-        consider(&mut groups, classes, *prefix, sig)?;
+        consider(&mut groups, known, *prefix, sig)?;
     }
     Ok(groups)
 }

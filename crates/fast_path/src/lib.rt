@@ -3,12 +3,14 @@
 #![tactic(auto)]
 
 mod ascending;
+mod building;
 mod carried;
 mod committing;
+mod draft;
 mod emptied;
-mod forward;
+mod fresh;
 mod grouping;
-mod pair_laws;
+mod known;
 mod pairs;
 mod parts;
 mod planned;
@@ -18,12 +20,7 @@ mod tagging;
 pub use ascending::ascending_pairs;
 pub use carried::plans_are_committed;
 pub use committing::{commit, reserve};
-pub use forward::{Forward, Fresh};
-pub use pair_laws::{
-    changes_are_planned, dead_tags_are_live_only, emptied_tags_are_those, gone_pairs_are_live_only,
-    new_pairs_are_live_only,
-};
-pub use pairs::{gone_pairs, new_flows, push_pairs, untold};
+pub use pairs::{gone_pairs, push_pairs, untold};
 pub use parts::{forget_all, give_all, remove_all};
 pub use planned::{Changes, Class, FastFault, Plan};
 pub use planning::plan;

@@ -1,17 +1,14 @@
-//! The pairs that go with tags that no prefix has any more, and those that come with fresh tags.
+//! The pairs that go with tags that no prefix has any more, and those whose rules are built.
 
 ghost use Rattle.std.specs.Prelude.{◌≡◌, ◌∷◌, ◌++◌, [], IfOk, OnOk, map};
-ghost use Rattle.net_types.specs.Sets.{union_over};
-ghost use Rattle.registry.specs.Registered.{Registered};
-ghost use Rattle.fast_path.specs.Pairs.{default_port, flow_of, forward, forwards, gone_pairs, is_told, new_flows, offer_port, pair_at, part_forwards, part_pairs, rule_by, untold, was_told};
+ghost use Rattle.net_types.specs.Sets.{IsRising, union_over};
+ghost use Rattle.exchange_laws.specs.Listed.{is_pair_before};
+ghost use Rattle.fast_path.specs.Pairs.{built_pairs, class_pairs, dropped_pairs, fresh_pairs, gone_pairs, is_among, is_told, pair_at, part_pairs, staying, untold, was_told};
 
-use crate::ascending::{ascending_forwards, ascending_pairs};
-use crate::forward::{Forward, Fresh};
+use crate::ascending::ascending_pairs;
+use crate::planned::Class;
 use advert_queue::Told;
-use events::{Flow, Flows};
-use net_types::{
-    Action, Actions, Assign, Cube, Items, Memory, Offer, Pair, Pairs, Part, Pid, PortNo, Rule, Tag,
-};
+use net_types::{Items, Memory, Pair, Pairs, Part, Pid, PortNo, Tag};
 use prefix_classes::ClassMap;
 use registry::Registry;
 use std::alloc::Global;
@@ -74,136 +71,73 @@ pub fn gone_pairs(
     Ok(Items::from_vec(ascending_pairs(pairs)))
 }
 
-/// The port of an offer, and none where it is a hole.
-fn port_of(offer: &Offer) -> Option<PortNo>
-    ensures { result ≡ offer_port offer.now }
+/// Puts the tag of a class at the ports of the senders in its signature.
+fn push_class(names: &Registry, class: &Class, pairs: &mut Vec<Pair>) -> Result<(), Memory>
+    ensures { OnOk result (pairs.new.items ≡ pairs.old.items ++ class_pairs names.now class.now) }
 {
-    if offer.hole { None } else { Some(offer.port) }
-}
-
-/// The port of the part's best offer, and none where that is a hole.
-fn default_port(part: &Part) -> Option<PortNo>
-    ensures { result ≡ default_port part.now.offers part.now.best }
-{
-    for offer in part.offers.items() {
-        if offer.exporter.0 == part.best.0 {
-            return port_of(offer);
-        }
-    }
-    Some(PortNo(0))
-}
-
-/// From each of the ports everything with the tag leaves by the port of the part's best offer, or is discarded.
-fn push_forwards(
-    ports: &[PortNo],
-    tag: Tag,
-    part: &Part,
-    forwards: &mut Vec<Forward>,
-) -> Result<(), Memory>
-    ensures { OnOk result (forwards.new.items ≡ forwards.old.items ++ map (forward tag part.now) ports.now) }
-{
-    let to = default_port(part);
-    for &port in ports {
-        let pair = Pair { port, tag };
-        forwards.push(Forward { pair, to })?;
+    for part in class.sig.items() {
+        push_pairs(names.ports_of(part.sender), class.tag, pairs)?;
     }
     Ok(())
 }
 
-/// So it is at the ports of the parts' senders.
-fn push_class(
-    names: &Registry,
-    tag: Tag,
-    parts: &[Part],
-    forwards: &mut Vec<Forward>,
-) -> Result<(), Memory>
-    ensures { OnOk result (forwards.new.items ≡ forwards.old.items ++ union_over (part_forwards names.now tag) parts.now) }
+/// The pairs of fresh tags: each at the ports of the senders in its signature.
+fn fresh_pairs(alloc: Global, names: &Registry, fresh: &[Class]) -> Result<Vec<Pair>, Memory>
+    ensures { IfOk result (λ pairs. pairs.items ≡ fresh_pairs names.now fresh.now) }
 {
-    for part in parts {
-        push_forwards(names.ports_of(part.sender), tag, part, forwards)?;
+    let mut pairs = Vec::new(alloc);
+    for class in fresh {
+        push_class(names, class, &mut pairs)?;
+    }
+    Ok(pairs)
+}
+
+/// Whether a pair stands among rising ones.
+fn is_among(pairs: &[Pair], pair: Pair) -> bool
+    requires { IsRising is_pair_before pairs.now }
+    ensures { result ≡ is_among pairs.now pair }
+{
+    pairs.binary_search(&pair).is_ok()
+}
+
+/// Puts those of the pairs last that don't go.
+fn push_staying(gone: &[Pair], rebuild: &[Pair], pairs: &mut Vec<Pair>) -> Result<(), Memory>
+    requires { IsRising is_pair_before gone.now }
+    ensures { OnOk result (pairs.new.items ≡ pairs.old.items ++ staying gone.now rebuild.now) }
+{
+    for &pair in rebuild {
+        if !is_among(gone, pair) {
+            pairs.push(pair)?;
+        }
     }
     Ok(())
 }
 
-/// The forwards of the groups' signatures, each group with the tag at its place.
-fn forwards(
+/// The pairs whose rules are built, ascending by port, and then by tag: those of fresh tags, and those to be built anew that
+/// don't go. Memory is the only refusal.
+pub fn built_pairs(
     alloc: Global,
     names: &Registry,
-    groups: &[Fresh],
-    tags: &[Tag],
-) -> Result<Vec<Forward>, Memory>
-    ensures { IfOk result (λ all. all.items ≡ forwards names.now (map (λ g. g.sig) groups.now) tags.now) }
+    fresh: &[Class],
+    gone: &[Pair],
+    rebuild: &[Pair],
+) -> Result<Pairs, Memory>
+    requires { IsRising is_pair_before gone.now }
+    ensures { IfOk result (λ pairs. pairs ≡ built_pairs names.now fresh.now gone.now rebuild.now) }
 {
-    let mut all = Vec::new(alloc);
-    let mut rest = tags;
-    for group in groups {
-        let Some((&tag, after)) = rest.split_first() else {
-            return Ok(all);
-        };
-        push_class(names, tag, group.sig.items(), &mut all)?;
-        rest = after;
-    }
-    Ok(all)
+    let mut pairs = fresh_pairs(alloc, names, fresh)?;
+    push_staying(gone, rebuild, &mut pairs)?;
+    Ok(Items::from_vec(ascending_pairs(pairs)))
 }
 
-/// An action alone.
-fn alone(alloc: Global, action: Action) -> Result<Actions, Memory>
-    ensures { IfOk result (λ actions. actions ≡ action ∷ []) }
+/// The pairs whose rules are taken out, ascending by port, and then by tag: those that go, and those to be built anew.
+/// Memory is the only refusal.
+pub fn dropped_pairs(alloc: Global, gone: &[Pair], rebuild: &[Pair]) -> Result<Pairs, Memory>
+    ensures { IfOk result (λ pairs. pairs ≡ dropped_pairs gone.now rebuild.now) }
 {
-    let mut actions = Actions::new(alloc);
-    actions.push(action)?;
-    Ok(actions)
-}
-
-/// By the port, and nowhere where there is none.
-fn actions_by(alloc: Global, port: Option<PortNo>) -> Result<Actions, Memory>
-    ensures { IfOk result (λ actions. actions ≡ (rule_by port).actions) }
-{
-    match port {
-        Some(port) => {
-            let set = Assign::none();
-            alone(alloc, Action { port, set })
-        }
-        None => Ok(Actions::new(alloc)),
-    }
-}
-
-/// The rule by which everything leaves by the port, or is discarded where there is none.
-fn rule_by(alloc: Global, port: Option<PortNo>) -> Result<Rule, Memory>
-    ensures { IfOk result (λ rule. rule ≡ rule_by port) }
-{
-    let actions = actions_by(alloc, port)?;
-    let cube = Cube::everything();
-    Ok(Rule { cube, actions })
-}
-
-/// The rule of each forward.
-fn flows_of(alloc: Global, forwards: &[Forward]) -> Result<Vec<Flow>, Memory>
-    ensures { IfOk result (λ flows. flows.items ≡ map flow_of forwards.now) }
-{
-    let mut flows = Vec::new(alloc);
-    for forward in forwards {
-        let rule = rule_by(alloc, forward.to)?;
-        let pair = forward.pair;
-        flows.push(Flow { pair, rule })?;
-    }
-    Ok(flows)
-}
-
-/// The rules of the pairs that come with fresh tags, ascending by port, and then by tag: each group has the tag at its
-/// place, and everything leaves by the port of the best offer, or is discarded where that is a hole. Memory is the only
-/// refusal.
-pub fn new_flows(
-    alloc: Global,
-    names: &Registry,
-    groups: &[Fresh],
-    tags: &[Tag],
-) -> Result<Flows, Memory>
-    ensures { IfOk result (λ flows. flows ≡ new_flows names.now (map (λ g. g.sig) groups.now) tags.now) }
-{
-    let all = ascending_forwards(forwards(alloc, names, groups, tags)?);
-    let flows = flows_of(alloc, &all)?;
-    Ok(Items::from_vec(flows))
+    let mut pairs = Vec::from_slice(alloc, gone)?;
+    pairs.extend_from_slice(rebuild)?;
+    Ok(Items::from_vec(ascending_pairs(pairs)))
 }
 
 /// Whether somebody was told the tag.

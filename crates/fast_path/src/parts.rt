@@ -1,16 +1,30 @@
 //! Committing: the classes, the pool and the table become those that were planned. It takes no memory.
 
-ghost use Rattle.std.specs.Prelude.{◌≡◌, ◌≤◌, ◌<◌, ◌+◌, ◌^◌, length, true, false};
+ghost use Rattle.std.specs.Prelude.{◌≡◌, ◌≤◌, ◌+◌, length, true, false};
 ghost use Rattle.events.specs.After.{without_pairs};
 ghost use Rattle.match_switch.specs.Installed.{rule_count};
-ghost use Rattle.fast_path.specs.Committing.{AreFree, AreTaken, AreUnkept, AreUnused, HaveOneRule, given_all, kept_with, kept_without, marked_all, member_count, signed, tags_of, untagged, untagged_one, with_blocks};
+ghost use Rattle.fast_path.specs.Committing.{AreFree, AreTaken, AreUnkept, AreUnused, block_count, given_all, kept_with, kept_without, marked_all, member_count, signed, tags_of, untagged, untagged_one, with_blocks};
+ghost use Rattle.fast_path.specs.Grouping.{known_by};
 
 use crate::planned::Class;
+use block_build::Block;
 use events::TagChange;
 use match_switch::Switch;
-use net_types::{Items, Pair, Rule, Tag};
+use net_types::{Pair, Pid, Pids, Tag};
 use next_hop_pool::Pool;
 use prefix_classes::{ClassMap, new_ones_are_few};
+
+/// Where a participant's policy names others from now on, the offers of those that it doesn't name go from its parts.
+pub fn trim_named(classes: &mut ClassMap, named: Option<(Pid, Pids)>)
+    ensures tag { classes.new.tag ≡ classes.old.tag }
+    ensures kept { classes.new.kept ≡ (known_by named classes.old).kept }
+    ensures prefixes { classes.new.prefixes ≡ classes.old.prefixes }
+    ensures tags { classes.new.tags ≡ classes.old.tags }
+{
+    if let Some((who, pids)) = named {
+        classes.trim(who, pids.items());
+    }
+}
 
 /// Keeps each fresh tag with its signature, and gives it to its members.
 pub fn give_members(classes: &mut ClassMap, fresh: Vec<Class>)
@@ -86,19 +100,18 @@ pub fn remove_all(switch: &mut Switch, drops: &[Pair])
     ensures count { rule_count switch.new.table ≤ rule_count switch.old.table }
 {
     for pair in drops {
-        switch.remove(*pair);
+        switch.drop_block(*pair);
     }
 }
 
-/// Puts the rules of pairs in, one rule each.
-pub fn put_all(switch: &mut Switch, blocks: Vec<(Pair, Items<Rule>)>)
+/// Puts the rules of pairs in.
+pub fn put_all(switch: &mut Switch, blocks: Vec<(Pair, Block)>)
     requires room { length blocks.items ≤ switch.old.room }
-    requires one { HaveOneRule blocks.items }
-    requires few { rule_count switch.old.table + length blocks.items < 2 ^ 64 }
+    requires few { rule_count switch.old.table + block_count blocks.items ≤ switch.old.capacity }
     ensures table { switch.new.table ≡ with_blocks switch.old.table blocks.items }
     ensures capacity { switch.new.capacity ≡ switch.old.capacity }
 {
     for block in blocks {
-        switch.put(block.0, block.1);
+        switch.swap_block(block.0, block.1);
     }
 }

@@ -1,7 +1,11 @@
-//! What a change of routes does.
+//! What a line that builds rules does.
 
+ghost use Rattle.std.specs.Prelude.{◌≡◌};
+ghost use Rattle.fast_path.specs.declared.planned.FastFault.TheVariants as fault;
+
+use block_build::Block;
 use events::{Flows, TagChanges};
-use net_types::{Items, Pair, Pairs, Prefixes, Rule, Sig, Tag};
+use net_types::{Memory, Pair, Pairs, Pid, Pids, Prefixes, Sig, Tag};
 
 /// What a change of routes does to tags and rules. It changes nothing until it is committed.
 #[derive(Drop)]
@@ -13,11 +17,14 @@ pub struct Plan {
     /// The rules that are put in.
     pub adds: Flows,
     /// The same rules, by pair.
-    pub blocks: Vec<(Pair, Items<Rule>)>,
+    pub blocks: Vec<(Pair, Block)>,
     /// The fresh tags, with their signatures and the prefixes that get them.
     pub fresh: Vec<Class>,
     /// The tags that are live no more.
     pub dead: Vec<Tag>,
+    /// Whom the policy of a participant names from now on, where the line is one that says so: the signatures that are
+    /// kept are trimmed by it first.
+    pub named: Option<(Pid, Pids)>,
 }
 
 /// A fresh tag, with its signature and the prefixes that get it.
@@ -44,4 +51,14 @@ pub enum FastFault {
     /// The table would have more rules than it has room for.
     TableFull { rules: usize, capacity: usize },
     Memory,
+}
+
+impl From<Memory> for FastFault {
+    ghost from_gives = { λ _ e. e ≡ fault.Memory };
+
+    fn from(_: Memory) -> FastFault
+        ensures { result ≡ fault.Memory }
+    {
+        FastFault::Memory
+    }
 }

@@ -1,31 +1,36 @@
 //! Planning a change of routes: the tags that touched prefixes get, the pairs of the table that go, and the rules of those
 //! that come.
 
-ghost use Rattle.std.specs.Prelude.{◌≡◌, ◌≤◌, ◌<◌, ◌^◌, ◌∷◌, [], length, map, IfOk, IfNone, IfSome, MatchResult};
+ghost use Rattle.std.specs.Prelude.{◌≡◌, ◌≤◌, ◌<◌, Bool, length, map, IfOk, IfNone, IfSome, MatchResult};
 ghost use Rattle.net_types.specs.Exports.{Routing};
+ghost use Rattle.net_types.specs.declared.rule.Pair.{Pair as AnyPair};
 ghost use Rattle.events.specs.State.{State};
 ghost use Rattle.fast_path.specs.Committing.{classes_of, kept_of, members_of};
-ghost use Rattle.fast_path.specs.Planned.{blocks_of};
-ghost use Rattle.fast_path.specs.Plans.{IsAsked, IsDraft, IsFault, IsPlan, too_many};
-ghost use Rattle.match_switch.specs.Installed.{rule_count};
+ghost use Rattle.fast_path.specs.Drafts.{IsDraft, IsDrafted};
+ghost use Rattle.fast_path.specs.Plans.{IsAsked, IsAskedFor, IsFault, IsPlan, IsWithinSteps};
 ghost use Rattle.next_hop_pool.specs.Free.{free_tags};
-ghost use Rattle.fast_path.specs.declared.forward.Fresh.{Fresh};
+ghost use Rattle.fast_path.specs.declared.fresh.Fresh.{Fresh};
 
+use crate::building::{flows_of, rules_for};
+use crate::draft::Draft;
 use crate::emptied::emptied;
-use crate::forward::Fresh;
+use crate::fresh::Fresh;
 use crate::grouping::{groups, same_tags};
-use crate::pairs::{gone_pairs, new_flows, untold};
+use crate::known::KnownClasses;
+use crate::pairs::{built_pairs, dropped_pairs, gone_pairs, untold};
 use crate::planned::{Class, FastFault, Plan};
 use crate::tagging::{fresh_tags, tag_changes};
 use advert_queue::Told;
-use events::{Flow, Flows, TagChange, TagChanges};
+use block_build::{Block, Views};
+use events::TagChange;
 use match_switch::Switch;
-use net_types::{Items, Memory, Pair, Pairs, Prefixes, Rule, Tag, TryCopy};
+use net_types::{Items, Memory, Pair, Pid, Pids, Prefixes, Steps, Tag, TryCopy};
 use next_hop_pool::Pool;
 use prefix_classes::ClassMap;
 use registry::Registry;
 use route_server::Proposal;
 use std::alloc::Global;
+use std::sync::ledger::Ledger;
 
 /// The prefixes that get a tag.
 fn members_of(alloc: Global, changes: &[TagChange], tag: Tag) -> Result<Prefixes, Memory>
@@ -66,27 +71,7 @@ fn with_tags(
     Ok(fresh)
 }
 
-/// The rule of a flow, alone.
-fn rules_of(alloc: Global, flow: &Flow) -> Result<Items<Rule>, Memory>
-    ensures { IfOk result (λ rules. rules ≡ flow.now.rule ∷ []) }
-{
-    let mut rules = Items::new(alloc);
-    rules.push(flow.rule.copy()?)?;
-    Ok(rules)
-}
-
-/// The rules of each pair.
-fn blocks_of(alloc: Global, adds: &[Flow]) -> Result<Vec<(Pair, Items<Rule>)>, Memory>
-    ensures { IfOk result (λ blocks. blocks.items ≡ blocks_of adds.now) }
-{
-    let mut blocks = Vec::new(alloc);
-    for flow in adds {
-        blocks.push((flow.pair, rules_of(alloc, flow)?))?;
-    }
-    Ok(blocks)
-}
-
-/// What a proposal does, by the groups that get fresh tags.
+/// What becomes of tags and pairs by a proposal, by the groups that get fresh tags.
 fn drafted(
     alloc: Global,
     names: &Registry,
@@ -95,23 +80,24 @@ fn drafted(
     told: &[Told],
     proposal: &Proposal,
     groups: &[Fresh],
-) -> Result<Plan, Memory>
+    rebuild: &[Pair],
+) -> Result<Draft, Memory>
     requires { length groups.now ≤ length (free_tags pool.now) }
-    ensures { IfOk result (IsDraft names.now classes.now pool.now told.now proposal.now groups.now) }
+    ensures { IfOk result (IsDraft names.now classes.now pool.now told.now proposal.now groups.now rebuild.now) }
 {
+    let known = KnownClasses::of(alloc, classes, proposal);
     let given = fresh_tags(alloc, pool, groups.len())?;
-    let tags = tag_changes(alloc, classes, proposal, groups, &given)?;
+    let tags = tag_changes(alloc, &known, proposal, groups, &given)?;
     let left = emptied(alloc, classes, tags.items())?;
-    let drops = gone_pairs(alloc, names, classes, told, &left)?;
-    let adds = new_flows(alloc, names, groups, &given)?;
-    let blocks = blocks_of(alloc, adds.items())?;
+    let gone = gone_pairs(alloc, names, classes, told, &left)?;
+    let drops = dropped_pairs(alloc, gone.items(), rebuild)?;
     let fresh = with_tags(alloc, groups, &given, tags.items())?;
+    let built = built_pairs(alloc, names, &fresh, gone.items(), rebuild)?;
     let dead = untold(alloc, told, &left)?;
-    Ok(Plan {
+    Ok(Draft {
         tags,
         drops,
-        adds,
-        blocks,
+        built,
         fresh,
         dead,
     })
@@ -131,43 +117,81 @@ fn shortage(pool: &Pool, groups: &[Fresh]) -> Option<(u64, u32)>
     }
 }
 
-/// All rules that there would be, where they are more than the table has room for.
-fn too_many(switch: &Switch, drops: &[Pair], adds: &[Flow]) -> Option<usize>
-    ensures many { result ≡ too_many (rule_count switch.now.table) switch.now.capacity (length drops.now) (length adds.now) }
-    ensures few { length adds.now < 2 ^ 63 }
+/// A copy of whom a proposal names.
+fn names_of(alloc: Global, proposal: &Proposal) -> Result<Option<(Pid, Pids)>, Memory>
+    ensures { IfOk result (λ named. named ≡ proposal.now.named) }
 {
-    let rules = switch.rules() as u128 + adds.len() as u128;
-    if rules <= switch.capacity() as u128 + drops.len() as u128 {
-        return None;
+    match proposal.named() {
+        None => Ok(None),
+        Some((who, pids)) => {
+            let named = Items::from_vec(Vec::from_slice(alloc, pids)?);
+            Ok(Some((who, named)))
+        }
     }
-    let all = rules - drops.len() as u128;
-    Some(all.min(usize::MAX as u128) as usize)
 }
 
-/// What a proposal does. More fresh tags than are free are refused first, and then more rules than the table has room for.
-pub fn plan(
+/// The plan that is a draft with the rules of its pairs.
+fn joined(
+    alloc: Global,
+    proposal: &Proposal,
+    draft: Draft,
+    blocks: Vec<(Pair, Block)>,
+) -> Result<Plan, Memory>
+    ensures { IfOk result (IsDrafted draft proposal.now blocks.items) }
+{
+    let named = names_of(alloc, proposal)?;
+    let adds = flows_of(alloc, &blocks)?;
+    Ok(Plan {
+        tags: draft.tags,
+        drops: draft.drops,
+        adds,
+        blocks,
+        fresh: draft.fresh,
+        dead: draft.dead,
+        named,
+    })
+}
+
+/// What a line that builds rules does, by a proposal and the pairs that are built anew, which rise. More fresh tags than are
+/// free are refused first, and then more rules than the table has room for. Each pair that is built counts one step at most.
+pub fn plan<L: Ledger>(
     alloc: Global,
     names: &Registry,
     classes: &ClassMap,
     pool: &Pool,
     told: &[Told],
     switch: &Switch,
+    views: &Views<'_>,
     proposal: &Proposal,
+    rebuild: &[Pair],
+    steps: &mut Steps<L>,
 ) -> Result<Plan, FastFault>
-    ensures { (s : State) (r : Routing) → IsAsked s r names.now classes.now pool.now told.now switch.now proposal.now → MatchResult result (IsPlan s r) (IsFault s r) }
+    requires { IsAskedFor names.now classes.now pool.now told.now switch.now views.now proposal.now rebuild.now }
+    ensures plan { (s : State) (r : Routing) (is_rebuilt : AnyPair → Bool) → IsAsked s r is_rebuilt names.now classes.now pool.now told.now switch.now views.now proposal.now rebuild.now → MatchResult result (IsPlan s r is_rebuilt) (IsFault s r) }
+    ensures named { IfOk result (λ p. p.named ≡ proposal.now.named) }
+    ensures steps { (s : State) (r : Routing) (is_rebuilt : AnyPair → Bool) → IsAsked s r is_rebuilt names.now classes.now pool.now told.now switch.now views.now proposal.now rebuild.now → IsWithinSteps s r is_rebuilt steps.old steps.new }
 {
-    let Ok(groups) = groups(alloc, classes, proposal) else {
-        return Err(FastFault::Memory);
-    };
+    let known = KnownClasses::of(alloc, classes, proposal);
+    let groups = groups(alloc, &known, proposal)?;
     if let Some((need, free)) = shortage(pool, &groups) {
         return Err(FastFault::NoNextHop { need, free });
     }
-    let Ok(plan) = drafted(alloc, names, classes, pool, told, proposal, &groups) else {
-        return Err(FastFault::Memory);
-    };
-    if let Some(rules) = too_many(switch, plan.drops.items(), plan.adds.items()) {
-        let capacity = switch.capacity() as usize;
-        return Err(FastFault::TableFull { rules, capacity });
-    }
+    let draft = drafted(
+        alloc, names, classes, pool, told, proposal, &groups, rebuild,
+    )?;
+    let drops = draft.drops.items();
+    let built = draft.built.items();
+    let blocks = rules_for(
+        alloc,
+        names,
+        &known,
+        &draft.fresh,
+        views,
+        switch,
+        drops,
+        built,
+        steps,
+    )?;
+    let plan = joined(alloc, proposal, draft, blocks)?;
     Ok(plan)
 }

@@ -2,14 +2,14 @@
 
 ghost use Rattle.std.specs.Prelude.{◌≡◌, ◌≤◌, ◌++◌, [], length, take, IfOk, OnOk};
 ghost use Rattle.next_hop_pool.specs.Free.{free_tags};
-ghost use Rattle.fast_path.specs.Grouping.{change_before, changes_of, known, tag_after};
+ghost use Rattle.fast_path.specs.Grouping.{change_before, changes_of, tag_after};
 
-use crate::forward::Fresh;
-use crate::grouping::{group_place, is_kept, same_tags};
+use crate::fresh::Fresh;
+use crate::grouping::{group_place, same_tags};
+use crate::known::KnownClasses;
 use events::{TagChange, TagChanges};
 use net_types::{Items, Memory, Prefix, Sig, Tag};
 use next_hop_pool::Pool;
-use prefix_classes::ClassMap;
 use route_server::Proposal;
 use std::alloc::Global;
 
@@ -33,23 +33,25 @@ pub fn fresh_tags(alloc: Global, pool: &Pool, count: usize) -> Result<Vec<Tag>, 
 /// The tag of a prefix with this signature: the one that it has where the signature is kept for it, or else that of its
 /// class; none where nobody has a best route.
 fn tag_after(
-    classes: &ClassMap,
+    known: &KnownClasses<'_>,
     groups: &[Fresh],
     tags: &[Tag],
     prefix: Prefix,
     sig: &Sig,
-) -> Option<Tag>
-    ensures { result ≡ tag_after (known classes.now) groups.now tags.now prefix sig.now }
+) -> Result<Option<Tag>, Memory>
+    ensures { IfOk result (λ tag. tag ≡ tag_after known.now groups.now tags.now prefix sig.now) }
 {
     if sig.is_empty() {
-        return None;
+        return Ok(None);
     }
-    let before = classes.tag_of(prefix);
-    if is_kept(classes, prefix, sig) {
-        return before;
+    let before = known.tag_of(prefix);
+    if known.is_kept(prefix, sig)? {
+        return Ok(before);
     }
-    let place = group_place(groups, before, sig)?;
-    tags.get(place).copied()
+    match group_place(groups, before, sig) {
+        None => Ok(None),
+        Some(place) => Ok(tags.get(place).copied()),
+    }
 }
 
 /// A change more, where the tag is another.
@@ -70,17 +72,17 @@ fn note(
 /// The touched prefixes whose tag becomes another, in order.
 pub fn tag_changes(
     alloc: Global,
-    classes: &ClassMap,
+    known: &KnownClasses<'_>,
     proposal: &Proposal,
     groups: &[Fresh],
     tags: &[Tag],
 ) -> Result<TagChanges, Memory>
-    ensures { IfOk result (λ changes. changes ≡ changes_of (known classes.now) groups.now tags.now proposal.now.touched proposal.now.sigs) }
+    ensures { IfOk result (λ changes. changes ≡ changes_of known.now groups.now tags.now proposal.now.touched proposal.now.sigs) }
 {
     let mut changes = Items::new(alloc);
     for (at, prefix) in proposal.touched().iter().enumerate() {
-        let after = tag_after(classes, groups, tags, *prefix, proposal.sig(at));
-        note(&mut changes, *prefix, classes.tag_of(*prefix), after)?;
+        let after = tag_after(known, groups, tags, *prefix, proposal.sig(at))?;
+        note(&mut changes, *prefix, known.tag_of(*prefix), after)?;
     }
     Ok(changes)
 }

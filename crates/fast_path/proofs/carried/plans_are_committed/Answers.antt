@@ -1,20 +1,18 @@
-use Rattle.std.proofs.Common.{sym, ap, ◌∙◌}
-use Rattle.events.specs.After.{without_pairs}
-use Rattle.fast_path.proofs.CommittedPlans.{can_commit, kept_committed, line_committed, pool_committed, table_committed, tags_committed}
-use Rattle.fast_path.specs.Committing.{kept_with, kept_without, signed, tags_with, with_blocks}
+use Rattle.fast_path.proofs.CommittedPlans.{can_commit, leads_on}
+use Rattle.fast_path.proofs.CommittedReplies.{line_committed}
 use Rattle.fast_path.proofs.carried.plans_are_committed.Goals as goal
 
 pub returns-clause-allowed : goal.returns-clause-allowed
-returns-clause-allowed c = λ s r plan classes pool switch is parts room.
-    can_commit s r plan is.steady is.alike is.planned classes pool switch parts.tag parts.kept parts.pool parts.table room.prefixes room.tags room.pairs
+returns-clause-allowed c = λ s r is_rebuilt plan classes pool switch is parts room. can_commit s r is_rebuilt plan is.base is.alike is.planned classes pool switch parts room
 
 pub returns-clause-reached : goal.returns-clause-reached
-returns-clause-reached c = λ s r plan classes pool switch is parts. record {
-  tag = ap (λ m. tags_with m plan.tags) (sym parts.tag) ∙ tags_committed s r plan is.steady is.alike is.planned;
-  kept = ap (λ m. kept_without (kept_with m (signed plan.fresh.items)) plan.dead.items) (sym parts.kept) ∙ kept_committed s r plan is.steady is.alike is.planned;
-  pool = pool_committed s r plan is.steady is.alike is.planned pool parts.pool;
-  table = ap (λ m. with_blocks (without_pairs m plan.drops) plan.blocks.items) (sym parts.table) ∙ table_committed s r plan is.steady is.alike is.planned;
-}
+returns-clause-reached c = λ s r is_rebuilt plan classes pool switch is parts. leads_on s r is_rebuilt plan is.base is.alike is.planned classes pool switch parts
 
 pub returns-clause-replied : goal.returns-clause-replied
-returns-clause-replied c = λ s r plan e is rerouting. line_committed s r plan is.steady is.alike is.planned e rerouting
+returns-clause-replied c = λ s e s0 r is_rebuilt plan is edit.
+    line_committed s0 r is_rebuilt plan is.base is.alike is.planned (record {
+      dropped = c.gone_pairs_are_dropped.ensures;
+      added = c.new_pairs_are_added.ensures;
+      some = c.right_rules_are_some.ensures;
+      accepted = c.edits_are_accepted.ensures;
+    }) s e edit

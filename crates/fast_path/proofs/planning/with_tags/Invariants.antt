@@ -1,5 +1,5 @@
 use Rattle.std.proofs.Common.{◌≡◌, ◌++◌, drop, map}
-use Rattle.fast_path.specs.declared.forward.Fresh.{Fresh}
+use Rattle.fast_path.specs.declared.fresh.Fresh.{Fresh}
 use Rattle.fast_path.specs.Committing.{classes_of, kept_of}
 use Rattle.fast_path.proofs.planning.with_tags.Given as goal
 
