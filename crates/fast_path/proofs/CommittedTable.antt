@@ -118,7 +118,7 @@ module _ (s : State) (r : Routing) (is_rebuilt : Pair → Bool) (drops : List Pa
       by false false b after before built =
           ap is_some (other_rules pair (λ i. after i && is_new s is_rebuilt pair) ∙ kept_rules pair (λ i. before i && (not (is_live_pair s1 pair) || is_rebuilt pair))) ∙ has pair ∙ before ∙ sym after
 
-  old_rules : (pair : Pair) (rules : List Rule) → is_new s is_rebuilt pair ≡ false → get table pair ≡ Some rules → get s.table pair ≡ Some rules
+  pub old_rules : (pair : Pair) (rules : List Rule) → is_new s is_rebuilt pair ≡ false → get table pair ≡ Some rules → get s.table pair ≡ Some rules
   old_rules pair rules same at = by (goes s s1 is_rebuilt pair) refl
     where
       left_at : get left pair ≡ Some rules

@@ -27,7 +27,7 @@ pub known_tag : (named : Names) (c : Classes) → (known_by named c).tag ≡ c.t
 known_tag None c = refl
 known_tag (Some n) c = refl
 
-same_parts : (sig : List Part) → map (part_by None) sig ≡ sig
+pub same_parts : (sig : List Part) → map (part_by None) sig ≡ sig
 same_parts [] = refl
 same_parts (part ∷ sig) = ap (λ parts. part ∷ parts) (same_parts sig)
 
@@ -47,7 +47,7 @@ known_kept (Some (who, named)) c t = get_tabulated tag_cmp tags_total tag_tie (�
     listed : (u : Tag) → is_some (option_map (trimmed who named) (get c.kept u)) ≡ true → Member u (keys c.kept)
     listed u there = key_Member tag_cmp tags_total tag_tie c.kept u (some_before (get c.kept u) there)
 
-sender_stays : (named : Names) (part : Part) → (part_by named part).sender ≡ part.sender
+pub sender_stays : (named : Names) (part : Part) → (part_by named part).sender ≡ part.sender
 sender_stays None part = refl
 sender_stays (Some (who, named)) part = by (nat_eq part.sender.0 who.0)
   where

@@ -29,3 +29,6 @@ pub mod ClassSearch
 pub mod BlockLemmas
 pub mod TrimmedKept
 pub mod CommittedPlans
+pub mod CountedRules
+pub mod PlanFound
+pub mod PlanMade

@@ -157,11 +157,12 @@ fn blocks_for<L: Ledger>(
     let mut blocks = Vec::new(alloc);
     let mut built = 0;
     for &pair in pairs {
-        let block =
-            match block_beside(alloc, names, known, fresh, views, pair, built, room, steps) {
-                Ok(block) => block,
-                Err(fault) => return Err(fault),
-            };
+        let block = match block_beside(
+            alloc, names, known, fresh, views, pair, built, room, steps,
+        ) {
+            Ok(block) => block,
+            Err(fault) => return Err(fault),
+        };
         built += block.rules().len();
         put_last(&mut blocks, pair, block)?;
     }

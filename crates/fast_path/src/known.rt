@@ -1,9 +1,10 @@
 //! The tags of prefixes and the signatures of tags, as a line finds them.
 
-ghost use Rattle.std.specs.Prelude.{◌≡◌, List, IfOk, nat_eq, option_copied};
+ghost use Rattle.std.specs.Prelude.{◌≡◌, List, IfOk, map, nat_eq, option_copied};
 ghost use Rattle.std.specs.FinMap.{get};
 ghost use Rattle.std.specs.List.{list_any};
 ghost use Rattle.std.specs.Option.{option_and_then, option_map};
+ghost use Rattle.net_types.specs.Attributes.{same_signature};
 ghost use Rattle.net_types.specs.declared.address.Pid.{Pid as AnyPid};
 ghost use Rattle.net_types.specs.Signatures.{counts, trimmed, trimmed_part};
 ghost use Rattle.events.specs.Sound.{part_of};
@@ -86,6 +87,24 @@ fn sig_by(alloc: Global, who: Pid, pids: &[Pid], sig: &[Part]) -> Result<Vec<Par
     Ok(copy)
 }
 
+/// Whether a signature is another one without the offers that don't count any more, where there are new names.
+fn is_same(
+    alloc: Global,
+    named: Option<(Pid, &[Pid])>,
+    kept: &[Part],
+    sig: &[Part],
+) -> Result<bool, Memory>
+    ensures { IfOk result (λ same. same ≡ same_signature (map (part_by (option_map (λ e. let names : AnyPid × List AnyPid = (e.0, e.1.now) in names) named.entry)) kept.now) sig.now) }
+{
+    match named {
+        None => Ok(same_items(kept, sig)),
+        Some((who, pids)) => {
+            let trimmed = sig_by(alloc, who, pids, kept)?;
+            Ok(same_items(&trimmed, sig))
+        }
+    }
+}
+
 /// The part of a participant in a signature.
 pub fn part_in(sig: &[Part], who: Pid) -> Option<&Part>
     ensures { option_copied result ≡ part_of sig.now who }
@@ -123,13 +142,8 @@ impl<'a> KnownClasses<'a> {
         let Some(kept) = self.classes.sig_of(tag) else {
             return Ok(false);
         };
-        match self.named {
-            None => Ok(same_items(kept.items(), sig.items())),
-            Some((who, pids)) => {
-                let trimmed = sig_by(self.alloc, who, pids, kept.items())?;
-                Ok(same_items(&trimmed, sig.items()))
-            }
-        }
+        let same = is_same(self.alloc, self.named, kept.items(), sig.items())?;
+        Ok(same)
     }
 
     /// The part of a participant in the signature of a tag. Memory is the only refusal.

@@ -29,6 +29,7 @@ use next_hop_pool::Pool;
 use prefix_classes::ClassMap;
 use registry::Registry;
 use route_server::Proposal;
+use rule_laws::right_rules_are_few;
 use std::alloc::Global;
 use std::sync::ledger::Ledger;
 
@@ -171,6 +172,7 @@ pub fn plan<L: Ledger>(
     ensures named { IfOk result (λ p. p.named ≡ proposal.now.named) }
     ensures steps { (s : State) (r : Routing) (is_rebuilt : AnyPair → Bool) → IsAsked s r is_rebuilt names.now classes.now pool.now told.now switch.now views.now proposal.now rebuild.now → IsWithinSteps s r is_rebuilt steps.old steps.new }
 {
+    right_rules_are_few();
     let known = KnownClasses::of(alloc, classes, proposal);
     let groups = groups(alloc, &known, proposal)?;
     if let Some((need, free)) = shortage(pool, &groups) {
@@ -181,7 +183,7 @@ pub fn plan<L: Ledger>(
     )?;
     let drops = draft.drops.items();
     let built = draft.built.items();
-    let blocks = rules_for(
+    let blocks = match rules_for(
         alloc,
         names,
         &known,
@@ -191,7 +193,10 @@ pub fn plan<L: Ledger>(
         drops,
         built,
         steps,
-    )?;
+    ) {
+        Ok(blocks) => blocks,
+        Err(fault) => return Err(fault),
+    };
     let plan = joined(alloc, proposal, draft, blocks)?;
     Ok(plan)
 }
