@@ -62,7 +62,7 @@ fn part(alloc: Global, names: &Registry, text: &str) -> Result<Part, Fault> {
 }
 
 /// Offers, and then policies, each behind a semicolon. Policies that aren't given drop.
-pub fn asked(alloc: Global, names: &Registry, text: &str) -> Result<Asked, Fault> {
+pub fn read(alloc: Global, names: &Registry, text: &str) -> Result<Asked, Fault> {
     let mut policies = Policies::new(alloc, names)?;
     let mut words = text.split("; ");
     let part = part(alloc, names, words.next().unwrap_or(""))?;

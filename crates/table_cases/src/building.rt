@@ -1,8 +1,7 @@
 //! Rules that are built from offers and policies.
 
-ghost use Rattle.std.specs.Prelude.{◌≡◌, ◌<◌, ◌→◌, true, length, list_all, IsTrue, IfOk};
+ghost use Rattle.std.specs.Prelude.{◌≡◌, ◌<◌, true, length, list_all, nat_lt, IsTrue, IfOk};
 ghost use Rattle.net_types.specs.Answers.{is_offered};
-ghost use Rattle.net_types.specs.Sets.{Member};
 ghost use Rattle.net_types.specs.declared.route.Offer.{Offer as AnyOffer};
 ghost use Rattle.block_build.specs.Offers.{each_once};
 ghost use Rattle.block_build.specs.Views.{has_all};
@@ -40,7 +39,7 @@ fn each_once(offers: &[Offer]) -> bool
 
 /// Whether all who offer are among so many participants.
 fn are_declared(offers: &[Offer], count: usize) -> bool
-    ensures { result ≡ true → (offer : AnyOffer) → Member offer offers.now → offer.exporter.0 < count }
+    ensures { result ≡ list_all (λ (offer : AnyOffer). nat_lt offer.exporter.0 count) offers.now }
 {
     for offer in offers {
         if offer.exporter.0 as usize >= count {
@@ -77,6 +76,24 @@ fn both<L: Ledger>(
     Ok((block, tight))
 }
 
+/// The rules that are asked for at a port, where all who send or offer are declared.
+fn declared_blocks<L: Ledger>(
+    alloc: Global,
+    asked: &Asked,
+    port: PortNo,
+    room: usize,
+    steps: &mut Steps<L>,
+) -> Result<(Block, Block), Fault>
+    requires best { IsTrue (is_offered asked.now.part.offers asked.now.part.best) }
+    requires once { IsTrue (each_once asked.now.part.offers) }
+    requires sender { asked.now.part.sender.0 < length asked.now.policies.inbounds.items }
+    requires declared { list_all (λ (offer : AnyOffer). nat_lt offer.exporter.0 (length asked.now.policies.inbounds.items)) asked.now.part.offers ≡ true }
+{
+    let views = asked.policies.views(alloc)?;
+    let view = views.view(alloc, &asked.part)?;
+    both(alloc, &view, port, &asked.part, room, steps)
+}
+
 /// The rules that are asked for at a port, where there is room for them, and tight ones in their place.
 pub fn blocks<L: Ledger>(
     alloc: Global,
@@ -91,10 +108,9 @@ pub fn blocks<L: Ledger>(
     if !is_offered(offers, part.best) || !each_once(offers) {
         return Err(Fault::Offers);
     }
-    if part.sender.0 as usize >= count || !are_declared(offers, count) {
-        return Err(Fault::Offers);
+    if (part.sender.0 as usize) < count && are_declared(offers, count) {
+        declared_blocks(alloc, asked, port, room, steps)
+    } else {
+        Err(Fault::Offers)
     }
-    let views = asked.policies.views(alloc)?;
-    let view = views.view(alloc, part)?;
-    both(alloc, &view, port, part, room, steps)
 }

@@ -4,7 +4,7 @@ ghost use Rattle.std.specs.Prelude.{◌≡◌, ◌≤◌, ◌<◌, None, OnOk};
 ghost use Rattle.std.specs.FinMap as map;
 ghost use Rattle.block_build.specs.Installed.{count_at};
 
-use crate::asked::{asked, pair};
+use crate::asked::{pair, read};
 use crate::building::blocks;
 use crate::fault::Fault;
 use crate::flows::{block_flows, push_flows};
@@ -48,7 +48,7 @@ pub fn put<L: Ledger>(
     steps: &mut Steps<L>,
 ) -> Result<String, Fault> {
     let (pair, rest) = pair(text);
-    let asked = asked(alloc, names, rest)?;
+    let asked = read(alloc, names, rest)?;
     let (block, _) = blocks(alloc, &asked, pair.port, MANY, steps)?;
     switch.put_block(pair, block)?;
     Ok(shown(alloc, switch)?)
@@ -89,7 +89,7 @@ pub fn swap<L: Ledger>(
     steps: &mut Steps<L>,
 ) -> Result<String, Fault> {
     let (pair, rest) = pair(text);
-    let asked = asked(alloc, names, rest)?;
+    let asked = read(alloc, names, rest)?;
     let (_, tight) = blocks(alloc, &asked, pair.port, MANY, steps)?;
     switch.reserve(1)?;
     if swap_within(switch, pair, tight) {
@@ -160,7 +160,7 @@ pub fn build<L: Ledger>(
 ) -> Result<String, Fault> {
     let (room, rest) = text.split_once(' ').unwrap_or((text, ""));
     let (pair, rest) = pair(rest);
-    let asked = asked(alloc, names, rest)?;
+    let asked = read(alloc, names, rest)?;
     let room = room.parse().unwrap_or(0);
     let (block, _) = blocks(alloc, &asked, pair.port, room, steps)?;
     block_flows(alloc, pair, &block)
@@ -174,7 +174,7 @@ pub fn tight<L: Ledger>(
     steps: &mut Steps<L>,
 ) -> Result<String, Fault> {
     let (pair, rest) = pair(text);
-    let asked = asked(alloc, names, rest)?;
+    let asked = read(alloc, names, rest)?;
     let (_, tight) = blocks(alloc, &asked, pair.port, MANY, steps)?;
     block_flows(alloc, pair, &tight)
 }
