@@ -1,15 +1,26 @@
 //! A route that is new: its plan, the room that is made for it, what is refused, and what is discarded.
 
+ghost use Rattle.std.specs.Prelude.{◌≡◌, ◌≤◌, ◌∷◌, [], false, replicate, IfOk};
+ghost use Rattle.std.specs.FinMap as map;
+ghost use Rattle.classifier.specs.Classifiers.{lines_of};
+ghost use Rattle.exchange_tests.specs.Small.{GiveNothing, IsUnserved, Proposes, three};
+
 mod exchange;
 
+use advert_queue::Told;
+use classifier::Classifier;
 use events::TagChange;
-use exchange::{proposal, ten, three, untold};
+use exchange::{dropping, lent, proposal, server_of_three, ten, three, untold};
 use fast_path::{FastFault, Plan, plan, reserve};
 use match_switch::Switch;
-use net_types::{Action, Assign, Cube, Ip, Memory, Pair, PortNo, Tag};
+use net_types::{Action, Assign, Cube, Ip, Memory, Pair, PortNo, Steps, Tag};
 use next_hop_pool::Pool;
 use prefix_classes::ClassMap;
+use registry::Registry;
+use route_server::{Proposal, RouteServer};
 use std::alloc::Global;
+use std::marker::Brand;
+use std::sync::ledger::{Blank, Ledger};
 use std::test::Fail;
 
 /// The address before that of the tag 1.
@@ -25,21 +36,88 @@ fn pair(port: u16) -> Pair {
     }
 }
 
-/// The plan for the route of B with these communities, where no prefix has a tag.
-fn planned(
-    alloc: Global,
-    pool: &Pool,
-    switch: &Switch,
-    communities: &[u32],
-) -> Result<Result<Plan, FastFault>, Fail> {
-    let names = three(alloc)?;
-    let (classes, told) = (ClassMap::new(alloc), untold(alloc)?);
-    let proposal = proposal(alloc, &names, communities)?;
-    Ok(plan(alloc, &names, &classes, pool, &told, switch, &proposal))
+/// A pool of so many tags, all free.
+fn pool_of(alloc: Global, size: u32) -> Result<Pool, Memory>
+    requires { size ≤ 65536 }
+    ensures { IfOk result (λ pool. pool.taken ≡ replicate size false) }
+{
+    if size == 0 {
+        return Ok(Pool::none(alloc));
+    }
+    let pool = Pool::new(alloc, BASE, size)?;
+    Ok(pool)
 }
 
-fn fault(alloc: Global, pool: &Pool, capacity: u32) -> Result<Option<FastFault>, Fail> {
-    match planned(alloc, pool, &Switch::new(alloc, capacity), &[])? {
+/// The plan for a proposal where no prefix has a tag and all policies drop.
+fn plan_of<L: Ledger>(
+    alloc: Global,
+    names: &Registry,
+    server: &RouteServer,
+    told: &[Told],
+    size: u32,
+    capacity: usize,
+    policy: &Classifier,
+    proposal: &Proposal,
+    steps: &mut Steps<L>,
+) -> Result<Result<Plan, FastFault>, Memory>
+    requires names { names.now ≡ three }
+    requires server { IsUnserved server.now }
+    requires told { told.now ≡ map.empty ∷ map.empty ∷ map.empty ∷ [] }
+    requires few { size ≤ 65536 }
+    requires room { capacity ≤ 1000000 }
+    requires policy { GiveNothing (lines_of policy.now) }
+    requires proposal { Proposes server.now proposal.now }
+{
+    let classes = ClassMap::new(alloc);
+    let switch = Switch::new(alloc, capacity);
+    let pool = pool_of(alloc, size)?;
+    let views = lent(alloc, policy)?;
+    Ok(plan(
+        alloc,
+        names,
+        &classes,
+        &pool,
+        told,
+        &switch,
+        &views,
+        proposal,
+        &[],
+        steps,
+    ))
+}
+
+/// The plan for the route of B with these communities, where there are so many tags and there is room for so many rules.
+fn planned<L: Ledger>(
+    rt: &HostRuntime,
+    blank: Blank,
+    size: u32,
+    capacity: usize,
+    communities: &[u32],
+) -> Result<Result<Plan, FastFault>, Fail>
+    requires name { blank.name ≡ L.name }
+    requires parts { blank.parts ≡ L.parts }
+    requires whole { blank.parts ≡ 1 }
+    requires few { size ≤ 65536 }
+    requires room { capacity ≤ 1000000 }
+{
+    let alloc = rt.alloc();
+    let mut steps: Steps<L> = Steps::new(rt, blank);
+    let names = three(alloc)?;
+    let server = server_of_three(alloc)?;
+    let proposal = proposal(alloc, &names, &server, communities)?;
+    let policy = dropping(alloc)?;
+    let told = untold(alloc)?;
+    let made = plan_of(
+        alloc, &names, &server, &told, size, capacity, &policy, &proposal, &mut steps,
+    )?;
+    Ok(made)
+}
+
+fn fault(rt: &HostRuntime, size: u32, capacity: usize) -> Result<Option<FastFault>, Fail>
+    requires few { size ≤ 65536 }
+    requires room { capacity ≤ 1000000 }
+{
+    match planned::<Brand>(rt, Blank::new(1), size, capacity, &[])? {
         Ok(_) => Ok(None),
         Err(fault) => Ok(Some(fault)),
     }
@@ -47,21 +125,19 @@ fn fault(alloc: Global, pool: &Pool, capacity: u32) -> Result<Option<FastFault>,
 
 #[test]
 fn tags_are_wanted_first(rt: HostRuntime) -> Result<(), Fail> {
-    let none = Pool::none(rt.alloc());
     let short = FastFault::NoNextHop { need: 1, free: 0 };
-    assert!(rt; fault(rt.alloc(), &none, 1)? == Some(short));
+    assert!(rt; fault(&rt, 0, 1)? == Some(short));
     Ok(())
 }
 
 #[test]
 fn rules_are_wanted_next(rt: HostRuntime) -> Result<(), Fail> {
-    let pool = Pool::new(rt.alloc(), BASE, 1)?;
     let full = FastFault::TableFull {
         rules: 2,
         capacity: 1,
     };
-    assert!(rt; fault(rt.alloc(), &pool, 1)? == Some(full));
-    assert!(rt; fault(rt.alloc(), &pool, 2)? == None);
+    assert!(rt; fault(&rt, 1, 1)? == Some(full));
+    assert!(rt; fault(&rt, 1, 2)? == None);
     Ok(())
 }
 
@@ -111,13 +187,12 @@ fn discards_everything(plan: &Plan) -> bool {
 /// A and C send by B. Room is made, and nothing else is done.
 #[test]
 fn a_new_route_is_planned(rt: HostRuntime) -> Result<(), Fail> {
-    let pool = Pool::new(rt.alloc(), BASE, 2)?;
-    let mut switch = Switch::new(rt.alloc(), 2);
-    let Ok(plan) = planned(rt.alloc(), &pool, &switch, &[])? else {
+    let Ok(plan) = planned::<Brand>(&rt, Blank::new(1), 2, 2, &[])? else {
         return Err(Fail::new("there is no plan"));
     };
     assert!(rt; tags_ten(&plan)?);
     assert!(rt; is_for_both(&plan) && leaves_by_port_3(&plan));
+    let mut switch = Switch::new(rt.alloc(), 2);
     let mut classes = ClassMap::new(rt.alloc());
     reserve(&plan, &mut classes, &mut switch)?;
     assert!(rt; classes.tagged() == 0 && switch.rules() == 0);
@@ -127,9 +202,7 @@ fn a_new_route_is_planned(rt: HostRuntime) -> Result<(), Fail> {
 /// What A and C send to B is discarded.
 #[test]
 fn a_holed_route_is_planned(rt: HostRuntime) -> Result<(), Fail> {
-    let pool = Pool::new(rt.alloc(), BASE, 1)?;
-    let switch = Switch::new(rt.alloc(), 2);
-    let Ok(plan) = planned(rt.alloc(), &pool, &switch, &[BLACKHOLE])? else {
+    let Ok(plan) = planned::<Brand>(&rt, Blank::new(1), 1, 2, &[BLACKHOLE])? else {
         return Err(Fail::new("there is no plan"));
     };
     assert!(rt; is_for_both(&plan) && discards_everything(&plan));

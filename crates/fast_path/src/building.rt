@@ -191,14 +191,14 @@ fn rules_left(switch: &Switch, drops: &[Pair]) -> usize
 }
 
 /// Why rules aren't built beside those that are left.
-fn refused(fault: BuildFault, left: usize, capacity: u32) -> FastFault
+fn refused(fault: BuildFault, left: usize, capacity: usize) -> FastFault
     ensures { result ≡ refused fault left capacity }
 {
     match fault {
         BuildFault::Memory => FastFault::Memory,
         BuildFault::Wide { rules } => FastFault::TableFull {
             rules: left.saturating_add(rules),
-            capacity: capacity as usize,
+            capacity,
         },
     }
 }
@@ -217,13 +217,14 @@ pub fn rules_for<L: Ledger>(
 ) -> Result<Vec<(Pair, Block)>, FastFault>
     requires parts { (pair : AnyPair) → Member pair pairs.now → HasPart (site_of names.now known.now fresh.now views.now) pair }
     requires rising { AreInOrder fresh.now }
+    requires small { switch.now.capacity < 2 ^ 32 }
     ensures steps { steps.new ≤ steps.old + length pairs.now }
     ensures built { IfOk result (λ blocks. AreBlocksFor (site_of names.now known.now fresh.now views.now) pairs.now (switch.now.capacity - rules_left switch.now.table drops.now) blocks.items) }
     ensures full { IfErr result (IsRefusedFor (site_of names.now known.now fresh.now views.now) pairs.now (rules_left switch.now.table drops.now) switch.now.capacity) }
 {
     let left = rules_left(switch, drops);
     let capacity = switch.capacity();
-    let room = (capacity as usize).saturating_sub(left);
+    let room = capacity.saturating_sub(left);
     match blocks_for(alloc, names, known, fresh, views, pairs, room, steps) {
         Ok(blocks) => Ok(blocks),
         Err(fault) => Err(refused(fault, left, capacity)),

@@ -26,9 +26,10 @@ impl Switch {
         ensures capacity { self.new.capacity ≡ self.old.capacity }
     {
         let others = self.rules() - self.count_of(pair);
-        let rules = others.saturating_add(block.rules().len());
-        let capacity = self.capacity() as usize;
-        if rules > capacity {
+        let added = block.rules().len();
+        let capacity = self.capacity();
+        if others > capacity || added > capacity - others {
+            let rules = others.saturating_add(added);
             return Err(PutFault::TableFull { rules, capacity });
         }
         self.reserve(1)?;
@@ -45,19 +46,9 @@ impl Switch {
         ensures room { self.old.room ≤ self.new.room + (if is_some (map.get self.old.table pair) then 0 else 1) }
         ensures count { rule_count self.new.table + count_at self.old.table pair ≡ rule_count self.old.table + length block }
     {
-        // It is of 32 bits, so that the rules can be counted.
+        // It is a `usize`, so that the rules can be counted.
         let _capacity = self.capacity;
         self.set(pair, block.into_rules());
-    }
-
-    /// The rules of a pair go. There is room for no fewer new pairs than before.
-    pub fn drop_block(&mut self, pair: Pair)
-        ensures table { self.new.table ≡ map.remove self.old.table pair }
-        ensures capacity { self.new.capacity ≡ self.old.capacity }
-        ensures room { self.old.room ≤ self.new.room }
-        ensures count { rule_count self.new.table + count_at self.old.table pair ≡ rule_count self.old.table }
-    {
-        self.remove(pair);
     }
 
     /// The least pair, or the least one that is greater than `after`. It takes no memory.
@@ -108,7 +99,7 @@ impl Blocks for Switch {
     }
 
     fn capacity(&self) -> usize {
-        Switch::capacity(self) as usize
+        Switch::capacity(self)
     }
 
     fn rules_of(&self, pair: Pair) -> Option<&[Rule]> {

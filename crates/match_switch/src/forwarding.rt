@@ -33,31 +33,18 @@ impl Switch {
     pub fn forward(
         &self,
         alloc: Global,
-        ports: &[PortInfo],
-        port: PortNo,
-        frame: &[u8],
-    ) -> Result<Frames, Memory>
-        ensures { IfOk result (λ frames. frames ≡ out ports.now frame.now (first_match self.now.table port frame.now)) }
-    {
-        let mut frames = Vec::new(alloc);
-        if let Some(fields) = headers(port, frame) {
-            let actions = self.decide_on(port, frame, &fields);
-            push_frames(alloc, ports, frame, &fields, actions, &mut frames)?;
-        }
-        Ok(Items::from_vec(ascending(frames)))
-    }
-
-    /// The frames that leave where a frame comes in at a port, as `forward` says, with the ports that are declared.
-    pub fn forward_by(
-        &self,
-        alloc: Global,
         names: &Registry,
         port: PortNo,
         frame: &[u8],
     ) -> Result<Frames, Memory>
         ensures { IfOk result (λ frames. frames ≡ out names.now.ports frame.now (first_match self.now.table port frame.now)) }
     {
-        self.forward(alloc, names.ports(), port, frame)
+        let mut frames = Vec::new(alloc);
+        if let Some(fields) = headers(port, frame) {
+            let actions = self.decide_on(port, frame, &fields);
+            push_frames(alloc, names.ports(), frame, &fields, actions, &mut frames)?;
+        }
+        Ok(Items::from_vec(ascending(frames)))
     }
 
     /// What is done with a frame that has these headers.

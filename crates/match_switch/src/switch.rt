@@ -20,7 +20,7 @@ pub struct Switch {
     pub(crate) entries: Vec<(Pair, Items<Rule>)>,
     /// How many rules there are.
     rules: usize,
-    pub(crate) capacity: u32,
+    pub(crate) capacity: usize,
 }
 
 impl Model for Switch {
@@ -41,8 +41,8 @@ impl Model for Switch {
 }
 
 impl Switch {
-    /// A table without rules.
-    pub fn new(alloc: Global, capacity: u32) -> Switch
+    /// A table without rules, with room for so many. It takes no memory.
+    pub fn new(alloc: Global, capacity: usize) -> Switch
         ensures table { result.table ≡ map.empty }
         ensures capacity { result.capacity ≡ capacity }
     {
@@ -53,15 +53,8 @@ impl Switch {
         }
     }
 
-    /// There is room for another number of rules; those in the table stay.
-    pub fn set_capacity(&mut self, capacity: u32)
-        ensures { self.new ≡ record self.old { capacity = capacity } }
-    {
-        self.capacity = capacity;
-    }
-
     /// For how many rules there is room.
-    pub fn capacity(&self) -> u32
+    pub fn capacity(&self) -> usize
         ensures { result ≡ self.now.capacity }
     {
         self.capacity
@@ -96,18 +89,6 @@ impl Switch {
         Ok(())
     }
 
-    /// The rules of a pair become these. A new pair needs room, and uses one place of it.
-    pub fn put(&mut self, pair: Pair, rules: Items<Rule>)
-        requires room { map.get self.old.table pair ≡ None → 0 < self.old.room }
-        requires few { rule_count self.old.table + length rules < 2 ^ 64 }
-        ensures table { self.new.table ≡ map.insert self.old.table pair rules }
-        ensures capacity { self.new.capacity ≡ self.old.capacity }
-        ensures room { self.old.room ≤ self.new.room + (if is_some (map.get self.old.table pair) then 0 else 1) }
-        ensures count { rule_count self.new.table + length (unwrap_or (map.get self.old.table pair) []) ≡ rule_count self.old.table + length rules }
-    {
-        self.set(pair, rules);
-    }
-
     /// The rules of a pair become these, and there are not too many to count.
     pub(crate) fn set(&mut self, pair: Pair, rules: Items<Rule>)
         requires room { map.get self.old.table pair ≡ None → 0 < self.old.room }
@@ -134,11 +115,11 @@ impl Switch {
     }
 
     /// The rules of a pair go. There is room for no fewer new pairs than before.
-    pub fn remove(&mut self, pair: Pair)
+    pub fn drop_block(&mut self, pair: Pair)
         ensures table { self.new.table ≡ map.remove self.old.table pair }
         ensures capacity { self.new.capacity ≡ self.old.capacity }
         ensures room { self.old.room ≤ self.new.room }
-        ensures count { rule_count self.new.table + length (unwrap_or (map.get self.old.table pair) []) ≡ rule_count self.old.table }
+        ensures count { rule_count self.new.table + count_at self.old.table pair ≡ rule_count self.old.table }
     {
         let before = take_out(&mut self.entries, &pair);
         self.rules -= count(before);

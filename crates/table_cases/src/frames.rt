@@ -1,23 +1,9 @@
 //! What the table makes of frames.
 
 use match_switch::Switch;
-use net_types::{Ip, Mac, Memory, Pid, PortInfo, PortNo};
+use net_types::{Memory, PortNo};
+use registry::Registry;
 use std::alloc::Global;
-
-const PORTS: [PortInfo; 2] = [
-    PortInfo {
-        owner: Pid(0),
-        number: PortNo(2),
-        ip: Ip(1),
-        mac: Mac([2, 0, 0, 0, 0, 2]),
-    },
-    PortInfo {
-        owner: Pid(1),
-        number: PortNo(3),
-        ip: Ip(2),
-        mac: Mac([2, 0, 0, 0, 0, 3]),
-    },
-];
 
 /// The port, and the octets of the digits behind it; none where they aren't digits.
 fn frame(alloc: Global, text: &str) -> (PortNo, Option<Vec<u8>>) {
@@ -45,11 +31,12 @@ fn push_decided(
 fn push_forwarded(
     alloc: Global,
     text: &mut String,
+    names: &Registry,
     switch: &Switch,
     port: PortNo,
     frame: &[u8],
 ) -> Result<(), Memory> {
-    for frame in switch.forward(alloc, &PORTS, port, frame)?.items() {
+    for frame in switch.forward(alloc, names, port, frame)?.items() {
         let port = frame.port.0;
         write!(text, "\n  out {port} ")?;
         for octet in frame.bytes.items() {
@@ -70,10 +57,15 @@ pub fn decided(alloc: Global, switch: &Switch, text: &str) -> Result<String, Mem
 }
 
 /// The ports of the actions, and the frames that leave.
-pub fn forwarded(alloc: Global, switch: &Switch, text: &str) -> Result<String, Memory> {
+pub fn forwarded(
+    alloc: Global,
+    names: &Registry,
+    switch: &Switch,
+    text: &str,
+) -> Result<String, Memory> {
     let mut told = decided(alloc, switch, text)?;
     if let (port, Some(octets)) = frame(alloc, text) {
-        push_forwarded(alloc, &mut told, switch, port, octets.as_slice())?;
+        push_forwarded(alloc, &mut told, names, switch, port, octets.as_slice())?;
     }
     Ok(told)
 }

@@ -1,5 +1,5 @@
 -- The plan of the draft, or why there is none.
-use Rattle.std.proofs.Common.{◌≤◌, [], length, sym, ap, subst, ◌∙◌}
+use Rattle.std.proofs.Common.{◌≤◌, [], length, sym, ap, subst, ◌∙◌, arith}
 use Rattle.next_hop_pool.specs.Free.{free_tags}
 use Rattle.fast_path.specs.Drafts.{IsDraft}
 use Rattle.fast_path.specs.Grouping.{more_groups, moved_groups}
@@ -27,6 +27,13 @@ rules_for-requires-clause-parts g c =
     } in
     ready_parts c.args.names.now c.args.classes.now c.args.pool.now c.args.told.now c.args.switch.now c.args.views.now p c.args.rebuild.now fs c.in_ok-draft.draft ready c.of-known.result c.deref-3.result.now c.items-drops.result.now c.items-built.result.now
     c.of-known.ensures c.deref-3.ensures.value c.items-drops.ensures c.items-built.ensures c.requires
+
+-- a table is no larger than a line may say
+pub rules_for-requires-clause-small : goal.rules_for-requires-clause-small
+rules_for-requires-clause-small g c =
+    let most = c.requires.3.base.sized.room in
+    let holds = c.requires.3.capacity in
+    omega (arith, most, holds)
 
 pub rules_for-requires-clause-rising : goal.rules_for-requires-clause-rising
 rules_for-requires-clause-rising g c =

@@ -2,7 +2,7 @@
 use Rattle.std.proofs.Common.{ap, sym, ◌∙◌}
 use Rattle.std.specs.Prelude.{is_some}
 use Rattle.match_switch.proofs.TableLemmas.{get_is, table_without, few_before, kept_without, count_without, room_without}
-use Rattle.match_switch.proofs.switch.Switch.remove.Goals as goal
+use Rattle.match_switch.proofs.switch.Switch.drop_block.Goals as goal
 
 pub overflow_sub-self : goal.overflow_sub-self
 overflow_sub-self c =
