@@ -53,6 +53,13 @@ impl Switch {
         }
     }
 
+    /// There is room for another number of rules; those in the table stay.
+    pub fn set_capacity(&mut self, capacity: usize)
+        ensures { self.new ≡ record self.old { capacity = capacity } }
+    {
+        self.capacity = capacity;
+    }
+
     /// For how many rules there is room.
     pub fn capacity(&self) -> usize
         ensures { result ≡ self.now.capacity }

@@ -29,7 +29,7 @@ impl Sdx {
         }
         let pool = Pool::new(self.alloc, base, size)?;
         self.pool = pool;
-        self.switch.set_capacity(capacity);
+        self.switch.set_capacity(capacity as usize);
         self.phase = Phase::Declaring;
         self.base = base;
         self.size = size;

@@ -55,10 +55,10 @@ impl Sdx {
         let Some(source) = self.registry.port(port).copied() else {
             return Ok(refused(self.alloc, Refusal::Unknown));
         };
-        let ports = self.registry.ports();
+        let names = &self.registry;
         let frames = self
             .switch
-            .forward(self.alloc, ports, source.number, bytes.items())?;
+            .forward(self.alloc, names, source.number, bytes.items())?;
         self.phase = Phase::Running;
         let mut reply = bare_reply(self.alloc, Head::Fine);
         reply.frames = frames;
@@ -76,11 +76,11 @@ impl Sdx {
             return Ok(bare_reply(self.alloc, Head::Unresolved(next_hop)));
         }
         readdress(frame.as_mut_slice(), vmac(tag));
-        let ports = self.registry.ports();
+        let names = &self.registry;
         let mut reply = bare_reply(self.alloc, Head::Fine);
         reply.frames = self
             .switch
-            .forward(self.alloc, ports, source.number, frame.as_slice())?;
+            .forward(self.alloc, names, source.number, frame.as_slice())?;
         Ok(reply)
     }
 

@@ -18,4 +18,4 @@ returns c =
     let plain = c.bare_reply-reply.ensures in
     step_from _ c.args.self.now (Frame c.args.port c.args.bytes.now) _ _ c.self.view_is
     (frame_step c.self.invariant (sym c.is_declared.ensures ∙ c.if-not-is_declared.false) c.args.port c.args.bytes.now c.in-Some.source c.requires (sym c.port.ensures ∙ sym c.copied.ensures ∙ c.in-Some.is)
-    _ (λ i. record (plain i) { frames = (rw (c.ports-ports.ensures, c.items.ensures) at c.in_ok-frames.ensures) i }))
+    _ (λ i. record (plain i) { frames = (rw (c.items.ensures) at c.in_ok-frames.ensures) i }))

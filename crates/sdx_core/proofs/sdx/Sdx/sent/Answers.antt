@@ -12,4 +12,4 @@ returns c =
     sent_at s c.args.self.now c.self.view_is c.args.source.now c.args.tag c.args.frame.items _ c.bare_reply-reply.result c.in_ok-reply.field-0 c.bare_reply-reply.ensures
     (sym c.has_resolved.ensures ∙ c.if-not-has_resolved.false)
     (with_items_is c.args.frame c.readdress.new.frame (c.readdress.auto.frame ∙ c.as_mut_slice.ensures.len) ∙ c.readdress.ensures ∙ (λ i. c.vmac.ensures i ++ drop 6 (c.as_mut_slice.ensures.value i)))
-    (rw (c.ports-ports.ensures, c.as_slice.ensures.value) at c.in_ok-reply.ensures)
+    (rw (c.as_slice.ensures.value) at c.in_ok-reply.ensures)
