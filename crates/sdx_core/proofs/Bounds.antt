@@ -1,18 +1,17 @@
 -- How many pairs a line builds at most.
-use Rattle.std.proofs.Common.{◌≡◌, ℕ, ◌+◌, ◌*◌, ◌≤◌, Bool, true, false, cond, ◌&&◌, ◌||◌, not, List, [], ◌∷◌, ◌++◌, length, filter, map, min, sym, ap, subst, ◌∙◌, refl, inl, inr, ⊎_elim, arith}
+use Rattle.std.proofs.Common.{◌≡◌, ℕ, ◌+◌, ◌*◌, ◌≤◌, Bool, true, false, cond, ◌&&◌, ◌||◌, not, List, [], ◌∷◌, length, filter, map, sym, ap, subst, ◌∙◌, refl, inl, inr, ⊎_elim, arith}
 use Rattle.std.specs.Prelude.{◌⊎◌, nat_eq}
 use Rattle.std.proofs.lemmas.Bool.{and_parts, or_cases}
 use Rattle.std.proofs.lemmas.List.{length-append, length-map, length-take}
-use Rattle.events.specs.Fits.{none_rebuilt}
 use Rattle.events.specs.State.{State}
 use Rattle.events.specs.Tags.{free_tags, groups, is_live_pair, live_pairs, pairs, retagged}
-use Rattle.exchange_laws.specs.Listed.{comes, is_pair_before}
+use Rattle.exchange_laws.specs.Listed.{comes}
 use Rattle.exchange_laws.specs.Rules.{IsChange}
 use Rattle.exchange_laws.specs.Steady.{PortsDiffer}
 use Rattle.fast_path.proofs.NewPairs.{kept_place, new_pairs_all}
-use Rattle.fast_path.specs.Committing.{Kept, class_of, classes_of}
+use Rattle.fast_path.specs.Committing.{class_of, classes_of}
 use Rattle.fast_path.specs.LiveOnly.{group_signatures, group_tags, registered}
-use Rattle.fast_path.specs.Pairs.{class_pairs, fresh_pairs, pair_at, sender_pairs}
+use Rattle.fast_path.specs.Pairs.{class_pairs, pair_at, sender_pairs}
 use Rattle.fast_path.specs.Planned.{group_kept}
 use Rattle.fast_path.specs.Plans.{build_count}
 use Rattle.fast_path.specs.declared.planned.Class.{Class}
@@ -28,10 +27,9 @@ use Rattle.net_types.specs.Keys.{pair_cmp}
 use Rattle.net_types.specs.Sets.{HasNoRepeats, IsRising, Member, union_over}
 use Rattle.net_types.specs.declared.address.PortNo.{PortNo}
 use Rattle.net_types.specs.declared.address.Tag.{Tag}
-use Rattle.net_types.specs.declared.route.Part.{Part}
 use Rattle.net_types.specs.declared.route.PortInfo.{PortInfo}
 use Rattle.net_types.specs.declared.rule.Pair.{Pair}
-use Rattle.registry.specs.Registered.{Registered, ports_of}
+use Rattle.registry.specs.Registered.{ports_of}
 
 -- what passes one test or another is no more than what passes the one and what passes the other
 either_few : {A : Type 0} (a b c : A → Bool) (xs : List A) → ((x : A) → a x ≡ true → (b x ≡ true) ⊎ (c x ≡ true)) → length (filter a xs) ≤ length (filter b xs) + length (filter c xs)
@@ -111,6 +109,7 @@ module _ (s : State) (r : Routing) (change : IsChange s r) (own : PortsDiffer s.
           unset : (b : Bool) → not b ≡ true → b ≡ false
           unset true e = cc
           unset false e = refl
+
       few_by : (n a b c d : ℕ) → n ≤ a * c → a ≡ b → c ≤ d → n ≤ b * d
       few_by n a b c d few is less = grind (arith, few, is, less)
 

@@ -17,7 +17,7 @@ use Rattle.net_types.specs.Answers.{Policies}
 use Rattle.net_types.specs.Cubes.{everything}
 use Rattle.net_types.specs.Exports.{pid_of}
 use Rattle.net_types.specs.Meets.{IsMeet}
-use Rattle.net_types.specs.Policies.{Drop, Packet, Policy, atoms, den}
+use Rattle.net_types.specs.Policies.{Drop, Policy, atoms, den}
 use Rattle.net_types.specs.PolicyReading.{policy_of_text}
 use Rattle.net_types.specs.Sets.{Member, SameMembers}
 use Rattle.net_types.specs.declared.address.Pid.{Pid}
@@ -25,7 +25,7 @@ use Rattle.net_types.specs.declared.cube.Cube.{Cube}
 use Rattle.net_types.specs.declared.headers.Headers.{Headers}
 use Rattle.net_types.specs.declared.headers.Loc.{Loc}
 use Rattle.net_types.specs.declared.headers.Loc.TheVariants.{Stay as Stays}
-use Rattle.sdx_core.specs.Programs.{AreCompiled, AreRulesOf, IsChangeCompiled, IsChangeOf, IsCompiled, all_lent, changed, inbound_after, inbound_texts, lent_of, outbound_after, outbound_texts}
+use Rattle.sdx_core.specs.Programs.{AreCompiled, AreRulesOf, IsChangeCompiled, IsCompiled, all_lent, changed, inbound_after, inbound_texts, lent_of, outbound_after, outbound_texts}
 use Rattle.sdx_core.specs.declared.programs.PolicyChange.{PolicyChange}
 use Rattle.sdx_core.specs.declared.programs.PolicyChange.TheVariants.{Stay, Outbound, Inbound}
 use Rattle.sdx_core.specs.declared.programs.Program.{Program}
@@ -49,6 +49,7 @@ drops text rules is none alone names = record {
   where
     dropped : (p : Policy) → policy_of_text text ≡ Ok p → p ≡ Drop
     dropped p read = one_policy (policy_of_text text) p Drop read (ap policy_of_text is ∙ drop_is_read)
+
     only : (c : Cube) → Member c (everything ∷ []) → c ≡ everything
     only c (inl e) = e
     only c (inr m) = absurd (elim m [ ])
@@ -153,9 +154,10 @@ texts_same f text (y ∷ ys) (z ∷ zs) e x (inr m) = let rest : map f ys ≡ ma
 
 -- where all policies drop, they are compiled whatever the names are
 pub dropping_compiled : (s : State) (all : List Programs) → s.outbound ≡ outbound_texts all → s.inbound ≡ inbound_texts all → AllDrop s → (names names' : List ℕ → Option Pid) → AreCompiled names all → AreCompiled names' all
-dropping_compiled s all outbound inbound drop names names' are = λ b m. let each = are b m in
-    (drop_compiled names names' b.outbound (texts_same (λ (x : Programs). x.outbound.text) (codes "drop") all s.routing.participants (sym outbound ∙ drop.outbound) b m) each.0,
-     drop_compiled names names' b.inbound (texts_same (λ (x : Programs). x.inbound.text) (codes "drop") all s.routing.participants (sym inbound ∙ drop.inbound) b m) each.1)
+dropping_compiled s all outbound inbound drop names names' are = λ b m. let each = are b m in (
+  drop_compiled names names' b.outbound (texts_same (λ (x : Programs). x.outbound.text) (codes "drop") all s.routing.participants (sym outbound ∙ drop.outbound) b m) each.0,
+  drop_compiled names names' b.inbound (texts_same (λ (x : Programs). x.inbound.text) (codes "drop") all s.routing.participants (sym inbound ∙ drop.inbound) b m) each.1,
+)
 
 -- ---- what is lent
 
@@ -182,13 +184,13 @@ lent_are_of s all ps outbound inbound are policies =
     let received : AreRead (inbound_texts all) ps.inbound = subst (λ texts. AreRead texts ps.inbound) inbound policies.inbound in
     record {
       sends = λ who below h. at_place (λ rules p. SameMembers (lines.meaning rules h Stays) (den ps.named p h Stays)) (λ (b : Programs). b.outbound.text) (λ (l : Lent). l.outbound) all ps.outbound who.0 below sent
-      (λ b m p read. (compiled b m).0.means p read h);
+          (λ b m p read. (compiled b m).0.means p read h);
       sender_cubes = λ who below c m. at_place (λ rules p. Member c (lines.cubes_of rules) → IsMeet (atoms p) c) (λ (b : Programs). b.outbound.text) (λ (l : Lent). l.outbound) all ps.outbound who.0 below sent
-      (λ b n p read. (compiled b n).0.cubes p read c) m;
+          (λ b n p read. (compiled b n).0.cubes p read c) m;
       receives = λ who below h. at_place (λ rules p. SameMembers (lines.meaning rules h Stays) (den ps.named p h Stays)) (λ (b : Programs). b.inbound.text) (λ (l : Lent). l.inbound) all ps.inbound who.0 below received
-      (λ b m p read. (compiled b m).1.means p read h);
+          (λ b m p read. (compiled b m).1.means p read h);
       receiver_cubes = λ who below c m. at_place (λ rules p. Member c (lines.cubes_of rules) → IsMeet (atoms p) c) (λ (b : Programs). b.inbound.text) (λ (l : Lent). l.inbound) all ps.inbound who.0 below received
-      (λ b n p read. (compiled b n).1.cubes p read c) m;
+          (λ b n p read. (compiled b n).1.cubes p read c) m;
     }
 
 pub lent_around : (all : List Programs) (k : ℕ) (x : Lent) → k < length all → (all_lent (take k all) ++ x ∷ []) ++ all_lent (drop (k + 1) all) ≡ slice_set (all_lent all) k x

@@ -17,7 +17,7 @@ use Rattle.events.specs.declared.Refusal.{Refusal}
 use Rattle.events.specs.declared.Refusal.TheVariants.{NoNextHop, TextLong, TooWide}
 use Rattle.exchange_laws.proofs.Lists.{key_Member}
 use Rattle.exchange_laws.proofs.SameRoutes.{no_groups}
-use Rattle.exchange_laws.specs.Editing.{IsBase, IsEdit, InboundBases, InboundsAreChanges, InboundsAreEdits, OutboundBases, OutboundsAreEdits, ReroutingsAreEdits, SteadyAreBases, both, inbound_base, outbound_base}
+use Rattle.exchange_laws.specs.Editing.{IsBase, IsEdit, InboundBases, InboundsAreChanges, InboundsAreEdits, OutboundBases, OutboundsAreEdits, ReroutingsAreEdits, SteadyAreBases, inbound_base, outbound_base}
 use Rattle.exchange_laws.specs.Fresh.{HasEnoughTags}
 use Rattle.exchange_laws.specs.Listed.{AreThose}
 use Rattle.exchange_laws.specs.Rerouting.{is_rerouting}
@@ -35,7 +35,6 @@ use Rattle.net_types.specs.Keys.{pair_cmp}
 use Rattle.net_types.specs.Naming.{named_in}
 use Rattle.net_types.specs.Policies.{Policy}
 use Rattle.net_types.specs.PolicyReading.{policy_of_text}
-use Rattle.net_types.specs.Sets.{Member}
 use Rattle.net_types.specs.Widths.{is_too_wide}
 use Rattle.net_types.specs.declared.address.Pid.{Pid}
 use Rattle.net_types.specs.declared.isolation.IsolateFault.{IsolateFault}
@@ -49,8 +48,7 @@ use Rattle.sdx_core.specs.Changing.{IsSender, Proposes, Reroutes}
 use Rattle.sdx_core.specs.PolicyTexts.{or_misread, policy_or_refusal}
 use Rattle.sdx_core.specs.Programs.{IsChangeCompiled, IsChangeOf}
 use Rattle.sdx_core.specs.Steps.{built_count, fresh_count, live_among, sent_count}
-use Rattle.sdx_core.specs.declared.programs.PolicyChange.{PolicyChange}
-use Rattle.sdx_core.specs.declared.programs.PolicyChange.TheVariants.{Stay, Outbound, Inbound}
+use Rattle.sdx_core.specs.declared.programs.PolicyChange.TheVariants.{Stay}
 use Rattle.sdx_core.specs.declared.request.Request.{Request}
 
 tie : (x y : Pair) → eq_by_cmp pair_cmp x y ≡ true → x ≡ y

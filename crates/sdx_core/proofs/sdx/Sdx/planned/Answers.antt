@@ -16,9 +16,13 @@ plan-requires g c =
     let e = c.requires.0 in
     let r = c.requires.1 in
     let is_rebuilt = c.requires.2 in
-    let here : Leads s e r is_rebuilt q = subst (λ (x : State). Leads x e r is_rebuilt q) (sym c.self.view_is) c.requires.3 in
-    (base_of s q, r, is_rebuilt, asked_of s e r is_rebuilt q a.registry a.classes a.pool c.deref-2.result.now a.switch a.programs.items c.in-Ok.views c.deref-3.result.now
-    refl refl refl refl (sym c.deref-2.ensures.value) refl refl refl refl c.self.invariant (c.in-Ok.ensures ∙ ap (λ ps. all_lent (changed ps q.change)) c.deref.ensures.value) c.deref-3.ensures.value here)
+    let here : Leads s e r is_rebuilt q = subst (λ (x : State). Leads x e r is_rebuilt q) (sym c.self.view_is) c.requires.3 in (
+      base_of s q,
+      r,
+      is_rebuilt,
+      asked_of s e r is_rebuilt q a.registry a.classes a.pool c.deref-2.result.now a.switch a.programs.items c.in-Ok.views c.deref-3.result.now
+          refl refl refl refl (sym c.deref-2.ensures.value) refl refl refl refl c.self.invariant (c.in-Ok.ensures ∙ ap (λ ps. all_lent (changed ps q.change)) c.deref.ensures.value) c.deref-3.ensures.value here,
+    )
 
 pub returns-clause-plan : goal.returns-clause-plan
 returns-clause-plan g c = λ e r is_rebuilt leads.
