@@ -8,7 +8,7 @@ use Rattle.block_build.specs.Lent.{AreOf, Lent}
 use Rattle.events.specs.After.{next}
 use Rattle.events.specs.Fits.{Fits, IsStep, bare}
 use Rattle.events.specs.Forms.{IsWellFormed}
-use Rattle.events.specs.Refusals.{refusal, refused_if, tags_refusal}
+use Rattle.events.specs.Refusals.{refusal, refused_if}
 use Rattle.events.specs.State.{State, ArePolicies}
 use Rattle.events.specs.Tags as events
 use Rattle.events.specs.Tags.{groups, retagged}

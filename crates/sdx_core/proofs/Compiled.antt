@@ -17,7 +17,7 @@ use Rattle.net_types.specs.Answers.{Policies}
 use Rattle.net_types.specs.Cubes.{everything}
 use Rattle.net_types.specs.Exports.{pid_of}
 use Rattle.net_types.specs.Meets.{IsMeet}
-use Rattle.net_types.specs.Policies.{Drop, Packet, Policy, atoms, den}
+use Rattle.net_types.specs.Policies.{Drop, Policy, atoms, den}
 use Rattle.net_types.specs.PolicyReading.{policy_of_text}
 use Rattle.net_types.specs.Sets.{Member, SameMembers}
 use Rattle.net_types.specs.declared.address.Pid.{Pid}
@@ -25,7 +25,7 @@ use Rattle.net_types.specs.declared.cube.Cube.{Cube}
 use Rattle.net_types.specs.declared.headers.Headers.{Headers}
 use Rattle.net_types.specs.declared.headers.Loc.{Loc}
 use Rattle.net_types.specs.declared.headers.Loc.TheVariants.{Stay as Stays}
-use Rattle.sdx_core.specs.Programs.{AreCompiled, AreRulesOf, IsChangeCompiled, IsChangeOf, IsCompiled, all_lent, changed, inbound_after, inbound_texts, lent_of, outbound_after, outbound_texts}
+use Rattle.sdx_core.specs.Programs.{AreCompiled, AreRulesOf, IsChangeCompiled, IsCompiled, all_lent, changed, inbound_after, inbound_texts, lent_of, outbound_after, outbound_texts}
 use Rattle.sdx_core.specs.declared.programs.PolicyChange.{PolicyChange}
 use Rattle.sdx_core.specs.declared.programs.PolicyChange.TheVariants.{Stay, Outbound, Inbound}
 use Rattle.sdx_core.specs.declared.programs.Program.{Program}

@@ -1,5 +1,5 @@
 -- The prefixes that are taken rise.
-use Rattle.std.proofs.Common.{ℕ, ◌++◌, not, take}
+use Rattle.std.proofs.Common.{ℕ, ◌++◌, not}
 use Rattle.std.specs.Prelude.{Option, Some, None}
 use Rattle.std.specs.FinMap.{FinMap, get, keys}
 use Rattle.advert_queue.specs.Telling.{pending}

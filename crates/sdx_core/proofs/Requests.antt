@@ -1,25 +1,27 @@
 -- What lines that build rules ask for leads to what they do.
-use Rattle.std.proofs.Common.{◌≡◌, ℕ, ◌+◌, ◌<◌, ◌≤◌, Bool, true, false, cond, ◌&&◌, List, [], ◌∷◌, length, filter, sym, ap, subst, ◌∙◌, refl, ⊎_elim, arith}
+use Rattle.std.proofs.Common.{◌≡◌, ℕ, ◌+◌, ◌*◌, ◌<◌, ◌≤◌, Bool, true, false, cond, ◌&&◌, List, [], ◌∷◌, length, filter, sym, ap, subst, ◌∙◌, refl, ⊎_elim, arith}
 use Rattle.std.specs.Prelude.{Option, Some, None, Result, Ok, Err, IfOk, is_some, nat_lt}
 use Rattle.std.specs.Option.{option_map_or}
 use Rattle.std.specs.FinMap.{contains_key-keys, get, keys}
 use Rattle.std.specs.Ordering.{eq_by_cmp}
-use Rattle.std.proofs.lemmas.Bool.{and_from, and_parts, false_from_ne_true, ltb-true}
+use Rattle.std.proofs.lemmas.Bool.{and_from, and_parts, false_from_ne_true, ltb-false, ltb-true}
 use Rattle.events.proofs.Reached.{declared_pid}
 use Rattle.events.specs.After.{after, with_named, with_outbound}
 use Rattle.events.specs.Fits.{is_building, is_receivers, is_senders, none_rebuilt}
 use Rattle.events.specs.Refusals.{if_known, if_short, inbound_refusal, misread_refusal, or_else, outbound_refusal, policy_refusal, refusal, refused_if, tags_refusal}
 use Rattle.events.specs.State.{State, owner_of}
-use Rattle.events.specs.Tags.{free_tags, groups, is_live_pair, retagged}
+use Rattle.events.specs.Tags.{Group, free_tags, groups, is_live_pair, live_pairs, retagged}
 use Rattle.events.specs.declared.Event.{Event}
 use Rattle.events.specs.declared.Event.TheVariants.{Bad, Exchange, Participant as DeclaresParticipant, Port as DeclaresPort, Update, Down, Export, Outbound as Out, Inbound as In, Take, Drain, Arp, Resolve, Packet, Frame, Recompile, Work, Table}
 use Rattle.events.specs.declared.Refusal.{Refusal}
 use Rattle.events.specs.declared.Refusal.TheVariants.{NoNextHop, TextLong, TooWide}
 use Rattle.exchange_laws.proofs.Lists.{key_Member}
-use Rattle.exchange_laws.specs.Editing.{IsBase, IsEdit, InboundBases, InboundsAreChanges, InboundsAreEdits, OutboundBases, OutboundsAreEdits, ReroutingsAreEdits, SteadyAreBases, both, inbound_base, outbound_base}
+use Rattle.exchange_laws.proofs.SameRoutes.{no_groups}
+use Rattle.exchange_laws.specs.Editing.{IsBase, IsEdit, InboundBases, InboundsAreChanges, InboundsAreEdits, OutboundBases, OutboundsAreEdits, ReroutingsAreEdits, SteadyAreBases, inbound_base, outbound_base}
 use Rattle.exchange_laws.specs.Fresh.{HasEnoughTags}
 use Rattle.exchange_laws.specs.Listed.{AreThose}
 use Rattle.exchange_laws.specs.Rerouting.{is_rerouting}
+use Rattle.exchange_laws.specs.Rules.{IsDeclaredAlike}
 use Rattle.exchange_laws.specs.Steady.{IsSteady}
 use Rattle.fast_path.specs.Plans.{build_count, is_rebuilt_live}
 use Rattle.grammar.specs.TextReading.{Fault as Misread}
@@ -33,21 +35,20 @@ use Rattle.net_types.specs.Keys.{pair_cmp}
 use Rattle.net_types.specs.Naming.{named_in}
 use Rattle.net_types.specs.Policies.{Policy}
 use Rattle.net_types.specs.PolicyReading.{policy_of_text}
-use Rattle.net_types.specs.Sets.{Member}
 use Rattle.net_types.specs.Widths.{is_too_wide}
 use Rattle.net_types.specs.declared.address.Pid.{Pid}
 use Rattle.net_types.specs.declared.isolation.IsolateFault.{IsolateFault}
 use Rattle.net_types.specs.declared.memory.Memory.{Memory}
 use Rattle.net_types.specs.declared.rule.Pair.{Pair}
 use Rattle.route_server.specs.Proposed.{IsProposal, Proposed, named_with}
+use Rattle.sdx_core.proofs.Bounds.{built_few}
 use Rattle.sdx_core.proofs.Steps.{in_place, placed}
 use Rattle.sdx_core.specs.Building.{Asks, IsReceiving, IsSending, Leads, base_by, base_of}
 use Rattle.sdx_core.specs.Changing.{IsSender, Proposes, Reroutes}
 use Rattle.sdx_core.specs.PolicyTexts.{or_misread, policy_or_refusal}
 use Rattle.sdx_core.specs.Programs.{IsChangeCompiled, IsChangeOf}
-use Rattle.sdx_core.specs.Steps.{built_count, sent_count}
-use Rattle.sdx_core.specs.declared.programs.PolicyChange.{PolicyChange}
-use Rattle.sdx_core.specs.declared.programs.PolicyChange.TheVariants.{Stay, Outbound, Inbound}
+use Rattle.sdx_core.specs.Steps.{built_count, fresh_count, live_among, sent_count}
+use Rattle.sdx_core.specs.declared.programs.PolicyChange.TheVariants.{Stay}
 use Rattle.sdx_core.specs.declared.request.Request.{Request}
 
 tie : (x y : Pair) → eq_by_cmp pair_cmp x y ≡ true → x ≡ y
@@ -68,16 +69,44 @@ enough_pass s r enough =
     ap (λ b. refused_if b (NoNextHop (length (groups s r)) (length (free_tags s))))
     (false_from_ne_true _ (λ less. let below : length (free_tags s) < length (groups s r) = ltb-true (length (free_tags s)) (length (groups s r)) less in omega (arith, below, enough)))
 
+-- where they refuse nothing, there are enough
+enough_from : (s : State) (r : Routing) → tags_refusal s r ≡ None → HasEnoughTags s r
+enough_from s r none = by (nat_lt (length (free_tags s)) (length (groups s r))) refl none
+  where
+    by : (b : Bool) → nat_lt (length (free_tags s)) (length (groups s r)) ≡ b → refused_if b (NoNextHop (length (groups s r)) (length (free_tags s))) ≡ None → HasEnoughTags s r
+    by true less e = absurd (cc)
+    by false more e = ltb-false (length (free_tags s)) (length (groups s r)) more
+
+-- a line builds no more than the pairs of fresh tags, and the live ones that it builds anew
+built_within : (s : State) (r : Routing) (test : Pair → Bool) → IsBase s test → IsDeclaredAlike s.routing r → tags_refusal s r ≡ None → build_count s r test ≤ fresh_count s r + live_among (retagged s r) test
+built_within s r test base alike none = built_few s r (record { tagged = base.tagged; pooled = base.pooled; owners = base.owners; alike = alike; enough = enough_from s r none }) base.apart test
+
+none_rebuilt_live : (xs : List Pair) → length (filter none_rebuilt xs) ≡ 0
+none_rebuilt_live [] = refl
+none_rebuilt_live (x ∷ xs) = none_rebuilt_live xs
+
+times_none : (n : ℕ) → n * 0 ≡ 0
+times_none n = grind arith
+
+with_zero : (c d : ℕ) → c ≡ 0 → d ≡ c + d
+with_zero c d is = omega (arith, is)
+
+with_none : (c d : ℕ) → d ≡ 0 → c ≡ c + d
+with_none c d is = omega (arith, is)
+
+no_more : (a b c d x : ℕ) → a ≡ b → b ≤ c + d → x ≡ c + d → a ≤ x
+no_more a b c d x one few two = omega (arith, one, few, two)
+
 none_passes : (b : Bool) → (b && false) ≡ true → ⊥
 none_passes true e = cc
 none_passes false e = cc
 
 -- ---- a change of the routes
 
-counted : (s : State) (e : Event) (r : Routing) → is_rerouting e ≡ true → after s e ≡ retagged s r → build_count s r none_rebuilt ≡ built_count s e
-counted s (Update name bytes) r is leaves = ap (λ x. build_count s x none_rebuilt) (sym (ap (λ (x : State). x.routing) leaves))
-counted s (Down name) r is leaves = ap (λ x. build_count s x none_rebuilt) (sym (ap (λ (x : State). x.routing) leaves))
-counted s (Export name text) r is leaves = ap (λ x. build_count s x none_rebuilt) (sym (ap (λ (x : State). x.routing) leaves))
+counted : (s : State) (e : Event) (r : Routing) → is_rerouting e ≡ true → after s e ≡ retagged s r → built_count s e ≡ fresh_count s r
+counted s (Update name bytes) r is leaves = ap (fresh_count s) (ap (λ (x : State). x.routing) leaves)
+counted s (Down name) r is leaves = ap (fresh_count s) (ap (λ (x : State). x.routing) leaves)
+counted s (Export name text) r is leaves = ap (fresh_count s) (ap (λ (x : State). x.routing) leaves)
 counted s Bad r is leaves = absurd (cc)
 counted s (Exchange base size capacity) r is leaves = absurd (cc)
 counted s (DeclaresParticipant name asn id) r is leaves = absurd (cc)
@@ -129,7 +158,11 @@ rerouting_leads bases edits s e r p q steady reroutes proposal rebuild change =
       rebuilt = subst (AreThose (is_rebuilt_live (base_of s q) none_rebuilt)) (sym rebuild) (record { rising = tt; each = λ pair m. absurd (elim m [ ]); all = λ pair passes. absurd (none_passes (is_live_pair (base_of s q) pair) passes) });
       placed = subst (IsChangeOf (length s.routing.participants)) (sym change) tt;
       compiled = subst (IsChangeCompiled (pid_of s.routing)) (sym change) tt;
-      bound = λ none. let same : build_count (base_of s q) r none_rebuilt ≡ built_count s e = ap (λ x. build_count x r none_rebuilt) is ∙ counted s e r reroutes.building reroutes.leaves in omega (arith, same);
+      bound = λ none.
+          let none_anew = none_rebuilt_live (live_pairs (retagged s r)) in
+          let count = counted s e r reroutes.building reroutes.leaves in
+          no_more (build_count (base_of s q) r none_rebuilt) (build_count s r none_rebuilt) (fresh_count s r) (live_among (retagged s r) none_rebuilt) (built_count s e) (ap (λ x. build_count x r none_rebuilt) is)
+          (built_within s r none_rebuilt (bases s steady) reroutes.alike (sym reroutes.refuses ∙ none)) (count ∙ with_none (fresh_count s r) (live_among (retagged s r) none_rebuilt) none_anew);
     }
 
 -- what is proposed asks for it
@@ -211,8 +244,13 @@ module _ (s : State) (name text : List ℕ) (who : Pid) (sender : IsSender s nam
         placed = subst (IsChangeOf (length s.routing.participants)) (sym sending.change) below;
         compiled = subst (IsChangeCompiled (pid_of s.routing)) (sym sending.change) sending.compiled;
         bound = λ none.
-            let same : build_count (base_of s q) r (is_senders s who) ≡ built_count s (Out name text) =
-            ap (λ x. build_count x r (is_senders s who)) is ∙ sym (ap (λ o. option_map_or (sent_count s text (policy_of_text text)) o 0) sender.known ∙ ap (λ x. sent_count s text x who) read.1) in omega (arith, same);
+            let refuses : refusal s (Out name text) ≡ tags_refusal base r = out_read p e ∙ ap (λ o. or_else o (tags_refusal (with_outbound s who text named) r)) passes in
+            let leaves : after s (Out name text) ≡ retagged base r = (edits s name text who p steady sender.known read.1 none).leaves in
+            let count : built_count s (Out name text) ≡ fresh_count base r + live_among (retagged base r) (is_senders s who) =
+            ap (λ o. option_map_or (sent_count s (after s (Out name text)) text (policy_of_text text)) o 0) sender.known ∙ ap (λ x. sent_count s (after s (Out name text)) text x who) read.1
+            ∙ ap (λ x. fresh_count base r + live_among x (is_senders x who)) leaves in
+            no_more (build_count (base_of s q) r (is_senders s who)) (build_count base r (is_senders s who)) (fresh_count base r) (live_among (retagged base r) (is_senders s who)) (built_count s (Out name text))
+            (ap (λ x. build_count x r (is_senders s who)) is) (built_within base r (is_senders s who) holds (record { participants = refl; ports = refl }) (sym refuses ∙ none)) count;
       }
 
   -- ---- an inbound one
@@ -252,9 +290,14 @@ module _ (s : State) (name text : List ℕ) (who : Pid) (sender : IsSender s nam
             (subst (AreThose (is_rebuilt_live base (is_receivers s who))) (sym receiving.rebuilt) (those_live base (is_receivers s who) holds.tagged.pairs));
         placed = subst (IsChangeOf (length s.routing.participants)) (sym receiving.change) below;
         compiled = subst (IsChangeCompiled (pid_of s.routing)) (sym receiving.change) receiving.compiled;
-        bound = λ none.
-            let same : build_count (base_of s q) s.routing (is_receivers s who) ≡ built_count s (In name text) =
-            ap (λ x. build_count x s.routing (is_receivers s who)) is ∙ sym (ap (λ o. option_map_or (λ w. build_count (inbound_base s w text) s.routing (is_receivers s w)) o 0) sender.known) in omega (arith, same);
+        bound = λ free.
+            let leaves : after s (In name text) ≡ retagged base s.routing = (edits s name text who p steady sender.known read.1 free).leaves in
+            let fresh : fresh_count base s.routing ≡ 0 = ap (λ (gs : List Group). length s.routing.ports * length gs) (no_groups base holds.tagged) ∙ times_none (length s.routing.ports) in
+            let count : built_count s (In name text) ≡ live_among (retagged base s.routing) (is_receivers s who) =
+            ap (λ o. option_map_or (λ w. live_among (after s (In name text)) (is_receivers s w)) o 0) sender.known ∙ ap (λ x. live_among x (is_receivers s who)) leaves in
+            no_more (build_count (base_of s q) s.routing (is_receivers s who)) (build_count base s.routing (is_receivers s who)) (fresh_count base s.routing) (live_among (retagged base s.routing) (is_receivers s who)) (built_count s (In name text))
+            (ap (λ x. build_count x s.routing (is_receivers s who)) is) (built_within base s.routing (is_receivers s who) holds (record { participants = refl; ports = refl }) (enough_pass base s.routing (changes s who text p steady read.1).enough))
+            (count ∙ with_zero (fresh_count base s.routing) (live_among (retagged base s.routing) (is_receivers s who)) fresh);
       }
 
 -- a proposal that touches nothing is one for the routes as they are

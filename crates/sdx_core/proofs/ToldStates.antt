@@ -8,8 +8,7 @@ use Rattle.advert_queue.specs.Telling.{tags_of}
 use Rattle.net_types.proofs.OrderedLemmas.{ordered_rises}
 use Rattle.events.proofs.Reached.{declared_pid}
 use Rattle.events.specs.After.{next, without_pairs}
-use Rattle.events.specs.Fits.{IsAccepted, IsStep, IsTaken, adverts, bare}
-use Rattle.events.specs.Forms.{IsWellFormed}
+use Rattle.events.specs.Fits.{IsAccepted, IsStep, IsTaken, adverts, bare, none_rebuilt}
 use Rattle.events.specs.Pending.{pending}
 use Rattle.events.specs.Refusals.{if_known, refusal}
 use Rattle.events.specs.Sound.{IsSound}
@@ -21,7 +20,7 @@ use Rattle.events.specs.declared.Head.TheVariants.{Fine}
 use Rattle.events.specs.declared.Phase.TheVariants.{Running}
 use Rattle.events.specs.declared.Reply.{Reply}
 use Rattle.exchange_laws.proofs.FullTables.{accepted_lines_fit}
-use Rattle.exchange_laws.proofs.ListedPairs.{gone_are_dropped}
+use Rattle.exchange_laws.proofs.ListedPairs.{gone_are_dropped, those_gone}
 use Rattle.exchange_laws.proofs.Lists.{clash}
 use Rattle.exchange_laws.proofs.ToldAnew.{drains_are_accepted, get_retained, news_are_known, present_are_known, tag_was_live, takes_are_accepted, telling_stays_sound}
 use Rattle.exchange_laws.specs.Retagging.{KeptAreLive, TagsArePooled}
@@ -156,7 +155,7 @@ module _ (s : State) (who : Pid) (pool : Tags) {all : List Programs} (kept : IsK
   taken = record {
     head = refl;
     tags = refl;
-    drops = sym (gone_are_dropped s s2 drops kept.steady.sound.pairs sound2.pairs (pairs_go s who (told_after s who limit) kept.steady.apart (place s who pool name kept sender)));
+    drops = sym (gone_are_dropped s s2 none_rebuilt drops kept.steady.sound.pairs sound2.pairs (those_gone s s2 drops (pairs_go s who (told_after s who limit) kept.steady.apart (place s who pool name kept sender))));
     adds = refl;
     adverts = refl;
     asks = refl;

@@ -1,5 +1,5 @@
 -- Lines that build rules: what they ask for (this exchange's own rule).
-use Rattle.std.specs.Prelude.{◌≡◌, ℕ, ◌<◌, ◌≤◌, Bool, true, List, filter, length, slice_set, Option, Some, None, Result, Ok, Err}
+use Rattle.std.specs.Prelude.{◌≡◌, ℕ, ◌≤◌, Bool, true, List, filter, length, slice_set, Option, Some, None, Result, Ok, Err}
 use Rattle.std.specs.FinMap.{FinMap, get, keys}
 use Rattle.std.specs.Option.{option_map}
 use Rattle.events.specs.After.{with_named}
@@ -19,7 +19,6 @@ use Rattle.net_types.specs.Naming.{named_in}
 use Rattle.net_types.specs.Policies.{Policy}
 use Rattle.net_types.specs.Signatures.{trimmed}
 use Rattle.net_types.specs.declared.address.Pid.{Pid}
-use Rattle.net_types.specs.declared.address.Tag.{Tag}
 use Rattle.net_types.specs.declared.route.Part.{Part}
 use Rattle.net_types.specs.declared.rule.Pair.{Pair}
 use Rattle.route_server.specs.Proposed.{IsProposal, named_with}

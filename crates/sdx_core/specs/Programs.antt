@@ -1,5 +1,5 @@
 -- The policies of participants, as texts and compiled, and what becomes of them in a line (this exchange's own rule).
-use Rattle.std.specs.Prelude.{◌≡◌, ℕ, ◌<◌, List, [], ◌∷◌, length, map, slice_get, slice_set, codes, Option, Ok}
+use Rattle.std.specs.Prelude.{◌≡◌, ℕ, ◌<◌, List, map, slice_get, slice_set, codes, Option, Ok}
 use Rattle.std.specs.Option.{option_map_or}
 use Rattle.block_build.specs.Lent.{Lent}
 use Rattle.classifier.specs.Classifiers.{lines_of}

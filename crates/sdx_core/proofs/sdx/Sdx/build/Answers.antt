@@ -1,4 +1,4 @@
-use Rattle.std.proofs.Common.{◌≡◌, ap, sym, subst, ◌∙◌, refl, length}
+use Rattle.std.proofs.Common.{ap, sym, subst, ◌∙◌, refl}
 use Rattle.std.specs.Prelude.{unwrap_or}
 use Rattle.events.specs.Fits.{IsStep}
 use Rattle.events.specs.State.{State}
@@ -8,7 +8,6 @@ use Rattle.fast_path.specs.Plans.{IsFault, IsPlan}
 use Rattle.route_server.specs.Proposed.{named_with}
 use Rattle.route_server.specs.Served.{Reaches}
 use Rattle.sdx_core.specs.Building.{Leads, base_of}
-use Rattle.sdx_core.specs.Programs.{IsChangeOf}
 use Rattle.sdx_core.specs.View.{state_of}
 use Rattle.sdx_core.proofs.Builds.{change_placed, committed_kept, committed_step, full_step, parts_of, planned_of, says, short_step, state_then}
 use Rattle.sdx_core.proofs.sdx.Sdx.build.Goals as goal
