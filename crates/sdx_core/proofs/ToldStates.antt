@@ -9,7 +9,6 @@ use Rattle.net_types.proofs.OrderedLemmas.{ordered_rises}
 use Rattle.events.proofs.Reached.{declared_pid}
 use Rattle.events.specs.After.{next, without_pairs}
 use Rattle.events.specs.Fits.{IsAccepted, IsStep, IsTaken, adverts, bare}
-use Rattle.events.specs.Forms.{IsWellFormed}
 use Rattle.events.specs.Pending.{pending}
 use Rattle.events.specs.Refusals.{if_known, refusal}
 use Rattle.events.specs.Sound.{IsSound}

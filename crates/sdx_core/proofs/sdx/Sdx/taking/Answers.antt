@@ -8,7 +8,6 @@ use Rattle.events.specs.declared.Entry.{Entry}
 use Rattle.exchange_laws.proofs.PoolTags.{present_small}
 use Rattle.fast_path.specs.LiveOnly.{registered}
 use Rattle.net_types.specs.Keys.{prefix_cmp}
-use Rattle.net_types.specs.declared.address.Ip.{Ip}
 use Rattle.registry.specs.Registered.{ports_of}
 use Rattle.sdx_core.specs.News.{gone_tags, news_of, told_by}
 use Rattle.sdx_core.specs.Taking.{all_pairs, dead_tags, gone_for, taken_of}
