@@ -1,17 +1,16 @@
 -- What was told, where what is present of some prefixes is told too, has the entries of these and those that stay.
 use Rattle.std.proofs.Common.{◌≡◌, Bool, true, false, cond, ◌||◌, ◌&&◌, ◌++◌, List, [], ◌∷◌, sym, ap, ◌∙◌, refl, inl, inr}
 use Rattle.std.specs.Prelude.{Option, Some, None, Result, Ok, Err, IfOk, is_some}
-use Rattle.std.specs.FinMap.{FinMap, contains_key-keys, from_sorted, get, get-insert, get-remove, keys, same_map}
+use Rattle.std.specs.FinMap.{FinMap, contains_key-keys, get, get-insert, get-remove, keys, same_map}
 use Rattle.std.specs.FinMap.Entries.{below_all, find, is_sorted}
 use Rattle.std.specs.List.{cons_option, list_any}
 use Rattle.std.specs.Option.{option_map}
-use Rattle.std.specs.Ordering.{eq_by_cmp, is_lt}
+use Rattle.std.specs.Ordering.{eq_by_cmp}
 use Rattle.std.proofs.lemmas.List.Folds.{list_any-append}
 use Rattle.events.specs.Pending.{with_all_news, with_news}
 use Rattle.events.specs.declared.Entry.{Entry}
 use Rattle.net_types.proofs.OrderLemmas.{prefix_tie, prefixes_total}
 use Rattle.net_types.proofs.OrderedLemmas.{any_ordered, ordered_rises}
-use Rattle.net_types.proofs.PlaceLemmas.{get_sorted}
 use Rattle.net_types.proofs.RisingLemmas.{before}
 use Rattle.net_types.proofs.TieLemmas.{prefix_cmp-IsAntisymmetric}
 use Rattle.net_types.specs.Keys.{prefix_cmp}

@@ -1,6 +1,6 @@
 -- The entries of all prefixes are those of what was told, with the news.
-use Rattle.std.proofs.Common.{◌≡◌, ◌∙◌, ap}
-use Rattle.std.specs.FinMap.{is_sorted, keys}
+use Rattle.std.proofs.Common.{◌∙◌, ap}
+use Rattle.std.specs.FinMap.{is_sorted}
 use Rattle.net_types.specs.Keys.{prefix_cmp}
 use Rattle.advert_queue.specs.News.{entries_then}
 use Rattle.advert_queue.proofs.NewsLemmas.{all_rise, entries_rise, news_shown}
