@@ -8,7 +8,8 @@ use Rattle.classifier.specs.Meaning as lines
 use Rattle.classifier.specs.declared.line.Line.{Line}
 use Rattle.events.proofs.DropText.{drop_is_read}
 use Rattle.events.specs.Fits.{none_rebuilt}
-use Rattle.events.specs.State.{ArePolicies, AreRead, Entry, State}
+use Rattle.events.specs.State.{ArePolicies, AreRead, State}
+use Rattle.events.specs.declared.Entry.{Entry}
 use Rattle.events.specs.Tags as events
 use Rattle.events.specs.Tags.{is_live_pair}
 use Rattle.exchange_laws.proofs.Bases.{steady_are_bases}
