@@ -8,7 +8,8 @@ use Rattle.classifier.specs.Meaning as lines
 use Rattle.classifier.specs.declared.line.Line.{Line}
 use Rattle.events.proofs.DropText.{drop_is_read}
 use Rattle.events.specs.Fits.{none_rebuilt}
-use Rattle.events.specs.State.{ArePolicies, AreRead, Entry, State}
+use Rattle.events.specs.State.{ArePolicies, AreRead, State}
+use Rattle.events.specs.declared.Entry.{Entry}
 use Rattle.events.specs.Tags as events
 use Rattle.events.specs.Tags.{is_live_pair}
 use Rattle.exchange_laws.proofs.Bases.{steady_are_bases}
@@ -66,13 +67,20 @@ one_place f (x ∷ xs) once (suc i) zero p q e g same =
 one_place f (x ∷ xs) once (suc i) (suc j) p q e g same = ap suc (one_place f xs once.1 i j p q e g same)
 
 rising_once : (a b c d : ℕ) → a < b → b < c → c < d → HasNoRepeats (a ∷ b ∷ c ∷ d ∷ [])
-rising_once a b c d ab bc cd = (
-  λ m. elim m [ inl e ↦ absurd (omega (arith, e, ab)) | inr (inl e) ↦ absurd (omega (arith, e, ab, bc)) | inr (inr (inl e)) ↦ absurd (omega (arith, e, ab, bc, cd)) | inr (inr (inr n)) ↦ absurd (elim n [ ]) ],
-  λ m. elim m [ inl e ↦ absurd (omega (arith, e, bc)) | inr (inl e) ↦ absurd (omega (arith, e, bc, cd)) | inr (inr n) ↦ absurd (elim n [ ]) ],
-  λ m. elim m [ inl e ↦ absurd (omega (arith, e, cd)) | inr n ↦ absurd (elim n [ ]) ],
-  λ m. absurd (elim m [ ]),
-  tt,
-)
+rising_once a b c d ab bc cd = (first, (second, (third, ((λ m. absurd (elim m [ ])), tt))))
+  where
+    first : Member a (b ∷ c ∷ d ∷ []) → ⊥
+    first (inl e) = absurd (omega (arith, e, ab))
+    first (inr (inl e)) = absurd (omega (arith, e, ab, bc))
+    first (inr (inr (inl e))) = absurd (omega (arith, e, ab, bc, cd))
+    first (inr (inr (inr n))) = absurd (elim n [ ])
+    second : Member b (c ∷ d ∷ []) → ⊥
+    second (inl e) = absurd (omega (arith, e, bc))
+    second (inr (inl e)) = absurd (omega (arith, e, bc, cd))
+    second (inr (inr n)) = absurd (elim n [ ])
+    third : Member c (d ∷ []) → ⊥
+    third (inl e) = absurd (omega (arith, e, cd))
+    third (inr n) = absurd (elim n [ ])
 
 apart : PortsDiffer three.ports
 apart = record {
@@ -167,7 +175,7 @@ module _ (served : Served) (size capacity : ℕ) (is : IsUnserved served) where
 
   -- ---- policies
 
-  one_policy : (read : Result Policy _) (p q : Policy) → read ≡ Ok p → read ≡ Ok q → p ≡ q
+  one_policy : {E : Type 0} (read : Result Policy E) (p q : Policy) → read ≡ Ok p → read ≡ Ok q → p ≡ q
   one_policy read p q is again = cc
 
   each_drops : {A : Type 0} (ms : List A) (ps : List Policy) → AreRead (map (λ m. codes "drop") ms) ps → (k : ℕ) → unwrap_or (slice_get ps k) Drop ≡ Drop

@@ -4,7 +4,7 @@ use Rattle.std.specs.FinMap.{FinMap, empty}
 use Rattle.block_build.specs.Lent.{Lent}
 use Rattle.classifier.specs.Meaning.{cubes_of, meaning}
 use Rattle.classifier.specs.declared.line.Line.{Line}
-use Rattle.events.specs.State.{Entry, State}
+use Rattle.events.specs.State.{State}
 use Rattle.events.specs.declared.Phase.TheVariants.{Declaring}
 use Rattle.exchange_laws.specs.Rules.{IsDeclaredAlike}
 use Rattle.net_types.specs.Cubes.{everything}

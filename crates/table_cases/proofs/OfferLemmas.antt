@@ -1,6 +1,7 @@
 -- Offers of participants that are declared.
 use Rattle.std.proofs.Common.{◌≡◌, ℕ, ◌<◌, true, List, [], ◌∷◌, ap, ◌∙◌, inl, inr}
-use Rattle.std.specs.Prelude.{list_all, nat_lt}
+use Rattle.std.specs.List.{list_all}
+use Rattle.std.specs.Prelude.{nat_lt}
 use Rattle.std.proofs.lemmas.Bool.{and_parts, ltb-true}
 use Rattle.net_types.specs.Sets.{Member}
 use Rattle.net_types.specs.declared.route.Offer.{Offer}

@@ -1,6 +1,7 @@
 //! Rules that are built from offers and policies.
 
-ghost use Rattle.std.specs.Prelude.{◌≡◌, ◌<◌, true, length, list_all, nat_lt, IsTrue, IfOk};
+ghost use Rattle.std.specs.Prelude.{◌≡◌, ◌<◌, true, length, nat_lt, IsTrue, IfOk};
+ghost use Rattle.std.specs.List.{list_all};
 ghost use Rattle.net_types.specs.Answers.{is_offered};
 ghost use Rattle.net_types.specs.declared.route.Offer.{Offer as AnyOffer};
 ghost use Rattle.block_build.specs.Offers.{each_once};

@@ -1,6 +1,7 @@
 -- What is left makes the whole.
 use Rattle.std.proofs.Common.{◌≡◌, drop}
-use Rattle.std.specs.Prelude.{list_all, nat_lt}
+use Rattle.std.specs.List.{list_all}
+use Rattle.std.specs.Prelude.{nat_lt}
 use Rattle.net_types.specs.declared.route.Offer.{Offer}
 use Rattle.table_cases.proofs.building.are_declared.Given as goal
 
