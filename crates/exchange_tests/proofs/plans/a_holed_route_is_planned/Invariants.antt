@@ -1,5 +1,0 @@
--- The ledger of the counter.
-use Rattle.exchange_tests.proofs.plans.a_holed_route_is_planned.Given as goal
-
-abbrev pub ghosts-planned : goal.ghosts-planned
-ghosts-planned a = record { name = a.blank.name; parts = a.blank.parts }

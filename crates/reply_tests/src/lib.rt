@@ -1,0 +1,5 @@
+//! Tests of replies as text.
+#![tactic(auto)]
+
+#[cfg(test)]
+mod texts;
