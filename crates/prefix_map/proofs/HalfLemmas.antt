@@ -168,3 +168,13 @@ missed_past p ip from misses = elim (cases_lt ip.0 (past p)) [
   | inl less ↦ absurd (false≢true (sym misses ∙ covers_from p ip from less))
   | inr more ↦ more
 ]
+
+pub middle_within : (p : Prefix) → middle p ≤ past p
+middle_within p = elim (cases_lt p.len 32) [
+  | inl less ↦ let sum = two_halves p.len less in omega (arith, sum)
+  | inr more ↦
+      let short = p.short in
+      let same : 32 - p.len ≡ 31 - p.len = omega (arith, short, more) in
+      let size = ap (λ n. 2 ^ n) same in
+      omega (arith, size)
+]

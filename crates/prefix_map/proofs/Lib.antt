@@ -1,2 +1,6 @@
 pub mod HalfLemmas
 pub mod ListLemmas
+pub mod LongestLemmas
+pub mod NodeLemmas
+pub mod Sizes
+pub mod StandLemmas

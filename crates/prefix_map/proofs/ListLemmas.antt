@@ -1,5 +1,5 @@
 -- Look-ups and edits of entries all of whose prefixes come before a prefix, or after it.
-use Rattle.std.proofs.Common.{◌≡◌, cond, not, List, [], ◌∷◌, ◌++◌, ap, ◌∙◌, refl}
+use Rattle.std.proofs.Common.{◌≡◌, true, false, cond, not, List, [], ◌∷◌, ◌++◌, ap, ◌∙◌, refl}
 use Rattle.std.specs.Prelude.{Some, None}
 use Rattle.std.specs.Ordering.{is_lt, is_eq}
 use Rattle.std.specs.declared.cmp.Ordering.TheVariants.{Less, Equal, Greater}
@@ -15,9 +15,9 @@ pub all_of : {V : Type 0} {P Q : Prefix → Type 0} → ((p : Prefix) → P p �
 all_of f [] h = tt
 all_of f (e ∷ es) h = (f e.0 h.0, all_of f es h.1)
 
-pub all_append : {V : Type 0} {P : Prefix → Type 0} (es ds : List (Prefix × V)) → AllKeys P es → AllKeys P ds → AllKeys P (es ++ ds)
-all_append [] ds h k = k
-all_append (e ∷ es) ds h k = (h.0, all_append es ds h.1 k)
+pub all_append : {V : Type 0} (P : Prefix → Type 0) (es ds : List (Prefix × V)) → AllKeys P es → AllKeys P ds → AllKeys P (es ++ ds)
+all_append P [] ds h k = k
+all_append P (e ∷ es) ds h k = (h.0, all_append P es ds h.1 k)
 
 pub all_put : {V : Type 0} (P : Prefix → Type 0) (q : Prefix) (v : V) (es : List (Prefix × V)) → P q → AllKeys P es → AllKeys P (put prefix_cmp q v es)
 all_put P q v [] h all = (h, tt)

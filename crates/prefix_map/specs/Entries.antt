@@ -57,3 +57,8 @@ longer_entry (Some e) (Some d) = if nat_lt e.0.len d.0.len then Some d else Some
 abbrev pub longest_entry : {V : Type 0} → List (Prefix × V) → Ip → Option (Prefix × V)
 longest_entry [] ip = None
 longest_entry (e ∷ es) ip = longer_entry (if covers e.0 ip then Some e else None) (longest_entry es ip)
+
+-- an entry further down, and else a prefix's own
+abbrev pub entry_or : {V : Type 0} → Option (Prefix × V) → Prefix → Option V → Option (Prefix × V)
+entry_or (Some e) at held = Some e
+entry_or None at held = head_of (own at held)

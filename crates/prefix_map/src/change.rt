@@ -228,7 +228,10 @@ fn take_below<V: Drop>(trie: &mut Trie<V>, spare: &mut Vec<Box<Node<V>>>, key: P
                 Place::Same => mem::replace(held, None),
                 Place::Low => take_from(low, spare, key),
                 Place::High => take_from(high, spare, key),
-                Place::OverLow | Place::OverHigh | Place::Before | Place::After => None,
+                Place::OverLow => None,
+                Place::OverHigh => None,
+                Place::Before => None,
+                Place::After => None,
             },
         },
     }

@@ -1,11 +1,12 @@
 //! A binary trie: each node has a prefix, whose lower half holds the prefixes on one side of it, and whose upper half those
 //! on the other.
 
-ghost use Rattle.std.specs.Prelude.{◌≡◌, [], OnTrue, option_copied};
+ghost use Rattle.std.specs.Prelude.{◌≡◌, [], option_copied};
+ghost use Rattle.std.specs.Bool.{OnTrue};
 ghost use Rattle.std.specs.Option.{option_map};
 ghost use Rattle.std.specs.FinMap.Entries.{find};
 ghost use Rattle.net_types.specs.Keys.{prefix_cmp};
-ghost use Rattle.prefix_map.specs.Entries.{entries_of, above, head_of, seen_entry, longest_entry};
+ghost use Rattle.prefix_map.specs.Entries.{entries_of, above, head_of, seen_entry, longest_entry, entry_or};
 ghost use Rattle.prefix_map.specs.Tries.{IsTrie};
 
 use crate::place::{Place, is_below, place_of};
@@ -60,7 +61,10 @@ pub(crate) fn value_of<V>(trie: &Trie<V>, key: Prefix) -> Option<&V>
                 Place::Same => held.as_ref(),
                 Place::Low => value_of(low, key),
                 Place::High => value_of(high, key),
-                Place::OverLow | Place::OverHigh | Place::Before | Place::After => None,
+                Place::OverLow => None,
+                Place::OverHigh => None,
+                Place::Before => None,
+                Place::After => None,
             },
         },
     }
@@ -84,12 +88,10 @@ pub(crate) fn longest_in<V>(trie: &Trie<V>, ip: Ip) -> Option<(Prefix, &V)>
                 if !at.covers(ip) {
                     return None;
                 }
-                let below = if is_below(ip, *at) {
-                    longest_in(low, ip)
-                } else {
-                    longest_in(high, ip)
-                };
-                or_own(below, *at, held)
+                if is_below(ip, *at) {
+                    return or_own(longest_in(low, ip), *at, held);
+                }
+                or_own(longest_in(high, ip), *at, held)
             }
         },
     }
@@ -100,7 +102,9 @@ fn or_own<'a, V>(
     below: Option<(Prefix, &'a V)>,
     at: Prefix,
     held: &'a Option<V>,
-) -> Option<(Prefix, &'a V)> {
+) -> Option<(Prefix, &'a V)>
+    ensures { option_map seen_entry result ≡ entry_or (option_map seen_entry below.entry) at held.entry.now }
+{
     match below {
         Some(entry) => Some(entry),
         None => match held {
@@ -149,7 +153,7 @@ pub(crate) fn next_after<V>(trie: &Trie<V>, key: Prefix) -> Option<(Prefix, &V)>
                 low,
                 high,
             } => {
-                if key < *at {
+                if key.cmp(at).is_lt() {
                     return first(trie);
                 }
                 if !is_below(key.address, *at) {
