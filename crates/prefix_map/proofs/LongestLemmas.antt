@@ -63,7 +63,7 @@ longest_own at (Some v) es ip here all =
     ∙ or_some at v (longest_entry es ip) (longest_all (λ p. nat_lt at.len p.len ≡ true) ip es all)
 
 missed : (p : Prefix) (ip : Ip) → (covers p ip ≡ true → ⊥) → covers p ip ≡ false
-missed p ip never = elim (cases_Bool (covers p ip)) [ inl yes ↦ absurd (never yes) | inr misses ↦ misses ]
+missed p ip never = elim (cases_Bool (covers p ip)) [ inl hits ↦ absurd (never hits) | inr misses ↦ misses ]
 
 module _ {V : Type 0} (at : Prefix) (held : Option V) (l h : List (Prefix × V)) (low : AllKeys (LiesLow at) l) (high : AllKeys (LiesHigh at) h) (ip : Ip) (fits : ip.0 < 2 ^ 32) where
   longer_all_below : AllKeys (λ p. nat_lt at.len p.len ≡ true) (l ++ h)
@@ -76,8 +76,8 @@ module _ {V : Type 0} (at : Prefix) (held : Option V) (l h : List (Prefix × V))
   longest_out misses = longest_none ip (own at held ++ (l ++ h)) (all_of outside (own at held ++ (l ++ h)) (all_in at held l h low high))
     where
       outside : (p : Prefix) → LiesIn at p → covers p ip ≡ false
-      outside p is = missed p ip (λ yes.
-          let there = covered p ip fits yes in
+      outside p is = missed p ip (λ hits.
+          let there = covered p ip fits hits in
           let from = is.from in
           let until = is.until in
           false≢true (sym misses ∙ covers_from at ip (let a = there.0 in omega (arith, a, from)) (let b = there.1 in omega (arith, b, until))))
@@ -88,8 +88,8 @@ module _ {V : Type 0} (at : Prefix) (held : Option V) (l h : List (Prefix × V))
       ∙ ap (λ o. entry_or o at held) (longest_left ip l h (all_of outside h high))
     where
       outside : (p : Prefix) → LiesHigh at p → covers p ip ≡ false
-      outside p is = missed p ip (λ yes.
-          let there = covered p ip fits yes in
+      outside p is = missed p ip (λ hits.
+          let there = covered p ip fits hits in
           let a = there.0 in
           let from = is.from in
           absurd (omega (arith, a, from, less)))
@@ -100,8 +100,8 @@ module _ {V : Type 0} (at : Prefix) (held : Option V) (l h : List (Prefix × V))
       ∙ ap (λ o. entry_or o at held) (longest_right ip l h (all_of outside l low))
     where
       outside : (p : Prefix) → LiesLow at p → covers p ip ≡ false
-      outside p is = missed p ip (λ yes.
-          let there = covered p ip fits yes in
+      outside p is = missed p ip (λ hits.
+          let there = covered p ip fits hits in
           let b = there.1 in
           let until = is.until in
           absurd (omega (arith, b, until, more)))

@@ -30,7 +30,7 @@ own_in : {V : Type 0} (at : Prefix) (held : Option V) → AllKeys (LiesIn at) (o
 own_in at None = tt
 own_in at (Some v) = (itself_in at, tt)
 
-tied_itself : (p : Prefix) → prefix_cmp p p ≡ Equal
+pub tied_itself : (p : Prefix) → prefix_cmp p p ≡ Equal
 tied_itself p =
     ap (λ r. ordering_then r (nat_cmp p.len p.len)) (sym (nat_cmp_is p.address.0 p.address.0 Equal refl)) ∙ sym (nat_cmp_is p.len p.len Equal refl)
 
@@ -68,7 +68,7 @@ module _ {V : Type 0} (at : Prefix) (held : Option V) (l h : List (Prefix × V))
         without_is = without_past q (own at held) (l ++ h) own_first ∙ ap (λ es. own at held ++ es) (without_past q l h past);
       }
 
-  all_after : IsBefore at (l ++ h)
+  pub all_after : IsBefore at (l ++ h)
   all_after = all_append (λ p. prefix_cmp at p ≡ Less) l h (all_of (low_before at) l low) (all_of (high_before at) h high)
 
   -- places of the prefix itself, of one that contains all, and of one apart
