@@ -58,35 +58,36 @@ module _ {V : Type 0} (t : Trie V) (halves : IsTrie t) (m : FinMap prefix_cmp V)
 same_entry : {V : Type 0} (d e : Prefix × V) → Some d ≡ Some e → d ≡ e
 same_entry d e is = ap (λ o. unwrap_or o d) is
 
-one_of_two : {V : Type 0} (o d : Option (Prefix × V)) (e : Prefix × V) → longer_entry o d ≡ Some e → (o ≡ Some e) ⊎ (d ≡ Some e)
-one_of_two None d e is = inr is
-one_of_two (Some x) None e is = inl is
-one_of_two (Some x) (Some y) e is = of_case (nat_lt x.0.len y.0.len) is
-  where
-    of_case : (b : Bool) → cond b (Some y) (Some x) ≡ Some e → (Some x ≡ Some e) ⊎ (Some y ≡ Some e)
-    of_case true h = inr h
-    of_case false h = inl h
+module _ {V : Type 0} where
+  one_of_two : (o d : Option (Prefix × V)) (e : Prefix × V) → longer_entry o d ≡ Some e → (o ≡ Some e) ⊎ (d ≡ Some e)
+  one_of_two None d e is = inr is
+  one_of_two (Some x) None e is = inl is
+  one_of_two (Some x) (Some y) e is = of_case (nat_lt x.0.len y.0.len) is
+    where
+      of_case : (b : Bool) → cond b (Some y) (Some x) ≡ Some e → (Some x ≡ Some e) ⊎ (Some y ≡ Some e)
+      of_case true h = inr h
+      of_case false h = inl h
 
-chosen : {V : Type 0} (b : Bool) (d e : Prefix × V) → cond b (Some d) None ≡ Some e → d ≡ e
-chosen true d e is = same_entry d e is
-chosen false d e is = cc
+  chosen : (b : Bool) (d e : Prefix × V) → cond b (Some d) None ≡ Some e → d ≡ e
+  chosen true d e is = same_entry d e is
+  chosen false d e is = cc
 
-pub longest_found : {V : Type 0} (es : List (Prefix × V)) (ip : Ip) (e : Prefix × V) → is_sorted prefix_cmp es ≡ true → longest_entry es ip ≡ Some e → find prefix_cmp e.0 es ≡ Some e.1
-longest_found [] ip e sorted is = cc
-longest_found (d ∷ es) ip e sorted is = of_case (one_of_two (cond (covers d.0 ip) (Some d) None) (longest_entry es ip) e is)
-  where
-    of_case : (cond (covers d.0 ip) (Some d) None ≡ Some e) ⊎ (longest_entry es ip ≡ Some e) → find prefix_cmp e.0 (d ∷ es) ≡ Some e.1
-    of_case (inl here) =
-        subst (λ (x : Prefix × V). find prefix_cmp x.0 (d ∷ es) ≡ Some x.1) (chosen (covers d.0 ip) d e here)
-        (ap (λ r. cond (is_eq r) (Some d.1) (find prefix_cmp d.0 es)) (tied_itself d.0))
-    of_case (inr later) =
-        let parts = and_parts (below_all prefix_cmp d.0 es) (is_sorted prefix_cmp es) sorted in
-        let found = longest_found es ip e parts.1 later in
-        ap (λ b. cond b (Some d.1) (find prefix_cmp e.0 es)) (later_apart prefix_cmp prefixes_total d.0 e.0 e.1 es (holds _ parts.0) found) ∙ found
+  pub longest_found : (es : List (Prefix × V)) (ip : Ip) (e : Prefix × V) → is_sorted prefix_cmp es ≡ true → longest_entry es ip ≡ Some e → find prefix_cmp e.0 es ≡ Some e.1
+  longest_found [] ip e sorted is = cc
+  longest_found (d ∷ es) ip e sorted is =
+      let parts = and_parts (below_all prefix_cmp d.0 es) (is_sorted prefix_cmp es) sorted in
+      elim (one_of_two (cond (covers d.0 ip) (Some d) None) (longest_entry es ip) e is) [
+        | inl here ↦
+            subst (λ (x : Prefix × V). find prefix_cmp x.0 (d ∷ es) ≡ Some x.1) (chosen (covers d.0 ip) d e here)
+            (ap (λ r. cond (is_eq r) (Some d.1) (find prefix_cmp d.0 es)) (tied_itself d.0))
+        | inr later ↦
+            let found = longest_found es ip e parts.1 later in
+            ap (λ b. cond b (Some d.1) (find prefix_cmp e.0 es)) (later_apart prefix_cmp prefixes_total d.0 e.0 e.1 es (holds _ parts.0) found) ∙ found
+      ]
 
-pub longest_has : {V : Type 0} (t : Trie V) (halves : IsTrie t) (m : FinMap prefix_cmp V) → from_sorted (entries_of t) ≡ m → (ip : Ip) (o : Option (Prefix × Bor V)) → option_map seen_entry o ≡ longest_entry (entries_of t) ip → IfSome o (λ e. Some e.1.now ≡ get m e.0)
-longest_has t halves m are ip None is = tt
-longest_has t halves m are ip (Some e) is = sym (longest_found (entries_of t) ip (e.0, e.1.now) (trie_sorted t halves) (sym is)) ∙ get_is t halves m are e.0
+  pub longest_has : (t : Trie V) (halves : IsTrie t) (m : FinMap prefix_cmp V) → from_sorted (entries_of t) ≡ m → (ip : Ip) (o : Option (Prefix × Bor V)) → option_map seen_entry o ≡ longest_entry (entries_of t) ip → IfSome o (λ e. Some e.1.now ≡ get m e.0)
+  longest_has t halves m are ip None is = tt
+  longest_has t halves m are ip (Some e) is = sym (longest_found (entries_of t) ip (e.0, e.1.now) (trie_sorted t halves) (sym is)) ∙ get_is t halves m are e.0
 
 -- ---- room and the count
 
@@ -110,3 +111,7 @@ module _ {V : Type 0} (t u : Trie V) (q : Prefix) (spare left room count : ℕ) 
   took_none is none more =
       let size : 0 + length (entries_of u) ≡ length (entries_of t) = ap (λ es. 0 + length es) is ∙ ap (λ b. cond b 1 0 + length (without q (entries_of t))) (sym none) ∙ length_without prefix_cmp prefixes_total q (entries_of t) (holds _ (trie_sorted t kept.halves)) in
       record { halves = halves; boxes = omega (arith, more, kept.boxes); counted = omega (arith, size, kept.counted); fits = omega (arith, kept.fits) }
+
+pub none_of : {A : Type 0} (o : Option A) → is_some o ≡ false → o ≡ None
+none_of None e = refl
+none_of (Some x) e = cc
