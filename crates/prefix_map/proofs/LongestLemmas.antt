@@ -1,17 +1,14 @@
 -- The longest of a node's prefixes that covers an address.
-use Rattle.std.proofs.Common.{◌≡◌, ◌≤◌, ◌<◌, ◌^◌, Bool, true, false, cond, Option, List, [], ◌∷◌, ◌++◌, map, inl, inr, sym, ap, subst, ◌∙◌, refl, arith}
+use Rattle.std.proofs.Common.{◌≡◌, ◌≤◌, ◌<◌, ◌^◌, Bool, true, false, cond, Option, List, [], ◌∷◌, ◌++◌, map, inl, inr, sym, ap, ◌∙◌, refl, arith}
 use Rattle.std.specs.Prelude.{Some, None, nat_lt}
-use Rattle.std.specs.Option.{option_map, unwrap_or}
-use Rattle.std.specs.Ordering.{is_eq}
-use Rattle.std.specs.FinMap.Entries.{find, is_sorted, below_all}
-use Rattle.std.proofs.lemmas.Bool.{cases_Bool, and_parts, false≢true, lt-ltb}
-use Rattle.net_types.specs.Keys.{prefix_cmp}
+use Rattle.std.specs.Option.{option_map}
+use Rattle.std.proofs.lemmas.Bool.{cases_Bool, false≢true, lt-ltb}
 use Rattle.net_types.specs.Prefixes.{covers}
 use Rattle.net_types.specs.Routes.{longer, longest_of}
 use Rattle.net_types.specs.declared.address.Ip.{Ip}
 use Rattle.net_types.specs.declared.prefix.Prefix.{Prefix}
 use Rattle.prefix_map.specs.Entries.{own, longer_entry, longest_entry, entry_or}
-use Rattle.prefix_map.specs.Halves.{past, middle, LiesIn, LiesLow, LiesHigh}
+use Rattle.prefix_map.specs.Halves.{middle, LiesIn, LiesLow, LiesHigh}
 use Rattle.prefix_map.specs.Tries.{AllKeys}
 use Rattle.prefix_map.proofs.HalfLemmas.{covered, covers_from}
 use Rattle.prefix_map.proofs.ListLemmas.{all_of, all_append}

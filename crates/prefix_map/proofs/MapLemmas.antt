@@ -1,9 +1,9 @@
 -- The map of a trie's entries, and what holds of a map's parts after a prefix was put in or taken out.
-use Rattle.std.proofs.Common.{◌≡◌, ℕ, ◌+◌, ◌*◌, ◌-◌, ◌<◌, ◌≤◌, Bool, true, false, cond, not, Option, List, [], ◌∷◌, length, map, inl, inr, ◌⊎◌, IfSome, sym, ap, subst, ◌∙◌, refl, arith}
+use Rattle.std.proofs.Common.{◌≡◌, ℕ, ◌+◌, ◌-◌, ◌<◌, ◌≤◌, Bool, true, false, cond, Option, List, [], ◌∷◌, length, map, inl, inr, ◌⊎◌, IfSome, sym, ap, subst, ◌∙◌, refl, arith}
 use Rattle.std.specs.Prelude.{T, Some, None, is_some, nat_lt}
 use Rattle.std.specs.Borrow.{Bor}
 use Rattle.std.specs.Option.{option_map, unwrap_or}
-use Rattle.std.specs.Ordering.{is_eq, eq_by_cmp}
+use Rattle.std.specs.Ordering.{is_eq}
 use Rattle.std.specs.FinMap.{FinMap, from_sorted, get, insert, remove, entries, keys}
 use Rattle.std.specs.FinMap.Entries.{find, put, is_sorted, below_all, length-put, length_without}
 use Rattle.std.proofs.lemmas.Bool.{and_parts}
@@ -16,7 +16,6 @@ use Rattle.net_types.specs.Routes.{longest_of}
 use Rattle.net_types.specs.declared.address.Ip.{Ip}
 use Rattle.net_types.specs.declared.prefix.Prefix.{Prefix}
 use Rattle.prefix_map.specs.Entries.{entries_of, without, longer_entry, longest_entry, seen_entry}
-use Rattle.prefix_map.specs.Held.{Held}
 use Rattle.prefix_map.specs.Kept.{IsKept}
 use Rattle.prefix_map.specs.Tries.{IsTrie}
 use Rattle.prefix_map.specs.declared.trie.Trie.{Trie}

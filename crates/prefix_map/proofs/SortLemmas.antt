@@ -1,14 +1,13 @@
 -- The entries of a trie rise.
-use Rattle.std.proofs.Common.{◌≡◌, Bool, true, ◌&&◌, Option, List, [], ◌∷◌, ◌++◌, ap, ◌∙◌, refl}
+use Rattle.std.proofs.Common.{◌≡◌, true, Option, List, [], ◌∷◌, ◌++◌, ap, refl}
 use Rattle.std.specs.Prelude.{Some, None}
 use Rattle.std.specs.Ordering.{is_lt}
-use Rattle.std.specs.declared.cmp.Ordering.TheVariants.{Less}
 use Rattle.std.specs.FinMap.Entries.{is_sorted, below_all}
 use Rattle.std.proofs.lemmas.Bool.{and_parts, and_from}
 use Rattle.net_types.specs.Keys.{prefix_cmp}
 use Rattle.net_types.specs.declared.prefix.Prefix.{Prefix}
 use Rattle.prefix_map.specs.Entries.{own, entries_of, node_entries}
-use Rattle.prefix_map.specs.Halves.{LiesLow, LiesHigh}
+use Rattle.prefix_map.specs.Halves.{LiesLow}
 use Rattle.prefix_map.specs.Tries.{AllKeys, IsTrie, IsNode}
 use Rattle.prefix_map.specs.declared.trie.Trie.{Trie, Empty, Fork'}
 use Rattle.prefix_map.specs.declared.trie.Node.{Node, Blank, Full}

@@ -1,5 +1,5 @@
 -- Which of two prefixes comes first in the order, by where they stand.
-use Rattle.std.proofs.Common.{◌≡◌, ◌≤◌, ◌<◌, inl, inr, sym, ap, subst, ◌∙◌, refl, arith}
+use Rattle.std.proofs.Common.{◌≡◌, ◌≤◌, ◌<◌, inl, inr, sym, ap, subst, ◌∙◌, arith}
 use Rattle.std.specs.Cmp.{nat_cmp_is}
 use Rattle.std.specs.Ordering.{nat_cmp, ordering_then, ordering_reverse}
 use Rattle.std.specs.declared.cmp.Ordering.TheVariants.{Less, Equal, Greater}
@@ -8,7 +8,7 @@ use Rattle.net_types.proofs.OrderLemmas.{prefixes_total}
 use Rattle.net_types.proofs.PrefixLemmas.{prefix_ext}
 use Rattle.net_types.specs.Keys.{prefix_cmp}
 use Rattle.net_types.specs.declared.prefix.Prefix.{Prefix}
-use Rattle.prefix_map.specs.Halves.{past, middle, LiesIn, LiesLow, LiesHigh}
+use Rattle.prefix_map.specs.Halves.{past, LiesIn, LiesLow, LiesHigh}
 use Rattle.prefix_map.proofs.HalfLemmas.{begins, begins_low, middle_within}
 
 pub before_by_address : (p q : Prefix) → p.address.0 < q.address.0 → prefix_cmp p q ≡ Less

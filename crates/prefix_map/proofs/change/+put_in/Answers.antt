@@ -1,13 +1,13 @@
-use Rattle.std.proofs.Common.{◌≡◌, ◌≤◌, ◌<◌, ◌+◌, ◌∷◌, ◌++◌, Some, None, sym, ap, subst, ◌∙◌, rules, arith}
+use Rattle.std.proofs.Common.{◌≡◌, ◌≤◌, ◌<◌, ◌+◌, ◌++◌, Some, None, sym, ap, subst, ◌∙◌, rules, arith}
 use Rattle.std.specs.Vec.{vec_len}
 use Rattle.std.specs.FinMap.Entries.{find, put}
 use Rattle.net_types.specs.Keys.{prefix_cmp}
-use Rattle.prefix_map.specs.Entries.{entries_of, node_entries, own, without}
+use Rattle.prefix_map.specs.Entries.{entries_of, node_entries, own}
 use Rattle.prefix_map.specs.Halves.{LiesLow, LiesHigh}
 use Rattle.prefix_map.specs.Tries.{IsTrie, IsNode, AllKeys}
 use Rattle.prefix_map.specs.declared.trie.Node.{Full}
 use Rattle.prefix_map.proofs.Sizes.{size_of, node_size}
-use Rattle.prefix_map.proofs.ListLemmas.{all_of, all_put, all_without}
+use Rattle.prefix_map.proofs.ListLemmas.{all_of, all_put}
 use Rattle.prefix_map.proofs.StandLemmas.{in_low, in_high}
 use Rattle.prefix_map.proofs.NodeLemmas.{all_in, told_low, told_high, told_here, told_over_low, told_over_high, out_over_low, out_over_high, out_before, out_after}
 use Rattle.prefix_map.proofs.change.+put_in.Goals as goal

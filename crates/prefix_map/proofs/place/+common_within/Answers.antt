@@ -1,7 +1,7 @@
-use Rattle.std.proofs.Common.{◌≤◌, ◌<◌, sym, ◌∙◌, rules, arith}
-use Rattle.prefix_map.specs.Halves.{middle, past, LiesIn}
-use Rattle.std.proofs.lemmas.Bool.{ltb-true, ltb-false}
-use Rattle.prefix_map.proofs.HalfLemmas.{left_longer, right_longer, in_lower, in_upper, is_low, begins}
+use Rattle.std.proofs.Common.{◌<◌, sym, ◌∙◌, arith}
+use Rattle.prefix_map.specs.Halves.{middle}
+use Rattle.std.proofs.lemmas.Bool.{ltb-true}
+use Rattle.prefix_map.proofs.HalfLemmas.{left_longer, right_longer, in_lower, is_low, begins}
 use Rattle.prefix_map.proofs.place.+common_within.Goals as goal
 
 pub lower_half-requires : goal.lower_half-requires
@@ -19,11 +19,16 @@ common_within-requires t c =
     let apart = c.requires.apart in
     let less : c.args.left.address.0 < middle c.args.within = omega (arith, below, some, apart) in
     let short = c.args.left.short in
-    let len = c.lower_half.ensures.len in
-    (omega (arith, longer, short, len),
-     (in_lower c.args.within c.lower_half.result c.args.left c.requires.left longer c.lower_half.ensures.address c.lower_half.ensures.len c.lower_half.ensures.past less,
-     (in_lower c.args.within c.lower_half.result c.args.right c.requires.right right_more c.lower_half.ensures.address c.lower_half.ensures.len c.lower_half.ensures.past below,
-     c.requires.apart)))
+    let len = c.lower_half.ensures.len in (
+      omega (arith, longer, short, len),
+      (
+        in_lower c.args.within c.lower_half.result c.args.left c.requires.left longer c.lower_half.ensures.address c.lower_half.ensures.len c.lower_half.ensures.past less,
+        (
+          in_lower c.args.within c.lower_half.result c.args.right c.requires.right right_more c.lower_half.ensures.address c.lower_half.ensures.len c.lower_half.ensures.past below,
+          c.requires.apart,
+        ),
+      ),
+    )
 
 pub returns-then-is_below-2-clause-low : goal.returns-then-is_below-2-clause-low
 returns-then-is_below-2-clause-low t c =

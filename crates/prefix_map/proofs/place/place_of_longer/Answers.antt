@@ -1,6 +1,5 @@
-use Rattle.std.proofs.Common.{◌≤◌, ◌<◌, sym, ◌∙◌, arith}
-use Rattle.prefix_map.specs.Halves.{middle, past}
-use Rattle.prefix_map.proofs.HalfLemmas.{stops_at, is_low, is_high, covered, covers_from, missed_past}
+use Rattle.std.proofs.Common.{sym, ◌∙◌, arith}
+use Rattle.prefix_map.proofs.HalfLemmas.{stops_at, is_low, is_high, covered, missed_past}
 use Rattle.std.proofs.lemmas.Bool.{ltb-true, ltb-false}
 use Rattle.prefix_map.proofs.place.place_of_longer.Goals as goal
 

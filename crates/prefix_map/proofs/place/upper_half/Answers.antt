@@ -1,6 +1,5 @@
-use Rattle.std.proofs.Common.{◌≡◌, ◌+◌, ◌-◌, ◌*◌, ◌%◌, ◌^◌, ◌<◌, sym, ap, subst, ◌∙◌, arith}
-use Rattle.prefix_map.specs.Halves.{middle}
-use Rattle.prefix_map.proofs.HalfLemmas.{half_small, half_exponent, upper_address, upper_fits, upper_zeros, two_halves}
+use Rattle.std.proofs.Common.{◌+◌, ◌-◌, ◌%◌, ◌^◌, ◌<◌, sym, ap, subst, ◌∙◌, arith}
+use Rattle.prefix_map.proofs.HalfLemmas.{half_exponent, upper_address, upper_fits, upper_zeros, two_halves}
 use Rattle.prefix_map.proofs.place.upper_half.Goals as goal
 
 pub overflow_add-result : goal.overflow_add-result

@@ -1,6 +1,5 @@
-use Rattle.std.proofs.Common.{◌≡◌, ◌++◌, sym, ap, subst, ◌∙◌, rules, arith}
+use Rattle.std.proofs.Common.{◌≡◌, ◌++◌, sym, ap, subst, ◌∙◌, arith}
 use Rattle.std.proofs.lemmas.Bool.{ltb-true, ltb-false}
-use Rattle.net_types.specs.Prefixes.{covers}
 use Rattle.prefix_map.specs.Entries.{entries_of, node_entries, own, longest_entry, entry_or}
 use Rattle.prefix_map.specs.Tries.{IsTrie, IsNode}
 use Rattle.prefix_map.specs.declared.trie.Node.{Full}

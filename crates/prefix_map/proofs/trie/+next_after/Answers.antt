@@ -1,4 +1,4 @@
-use Rattle.std.proofs.Common.{◌≡◌, ◌++◌, true, false, sym, ap, subst, ◌∙◌, rules, arith}
+use Rattle.std.proofs.Common.{◌≡◌, ◌++◌, true, false, sym, ap, subst, ◌∙◌}
 use Rattle.std.specs.Ordering.{is_lt}
 use Rattle.std.specs.Option.{option_map}
 use Rattle.std.proofs.lemmas.Bool.{ltb-true, ltb-false}
@@ -6,7 +6,7 @@ use Rattle.net_types.specs.Keys.{prefix_cmp}
 use Rattle.prefix_map.specs.Entries.{entries_of, node_entries, own, above, head_of, seen_entry}
 use Rattle.prefix_map.specs.Tries.{IsTrie, IsNode}
 use Rattle.prefix_map.specs.declared.trie.Node.{Full}
-use Rattle.prefix_map.proofs.NodeLemmas.{above_before_all, above_low, above_high, none_first, some_first, less}
+use Rattle.prefix_map.proofs.NodeLemmas.{above_before_all, above_low, above_high, none_first, less}
 use Rattle.prefix_map.proofs.trie.+next_after.Goals as goal
 
 pub returns-then-is_lt : goal.returns-then-is_lt

@@ -1,8 +1,7 @@
-use Rattle.std.proofs.Common.{◌≡◌, ◌∷◌, ◌++◌, sym, ap, subst, ◌∙◌, rules, arith}
+use Rattle.std.proofs.Common.{◌≡◌, ◌++◌, sym, ap, subst, ◌∙◌}
 use Rattle.std.specs.FinMap.Entries.{find}
 use Rattle.net_types.specs.Keys.{prefix_cmp}
 use Rattle.prefix_map.specs.Entries.{entries_of, node_entries, own}
-use Rattle.prefix_map.specs.Halves.{LiesLow, LiesHigh}
 use Rattle.prefix_map.specs.Tries.{IsTrie, IsNode}
 use Rattle.prefix_map.specs.declared.trie.Node.{Full}
 use Rattle.prefix_map.proofs.NodeLemmas.{told_low, told_high, told_here, out_over_low, out_over_high, out_before, out_after}
