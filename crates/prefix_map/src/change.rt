@@ -244,11 +244,30 @@ fn join_levels<V: Drop>(trie: &mut Trie<V>, spare: &mut Vec<Box<Node<V>>>)
     ensures halves { IsTrie trie.new }
     ensures room { vec_len spare.old ≤ vec_len spare.new }
 {
+    if !is_idle(trie) {
+        return;
+    }
     let node = match mem::replace(trie, Trie::Empty) {
         Trie::Empty => return,
         Trie::Fork(node) => node,
     };
     *trie = joined(node, spare);
+}
+
+// Whether the root has no value and one child at most.
+fn is_idle<V>(trie: &Trie<V>) -> bool {
+    match trie {
+        Trie::Empty => false,
+        Trie::Fork(node) => match &**node {
+            Node::Blank => true,
+            Node::Full {
+                at: _,
+                held,
+                low,
+                high,
+            } => held.is_none() && (low.is_empty() || high.is_empty()),
+        },
+    }
 }
 
 fn joined<V: Drop>(mut node: Box<Node<V>>, spare: &mut Vec<Box<Node<V>>>) -> Trie<V>
