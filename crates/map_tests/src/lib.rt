@@ -1,7 +1,9 @@
-//! The map beside a plain list of entries, over many operations.
+//! The maps beside a plain list of entries, over many operations.
 #![tactic(auto)]
 
 #[cfg(test)]
 mod beside_a_list;
 #[cfg(test)]
 mod large;
+#[cfg(test)]
+mod prefixes;

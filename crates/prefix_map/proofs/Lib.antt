@@ -1,1 +1,9 @@
-pub mod SearchLemmas
+pub mod HalfLemmas
+pub mod ListLemmas
+pub mod LongestLemmas
+pub mod MapLemmas
+pub mod NodeLemmas
+pub mod Sizes
+pub mod SortLemmas
+pub mod StandLemmas
+pub mod WalkLemmas

@@ -1,2 +1,6 @@
+pub mod Entries
+pub mod Halves
 pub mod Held
-pub mod Places
+pub mod Kept
+pub mod Placed
+pub mod Tries

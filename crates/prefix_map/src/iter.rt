@@ -2,34 +2,49 @@
 
 ghost use Rattle.std.specs.Prelude.{◌≡◌, length};
 ghost use Rattle.std.specs.Iterator.{at_most};
+ghost use Rattle.std.specs.Option.{option_map};
 ghost use Rattle.std.specs.Map.Iter.{TakesFirst};
+ghost use Rattle.prefix_map.specs.Entries.{entries_of, head_of, seen_entry};
+ghost use Rattle.prefix_map.specs.Tries.{IsTrie};
 
+use crate::trie::{Trie, first, next_after};
 use net_types::Prefix;
 use std::marker::Model;
-use std::slice;
 
 /// The entries that are left, in ascending order of their prefixes.
 #[derive(Drop)]
 pub struct Iter<'a, V> {
-    entries: slice::Iter<'a, (Prefix, V)>,
+    trie: &'a Trie<V>,
+    last: Option<Prefix>,
 }
 
 impl<'a, V> Model for Iter<'a, V> {
     ghost use Rattle.std.specs.Prelude.{List};
-    ghost use Rattle.std.specs.Slice.Iter.{iter_rest};
     ghost use Rattle.net_types.specs.declared.prefix.Prefix.{Prefix};
+    ghost use Rattle.prefix_map.specs.Entries.{entries_of, left_after};
+    ghost use Rattle.prefix_map.specs.Tries.{IsTrie};
 
     ghost Value = { List (Prefix × V) };
 
-    ghost view = { λ a. iter_rest a.entries };
+    ghost view = { λ a. left_after a.last (entries_of a.trie.now) };
+
+    ghost invariant = { λ a. IsTrie a.trie.now };
 }
 
 impl<'a, V> Iter<'a, V> {
-    pub(crate) fn new(entries: &'a [(Prefix, V)]) -> Iter<'a, V>
-        ensures { result ≡ entries.now }
+    pub(crate) fn new(trie: &'a Trie<V>) -> Iter<'a, V>
+        requires halves { IsTrie trie.now }
+        ensures { result ≡ entries_of trie.now }
     {
-        Iter {
-            entries: entries.iter(),
+        Iter { trie, last: None }
+    }
+
+    fn ahead(&self) -> Option<(Prefix, &'a V)>
+        ensures { option_map seen_entry result ≡ head_of self.now }
+    {
+        match self.last {
+            None => first(self.trie),
+            Some(last) => next_after(self.trie, last),
         }
     }
 }
@@ -42,7 +57,8 @@ impl<'a, V> Iterator for Iter<'a, V> {
     ghost remaining = { λ left. at_most (length left) };
 
     fn next(&mut self) -> Option<(Prefix, &'a V)> {
-        let (key, value) = self.entries.next()?;
-        Some((*key, value))
+        let (key, value) = self.ahead()?;
+        self.last = Some(key);
+        Some((key, value))
     }
 }

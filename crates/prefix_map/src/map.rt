@@ -1,4 +1,4 @@
-//! The map, over a vector of entries whose prefixes rise.
+//! The map: a trie, and boxes that wait for more prefixes.
 
 ghost use Rattle.std.specs.Prelude.{◌≡◌, ◌≤◌, ◌<◌, ◌+◌, Some, None, IsTrue, IsOk, OnOk, OnErr, IfOk, IfSome, option_copied, is_some, length, if◌then◌else◌};
 ghost use Rattle.std.specs.FinMap as map;
@@ -6,34 +6,40 @@ ghost use Rattle.std.specs.Option.{option_map};
 ghost use Rattle.net_types.specs.Prefixes.{covers};
 ghost use Rattle.net_types.specs.Routes.{longest_of};
 
+use crate::change::{put_in, take_from};
 use crate::iter::Iter;
-use crate::place::place;
+use crate::spare::fill;
+use crate::trie::{Node, Trie, longest_in, value_of};
 use net_types::{Ip, Memory, Prefix};
 use std::alloc::Global;
 use std::marker::Model;
-use std::mem;
 
 /// A map from prefixes to values, and room for a number of new prefixes.
 #[derive(Drop)]
 pub struct PrefixMap<V> {
-    entries: Vec<(Prefix, V)>,
+    alloc: Global,
+    trie: Trie<V>,
+    // two for each new prefix that there is room for
+    spare: Vec<Box<Node<V>>>,
+    room: usize,
+    count: usize,
 }
 
 impl<V> Model for PrefixMap<V> {
-    ghost use Rattle.std.specs.Prelude.{◌≡◌, ◌-◌, true};
-    ghost use Rattle.std.specs.Vec.{vec_len, vec_capacity};
+    ghost use Rattle.std.specs.Vec.{vec_len};
     ghost use Rattle.std.specs.Coded.{codes};
     ghost use Rattle.std.specs.FinMap as map;
-    ghost use Rattle.net_types.specs.Keys.{prefix_cmp};
     ghost use Rattle.prefix_map.specs.Held.{Held};
+    ghost use Rattle.prefix_map.specs.Entries.{entries_of};
+    ghost use Rattle.prefix_map.specs.Kept.{IsKept};
 
     ghost Value = { Held V };
 
     ghost coded = { Prim.hlevel (codes, map.code, V.code) };
 
-    ghost view = { λ a. record { map = map.from_sorted a.entries.items; room = vec_capacity a.entries - vec_len a.entries } };
+    ghost view = { λ a. record { map = map.from_sorted (entries_of a.trie); room = a.room } };
 
-    ghost invariant = { λ a. map.is_sorted prefix_cmp a.entries.items ≡ true };
+    ghost invariant = { λ a. IsKept a.trie (vec_len a.spare) a.room a.count };
 }
 
 impl<V> PrefixMap<V> {
@@ -42,29 +48,19 @@ impl<V> PrefixMap<V> {
         ensures { result.map ≡ map.empty }
     {
         PrefixMap {
-            entries: Vec::new(alloc),
+            alloc,
+            trie: Trie::Empty,
+            spare: Vec::new(alloc),
+            room: 0,
+            count: 0,
         }
-    }
-
-    /// Makes room for so many new prefixes. It takes memory only where there is less.
-    pub fn reserve(&mut self, entries: usize) -> Result<(), Memory>
-        ensures map { self.new.map ≡ self.old.map }
-        ensures room { OnOk result (entries ≤ self.new.room) }
-        ensures kept { self.old.room ≤ self.new.room }
-        ensures enough { entries ≤ self.old.room → IsOk result }
-    {
-        self.entries.reserve(entries)?;
-        Ok(())
     }
 
     /// The value of a prefix, where it has one.
     pub fn get(&self, key: Prefix) -> Option<&V>
         ensures { option_copied result ≡ map.get self.now.map key }
     {
-        match place(&self.entries, key) {
-            Ok(at) => Some(&self.entries[at].1),
-            Err(_) => None,
-        }
+        value_of(&self.trie, key)
     }
 
     /// The longest prefix of the map that covers an address, with its value; none where no prefix of the map covers it.
@@ -72,31 +68,43 @@ impl<V> PrefixMap<V> {
         ensures key { option_map (λ entry. entry.0) result ≡ longest_of (map.keys self.now.map) ip }
         ensures value { IfSome result (λ entry. Some entry.1.now ≡ map.get self.now.map entry.0) }
     {
-        for len in (0..33).rev() {
-            let key = start(ip, len);
-            if let Some(value) = self.get(key) {
-                return Some((key, value));
-            }
-        }
-        None
+        longest_in(&self.trie, ip)
     }
 
     /// How many prefixes have a value.
     pub fn len(&self) -> usize
         ensures { result ≡ length (map.entries self.now.map) }
     {
-        self.entries.as_slice().len()
+        self.count
     }
 
     /// The prefixes with their values, ascending by address, and then by length. It takes no memory.
     pub fn iter(&self) -> Iter<'_, V>
         ensures { result ≡ map.entries self.now.map }
     {
-        Iter::new(&self.entries)
+        Iter::new(&self.trie)
     }
 }
 
 impl<V: Drop> PrefixMap<V> {
+    /// Makes room for so many new prefixes. It takes memory only where there is less.
+    pub fn reserve(&mut self, entries: usize) -> Result<(), Memory>
+        ensures map { self.new.map ≡ self.old.map }
+        ensures room { OnOk result (entries ≤ self.new.room) }
+        ensures kept { self.old.room ≤ self.new.room }
+        ensures enough { entries ≤ self.old.room → IsOk result }
+    {
+        if entries <= self.room {
+            return Ok(());
+        }
+        if entries > usize::MAX / 2 || entries > usize::MAX - self.count {
+            return Err(Memory);
+        }
+        fill(self.alloc, &mut self.spare, 2 * entries)?;
+        self.room = entries;
+        Ok(())
+    }
+
     /// Gives a prefix a value, and answers the one before. It takes memory only for a new prefix without room, and
     /// after want of it the map is as it was.
     pub fn insert(&mut self, key: Prefix, value: V) -> Result<Option<V>, Memory>
@@ -119,13 +127,12 @@ impl<V: Drop> PrefixMap<V> {
         ensures map { self.new.map ≡ map.insert self.old.map key value }
         ensures room { self.old.room ≤ self.new.room + (if is_some result then 0 else 1) }
     {
-        match place(&self.entries, key) {
-            Ok(at) => Some(mem::replace(&mut self.entries[at].1, value)),
-            Err(at) => match self.entries.insert(at, (key, value)) {
-                Ok(()) => None,
-                Err(_) => unreachable!(),
-            },
+        let before = put_in(&mut self.trie, &mut self.spare, key, value);
+        if before.is_none() {
+            self.room -= 1;
+            self.count += 1;
         }
+        before
     }
 
     /// Takes a prefix out, and answers its value. There is room for no fewer new prefixes than before.
@@ -134,21 +141,10 @@ impl<V: Drop> PrefixMap<V> {
         ensures map { self.new.map ≡ map.remove self.old.map key }
         ensures room { self.old.room ≤ self.new.room }
     {
-        match place(&self.entries, key) {
-            Ok(at) => Some(self.entries.remove(at).1),
-            Err(_) => None,
+        let before = take_from(&mut self.trie, &mut self.spare, key);
+        if before.is_some() {
+            self.count -= 1;
         }
-    }
-}
-
-// The prefix of the first `len` bits of an address.
-fn start(ip: Ip, len: u8) -> Prefix
-    requires { len < 33 }
-    ensures len { result.len ≡ len }
-    ensures covers { IsTrue (covers result ip) }
-{
-    match Prefix::new(ip, len) {
-        Ok(prefix) => prefix,
-        Err(_) => unreachable!(),
+        before
     }
 }

@@ -1,31 +1,61 @@
-use Rattle.std.proofs.Common.{Some, set, sym, ap, ◌∙◌, arith}
-use Rattle.net_types.specs.declared.prefix.Prefix.{Prefix}
-use Rattle.prefix_map.proofs.SearchLemmas.{get_at, get_gap, set_at, insert_gap, carried, seen}
+use Rattle.std.proofs.Common.{◌≡◌, ◌≤◌, ◌+◌, true, false, not, sym, ap, subst, ◌∙◌, arith, if◌then◌else◌}
+use Rattle.std.specs.Prelude.{is_some}
+use Rattle.std.specs.Vec.{vec_len}
+use Rattle.prefix_map.specs.Entries.{entries_of}
+use Rattle.prefix_map.proofs.MapLemmas.{get_is, insert_is, put_new, put_known, none_of}
 use Rattle.prefix_map.proofs.map.PrefixMap.put.Goals as goal
 
--- the prefix is there, and its value is exchanged
+pub put_in-before-requires-clause-room : goal.put_in-before-requires-clause-room
+put_in-before-requires-clause-room g c = λ none.
+    let is = get_is c.self.inside.trie c.self.invariant.halves c.args.self.now.map (ap (λ s. s.map) c.self.view_is) c.args.key in
+    let some = c.requires (sym is ∙ none) in
+    let room = ap (λ s. s.room) c.self.view_is in
+    let boxes = c.self.invariant.boxes in
+    omega (arith, some, room, boxes)
+
+pub overflow_sub-self : goal.overflow_sub-self
+overflow_sub-self g c =
+    let none : is_some c.put_in-before.result ≡ false = c.is_none.ensures ∙ ap not c.if-is_none.true in
+    let is = get_is c.self.inside.trie c.self.invariant.halves c.args.self.now.map (ap (λ s. s.map) c.self.view_is) c.args.key in
+    let some = c.requires (sym is ∙ sym c.put_in-before.ensures.value ∙ none_of _ none) in
+    let room = ap (λ s. s.room) c.self.view_is in
+    omega (arith, some, room)
+
+pub overflow_add-self : goal.overflow_add-self
+overflow_add-self g c =
+    let none : is_some c.put_in-before.result ≡ false = c.is_none.ensures ∙ ap not c.if-is_none.true in
+    let is = get_is c.self.inside.trie c.self.invariant.halves c.args.self.now.map (ap (λ s. s.map) c.self.view_is) c.args.key in
+    let some = c.requires (sym is ∙ sym c.put_in-before.ensures.value ∙ none_of _ none) in
+    let room = ap (λ s. s.room) c.self.view_is in
+    let fits = c.self.invariant.fits in
+    omega (arith, some, room, fits)
+
 pub invariant_of-self : goal.invariant_of-self
-invariant_of-self g c = (carried (λ i. set c.self.inside.entries.items c.in-Ok.at ((c.index_mut.ensures.value i).0, c.replace.ensures.after i)) (set_at c.deref.ensures.value (seen c.self.invariant c.self.view_is) c.in-Ok.ensures.found c.index_mut.result.now c.args.value)).sorted
+invariant_of-self g c =
+    let none : is_some c.put_in-before.result ≡ false = c.is_none.ensures ∙ ap not c.if-is_none.true in
+    let is = get_is c.self.inside.trie c.self.invariant.halves c.args.self.now.map (ap (λ s. s.map) c.self.view_is) c.args.key in
+    let some = c.requires (sym is ∙ sym c.put_in-before.ensures.value ∙ none_of _ none) in
+    let room = ap (λ s. s.room) c.self.view_is in
+    put_new c.self.inside.trie c.put_in-before.new.trie c.args.key (vec_len c.self.inside.spare) (vec_len c.put_in-before.new.spare) c.self.inside.room c.self.inside.count c.self.invariant c.put_in-before.ensures.halves c.args.value c.put_in-before.ensures.entries
+    (ap is_some (sym c.put_in-before.ensures.value) ∙ none)
+    (subst (λ b. vec_len c.self.inside.spare ≤ vec_len c.put_in-before.new.spare + (if b then 0 else 2)) none c.put_in-before.ensures.room)
+    (omega (arith, some, room))
 
-pub returns-in-Ok-clause-value : goal.returns-in-Ok-clause-value
-returns-in-Ok-clause-value g c =
-    ap Some (c.replace.ensures.value ∙ ap (λ (e : Prefix × g.row.V.Denot). e.1) c.index_mut.ensures.value) ∙ sym (get_at c.deref.ensures.value (seen c.self.invariant c.self.view_is) c.in-Ok.ensures.found c.index_mut.result.now)
+pub invariant_of-self-else-is_none : goal.invariant_of-self-else-is_none
+invariant_of-self-else-is_none g c =
+    let some : is_some c.put_in-before.result ≡ true = c.is_none.ensures ∙ ap not c.if-is_none.false in
+    put_known c.self.inside.trie c.put_in-before.new.trie c.args.key (vec_len c.self.inside.spare) (vec_len c.put_in-before.new.spare) c.self.inside.room c.self.inside.count c.self.invariant c.put_in-before.ensures.halves c.args.value c.put_in-before.ensures.entries
+    (ap is_some (sym c.put_in-before.ensures.value) ∙ some)
+    (subst (λ b. vec_len c.self.inside.spare ≤ vec_len c.put_in-before.new.spare + (if b then 0 else 2)) some c.put_in-before.ensures.room)
 
-pub returns-in-Ok-clause-map : goal.returns-in-Ok-clause-map
-returns-in-Ok-clause-map g c = (carried (λ i. set c.self.inside.entries.items c.in-Ok.at ((c.index_mut.ensures.value i).0, c.replace.ensures.after i)) (set_at c.deref.ensures.value (seen c.self.invariant c.self.view_is) c.in-Ok.ensures.found c.index_mut.result.now c.args.value)).are
+pub returns-then-is_none-clause-value : goal.returns-then-is_none-clause-value
+returns-then-is_none-clause-value g c = c.put_in-before.ensures.value ∙ get_is c.self.inside.trie c.self.invariant.halves c.args.self.now.map (ap (λ s. s.map) c.self.view_is) c.args.key
 
--- the prefix is new, and there is room
-pub unreachable-requires : goal.unreachable-requires
-unreachable-requires g c =
-    let room = c.requires (get_gap c.deref.ensures.value (seen c.self.invariant c.self.view_is) c.in-Err.ensures.absent) in
-    let spare = ap (λ s. s.room) c.self.view_is in
-    omega (arith, room, spare, c.in-Err-insert.ensures.full)
+pub returns-then-is_none-clause-map : goal.returns-then-is_none-clause-map
+returns-then-is_none-clause-map g c = insert_is c.self.inside.trie c.self.invariant.halves c.args.self.now.map (ap (λ s. s.map) c.self.view_is) c.args.key c.args.value (entries_of c.put_in-before.new.trie) c.put_in-before.ensures.entries
 
-pub invariant_of-self-in-Err : goal.invariant_of-self-in-Err
-invariant_of-self-in-Err g c = (carried c.in-Ok-insert.ensures.items (insert_gap c.deref.ensures.value (seen c.self.invariant c.self.view_is) c.in-Err.ensures.absent c.args.value)).sorted
+pub returns-else-is_none-clause-value : goal.returns-else-is_none-clause-value
+returns-else-is_none-clause-value g c = c.put_in-before.ensures.value ∙ get_is c.self.inside.trie c.self.invariant.halves c.args.self.now.map (ap (λ s. s.map) c.self.view_is) c.args.key
 
-pub returns-in-Ok-insert-clause-value : goal.returns-in-Ok-insert-clause-value
-returns-in-Ok-insert-clause-value g c = sym (get_gap c.deref.ensures.value (seen c.self.invariant c.self.view_is) c.in-Err.ensures.absent)
-
-pub returns-in-Ok-insert-clause-map : goal.returns-in-Ok-insert-clause-map
-returns-in-Ok-insert-clause-map g c = (carried c.in-Ok-insert.ensures.items (insert_gap c.deref.ensures.value (seen c.self.invariant c.self.view_is) c.in-Err.ensures.absent c.args.value)).are
+pub returns-else-is_none-clause-map : goal.returns-else-is_none-clause-map
+returns-else-is_none-clause-map g c = insert_is c.self.inside.trie c.self.invariant.halves c.args.self.now.map (ap (λ s. s.map) c.self.view_is) c.args.key c.args.value (entries_of c.put_in-before.new.trie) c.put_in-before.ensures.entries

@@ -1,19 +1,30 @@
-use Rattle.std.proofs.Common.{Some, sym, ap, ◌∙◌}
-use Rattle.net_types.specs.declared.prefix.Prefix.{Prefix}
-use Rattle.prefix_map.proofs.SearchLemmas.{get_at, get_gap, remove_at, remove_gap, carried, seen}
+use Rattle.std.proofs.Common.{◌≡◌, true, false, sym, ap, ◌∙◌}
+use Rattle.std.specs.Prelude.{is_some}
+use Rattle.std.specs.Vec.{vec_len}
+use Rattle.prefix_map.specs.Entries.{entries_of}
+use Rattle.prefix_map.proofs.MapLemmas.{get_is, remove_is, took_known, took_none}
 use Rattle.prefix_map.proofs.map.PrefixMap.remove.Goals as goal
 
 pub invariant_of-self : goal.invariant_of-self
-invariant_of-self g c = (carried c.remove.ensures.items (remove_at c.deref.ensures.value (seen c.self.invariant c.self.view_is) c.in-Ok.ensures.found c.remove.result)).sorted
+invariant_of-self g c =
+    let some : is_some c.take_from-before.result ≡ true = sym c.is_some.ensures ∙ c.if-is_some.true in
+    took_known c.self.inside.trie c.take_from-before.new.trie c.args.key (vec_len c.self.inside.spare) (vec_len c.take_from-before.new.spare) c.self.inside.room c.self.inside.count c.self.invariant c.take_from-before.ensures.halves c.take_from-before.ensures.entries
+    (ap is_some (sym c.take_from-before.ensures.value) ∙ some) c.take_from-before.ensures.room
 
-pub returns-in-Ok-clause-value : goal.returns-in-Ok-clause-value
-returns-in-Ok-clause-value g c = ap (λ (e : Prefix × g.row.V.Denot). Some e.1) c.remove.ensures.value ∙ sym (get_at c.deref.ensures.value (seen c.self.invariant c.self.view_is) c.in-Ok.ensures.found c.remove.result)
+pub invariant_of-self-else-is_some : goal.invariant_of-self-else-is_some
+invariant_of-self-else-is_some g c =
+    let none : is_some c.take_from-before.result ≡ false = sym c.is_some.ensures ∙ c.if-is_some.false in
+    took_none c.self.inside.trie c.take_from-before.new.trie c.args.key (vec_len c.self.inside.spare) (vec_len c.take_from-before.new.spare) c.self.inside.room c.self.inside.count c.self.invariant c.take_from-before.ensures.halves c.take_from-before.ensures.entries
+    (ap is_some (sym c.take_from-before.ensures.value) ∙ none) c.take_from-before.ensures.room
 
-pub returns-in-Ok-clause-map : goal.returns-in-Ok-clause-map
-returns-in-Ok-clause-map g c = (carried c.remove.ensures.items (remove_at c.deref.ensures.value (seen c.self.invariant c.self.view_is) c.in-Ok.ensures.found c.remove.result)).are
+pub returns-then-is_some-clause-value : goal.returns-then-is_some-clause-value
+returns-then-is_some-clause-value g c = c.take_from-before.ensures.value ∙ get_is c.self.inside.trie c.self.invariant.halves c.args.self.now.map (ap (λ s. s.map) c.self.view_is) c.args.key
 
-pub returns-in-Err-clause-value : goal.returns-in-Err-clause-value
-returns-in-Err-clause-value g c = sym (get_gap c.deref.ensures.value (seen c.self.invariant c.self.view_is) c.in-Err.ensures.absent)
+pub returns-then-is_some-clause-map : goal.returns-then-is_some-clause-map
+returns-then-is_some-clause-map g c = remove_is c.self.inside.trie c.self.invariant.halves c.args.self.now.map (ap (λ s. s.map) c.self.view_is) c.args.key (entries_of c.take_from-before.new.trie) c.take_from-before.ensures.entries
 
-pub returns-in-Err-clause-map : goal.returns-in-Err-clause-map
-returns-in-Err-clause-map g c = remove_gap c.deref.ensures.value (seen c.self.invariant c.self.view_is) c.in-Err.ensures.absent
+pub returns-else-is_some-clause-value : goal.returns-else-is_some-clause-value
+returns-else-is_some-clause-value g c = c.take_from-before.ensures.value ∙ get_is c.self.inside.trie c.self.invariant.halves c.args.self.now.map (ap (λ s. s.map) c.self.view_is) c.args.key
+
+pub returns-else-is_some-clause-map : goal.returns-else-is_some-clause-map
+returns-else-is_some-clause-map g c = remove_is c.self.inside.trie c.self.invariant.halves c.args.self.now.map (ap (λ s. s.map) c.self.view_is) c.args.key (entries_of c.take_from-before.new.trie) c.take_from-before.ensures.entries

@@ -1,0 +1,147 @@
+//! The map of prefixes beside a plain list of entries.
+
+use net_types::{Ip, Memory, Prefix};
+use prefix_map::PrefixMap;
+use std::mem;
+use std::test::Fail;
+
+/// Entries in no order.
+#[derive(Drop)]
+struct SlowMap {
+    entries: Vec<(Prefix, u32)>,
+}
+
+impl SlowMap {
+    fn get(&self, key: Prefix) -> Option<u32> {
+        for entry in &self.entries {
+            if entry.0 == key {
+                return Some(entry.1);
+            }
+        }
+        None
+    }
+
+    fn insert(&mut self, key: Prefix, value: u32) -> Result<Option<u32>, Memory> {
+        for entry in &mut self.entries {
+            if entry.0 == key {
+                return Ok(Some(mem::replace(&mut entry.1, value)));
+            }
+        }
+        self.entries.push((key, value))?;
+        Ok(None)
+    }
+
+    fn remove(&mut self, key: Prefix) -> Option<u32> {
+        let mut at = 0;
+        for entry in &self.entries {
+            if entry.0 == key {
+                break;
+            }
+            at += 1;
+        }
+        if at < self.entries.len() {
+            return Some(self.entries.swap_remove(at).1);
+        }
+        None
+    }
+
+    fn longest(&self, ip: Ip) -> Option<(Prefix, u32)> {
+        let mut best: Option<(Prefix, u32)> = None;
+        for entry in &self.entries {
+            if entry.0.covers(ip) {
+                best = longer(best, *entry);
+            }
+        }
+        best
+    }
+
+    fn next_after(&self, key: Prefix) -> Option<(Prefix, u32)> {
+        let mut best: Option<(Prefix, u32)> = None;
+        for entry in &self.entries {
+            if entry.0 > key {
+                best = least(best, *entry);
+            }
+        }
+        best
+    }
+}
+
+fn longer(best: Option<(Prefix, u32)>, entry: (Prefix, u32)) -> Option<(Prefix, u32)> {
+    match best {
+        Some(known) if known.0.len >= entry.0.len => Some(known),
+        _ => Some(entry),
+    }
+}
+
+fn least(best: Option<(Prefix, u32)>, entry: (Prefix, u32)) -> Option<(Prefix, u32)> {
+    match best {
+        Some(known) if known.0 <= entry.0 => Some(known),
+        _ => Some(entry),
+    }
+}
+
+// The next number of a linear congruential generator.
+fn next(seed: u32) -> u32 {
+    seed.wrapping_mul(1664525).wrapping_add(1013904223)
+}
+
+// Addresses that share their first bits, and lengths of every kind.
+fn some_prefix(seed: u32) -> Prefix {
+    let near = (seed >> 8) % 4 * 0x4000_0000 + (seed >> 10) % 8;
+    let ip = if seed >> 31 == 0 { Ip(near) } else { Ip(0xffff_fff8 | (seed >> 10) % 8) };
+    let len = if (seed >> 20) % 2 == 0 { (seed >> 13) % 33 } else { 28 + (seed >> 13) % 5 };
+    match u8::try_from(len) {
+        Ok(len) => match Prefix::new(ip, len) {
+            Ok(prefix) => prefix,
+            Err(_) => Prefix::any(),
+        },
+        Err(_) => Prefix::any(),
+    }
+}
+
+fn same_entries(map: &PrefixMap<u32>, slow: &SlowMap) -> bool {
+    let mut count = 0usize;
+    let mut last: Option<Prefix> = None;
+    for (key, value) in map.iter() {
+        if slow.get(key) != Some(*value) {
+            return false;
+        }
+        if let Some(before) = last {
+            if slow.next_after(before) != Some((key, *value)) {
+                return false;
+            }
+        }
+        last = Some(key);
+        count = count.saturating_add(1);
+    }
+    count == slow.entries.len()
+}
+
+#[test]
+fn prefixes_answer_as_a_list(rt: HostRuntime) -> Result<(), Fail> {
+    let mut map: PrefixMap<u32> = PrefixMap::new(rt.alloc());
+    let mut slow = SlowMap {
+        entries: Vec::new(rt.alloc()),
+    };
+    let mut seed = 20201;
+    for round in 0..6000u32 {
+        seed = next(seed);
+        let key = some_prefix(seed);
+        seed = next(seed);
+        let removing = if round / 1000 % 2 == 0 { 3 } else { 7 };
+        if (seed >> 8) % 10 < removing {
+            assert!(rt; map.remove(key) == slow.remove(key));
+        } else {
+            assert!(rt; map.insert(key, round).is_ok_and(|before| slow.insert(key, round).is_ok_and(|other| before == other)));
+        }
+        assert!(rt; map.get(key).copied() == slow.get(key));
+        assert!(rt; map.len() == slow.entries.len());
+        seed = next(seed);
+        let ip = some_prefix(seed).address;
+        assert!(rt; map.longest(ip).map(|entry| (entry.0, *entry.1)) == slow.longest(ip));
+        if round % 50 == 0 {
+            assert!(rt; same_entries(&map, &slow));
+        }
+    }
+    Ok(())
+}
