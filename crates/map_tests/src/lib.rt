@@ -4,4 +4,6 @@
 #[cfg(test)]
 mod beside_a_list;
 #[cfg(test)]
+mod changes;
+#[cfg(test)]
 mod large;
