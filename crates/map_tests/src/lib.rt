@@ -4,6 +4,8 @@
 #[cfg(test)]
 mod beside_a_list;
 #[cfg(test)]
+mod changes;
+#[cfg(test)]
 mod large;
 #[cfg(test)]
 mod prefixes;

@@ -1,5 +1,5 @@
 -- What a table is whose entries rise, and what an edit of the entries does to it.
-use Rattle.std.proofs.Common.{◌≡◌, ℕ, ◌+◌, ◌-◌, ◌≤◌, Bool, true, false, cond, List, [], length, sym, ap, ◌∙◌, refl, arith}
+use Rattle.std.proofs.Common.{◌≡◌, ℕ, ◌+◌, ◌-◌, ◌≤◌, Bool, true, cond, List, [], length, sym, ap, subst, ◌∙◌, refl, arith}
 use Rattle.std.specs.Prelude.{Option, unwrap_or}
 use Rattle.std.specs.FinMap.{entries, get, insert, remove, from_sorted}
 use Rattle.std.specs.FinMap.Entries.{find, is_sorted, put}
@@ -86,10 +86,5 @@ module _ (es : List (Pair × List Rule)) (rules room capacity : ℕ) (kept : IsK
 
 -- ---- room
 
-pub room_put : (cap len cap' len' room : ℕ) (b : Bool) → cap - len ≡ room → cap ≤ cap' → len' ≡ len + cond b 0 1 → room ≤ cap' - len' + cond b 0 1
-room_put cap len cap' len' room true r c l = omega arith
-room_put cap len cap' len' room false r c l = omega arith
-
-pub room_without : (cap len cap' len' room : ℕ) (b : Bool) → cap - len ≡ room → cap' ≡ cap → len' + cond b 1 0 ≡ len → len ≤ cap → room + cond b 1 0 ≤ cap' - len'
-room_without cap len cap' len' room true r c l fits = omega arith
-room_without cap len cap' len' room false r c l fits = omega arith
+pub room_put : (held room after : ℕ) (b c : Bool) → held ≡ room → b ≡ c → held ≤ after + cond b 0 1 → room ≤ after + cond c 0 1
+room_put held room after b c same tie enough = subst (λ n. n ≤ after + cond c 0 1) same (subst (λ x. held ≤ after + cond x 0 1) tie enough)

@@ -1,20 +1,18 @@
 //! Blocks that are put into the table and taken out of it.
 
-ghost use Rattle.std.specs.Prelude.{◌≡◌, ◌≤◌, ◌<◌, ◌+◌, ◌^◌, List, length, find, slice_get, None, IsTrue, IsErr, IfErr, OnOk, OnErr, option_copied, is_some, if◌then◌else◌};
+ghost use Rattle.std.specs.Prelude.{◌≡◌, ◌≤◌, ◌<◌, ◌+◌, ◌^◌, List, length, find, None, IsTrue, IsErr, IfErr, OnOk, OnErr, option_copied, is_some, if◌then◌else◌};
+ghost use Rattle.std.specs.Borrow.{Bor};
 ghost use Rattle.std.specs.FinMap as map;
-ghost use Rattle.std.specs.FinMap.{is_sorted};
 ghost use Rattle.std.specs.Option.{option_map};
-ghost use Rattle.net_types.specs.Keys.{pair_cmp};
 ghost use Rattle.net_types.specs.declared.rule.Pair.{Pair};
 ghost use Rattle.net_types.specs.declared.rule.Rule.{Rule};
 ghost use Rattle.block_build.specs.Installed.{count_at, rule_count};
-ghost use Rattle.match_switch.specs.Installed.{IsOver, IsPutFault, is_past, pairs_in, pairs_of};
+ghost use Rattle.match_switch.specs.Installed.{IsOver, IsPutFault, is_past, pairs_of};
 
 use crate::fault::PutFault;
 use crate::switch::Switch;
 use block_build::{Block, Blocks};
 use net_types::{Items, Pair, Rule};
-use sorted_map::place;
 
 impl Switch {
     /// The rules of a pair become these, where there is room for them. Else the table is as it was.
@@ -56,30 +54,19 @@ impl Switch {
         ensures { result ≡ find (is_past after) (pairs_of self.now.table) }
     {
         match after {
-            None => pair_at(&self.entries, 0),
-            Some(pair) => pair_past(&self.entries, &pair),
+            None => pair_of(self.entries.first()),
+            Some(pair) => pair_of(self.entries.next_after(&pair)),
         }
     }
 }
 
-/// The pair at a place, where there is one.
-fn pair_at(entries: &[(Pair, Items<Rule>)], at: usize) -> Option<Pair>
-    ensures { result ≡ option_map (λ (entry : Pair × List Rule). entry.0) (slice_get entries.now at) }
+/// The pair of an entry.
+fn pair_of(found: Option<(&Pair, &Items<Rule>)>) -> Option<Pair>
+    ensures { result ≡ option_map (λ (e : Bor Pair × Bor (List Rule)). e.0.now) found.entry }
 {
-    match entries.get(at) {
+    match found {
         None => None,
-        Some(entry) => Some(entry.0),
-    }
-}
-
-/// The first pair that is greater than this one.
-fn pair_past(entries: &[(Pair, Items<Rule>)], pair: &Pair) -> Option<Pair>
-    requires { IsTrue (is_sorted pair_cmp entries.now) }
-    ensures { result ≡ find (is_past (Some pair.now)) (pairs_in entries.now) }
-{
-    match place(entries, pair) {
-        Ok(at) => pair_at(entries, at + 1),
-        Err(at) => pair_at(entries, at),
+        Some((pair, _)) => Some(*pair),
     }
 }
 

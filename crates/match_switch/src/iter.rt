@@ -6,32 +6,28 @@ ghost use Rattle.std.specs.Map.Iter.{TakesFirst};
 
 use net_types::{Items, Pair, Rule};
 use std::marker::Model;
-use std::slice;
 
 /// The pairs that are left with their rules, ascending by port, and then by tag.
 #[derive(Drop)]
 pub struct Iter<'a> {
-    entries: slice::Iter<'a, (Pair, Items<Rule>)>,
+    entries: ordered_map::Iter<'a, Pair, Items<Rule>>,
 }
 
 impl<'a> Model for Iter<'a> {
     ghost use Rattle.std.specs.Prelude.{List};
-    ghost use Rattle.std.specs.Slice.Iter.{iter_rest};
     ghost use Rattle.net_types.specs.declared.rule.Pair.{Pair};
     ghost use Rattle.net_types.specs.declared.rule.Rule.{Rule};
 
     ghost Value = { List (Pair × List Rule) };
 
-    ghost view = { λ a. iter_rest a.entries };
+    ghost view = { λ a. a.entries };
 }
 
 impl<'a> Iter<'a> {
-    pub(crate) fn new(entries: &'a [(Pair, Items<Rule>)]) -> Iter<'a>
-        ensures { result ≡ entries.now }
+    pub(crate) fn new(entries: ordered_map::Iter<'a, Pair, Items<Rule>>) -> Iter<'a>
+        ensures { result ≡ entries.entry }
     {
-        Iter {
-            entries: entries.iter(),
-        }
+        Iter { entries }
     }
 }
 

@@ -1,4 +1,4 @@
-//! The table, over a vector of pairs and their rules, in which the pairs rise.
+//! The table, over an ordered map from pairs to their rules.
 
 ghost use Rattle.std.specs.Prelude.{◌≡◌, ◌≤◌, ◌<◌, ◌+◌, ◌++◌, ◌^◌, [], length, None, IsOk, OnOk, IfOk, option_copied, is_some, unwrap_or, if◌then◌else◌};
 ghost use Rattle.std.specs.FinMap as map;
@@ -9,7 +9,7 @@ ghost use Rattle.block_build.specs.Installed.{count_at, rule_count};
 use crate::iter::Iter;
 use events::{Flow, Flows};
 use net_types::{Items, Memory, Pair, Rule, TryCopy};
-use sorted_map::{put_reserved, take_out, value_at};
+use ordered_map::OrderedMap;
 use std::alloc::Global;
 use std::marker::Model;
 
@@ -17,15 +17,13 @@ use std::marker::Model;
 /// how many new pairs go in without memory, and the capacity.
 #[derive(Drop)]
 pub struct Switch {
-    pub(crate) entries: Vec<(Pair, Items<Rule>)>,
+    pub(crate) entries: OrderedMap<Pair, Items<Rule>>,
     /// How many rules there are.
     rules: usize,
     pub(crate) capacity: usize,
 }
 
 impl Model for Switch {
-    ghost use Rattle.std.specs.Prelude.{◌-◌};
-    ghost use Rattle.std.specs.Vec.{vec_len, vec_capacity};
     ghost use Rattle.std.specs.Coded.{codes};
     ghost use Rattle.std.specs.FinMap as map;
     ghost use Rattle.block_build.specs.Installed.{Installed};
@@ -35,7 +33,7 @@ impl Model for Switch {
 
     ghost coded = { Prim.hlevel (codes, map.code) };
 
-    ghost view = { λ a. record { table = map.from_sorted a.entries.items; room = vec_capacity a.entries - vec_len a.entries; capacity = a.capacity } };
+    ghost view = { λ a. record { table = map.from_sorted a.entries.items; room = a.entries.room; capacity = a.capacity } };
 
     ghost invariant = { λ a. IsKept a.entries.items a.rules };
 }
@@ -47,7 +45,7 @@ impl Switch {
         ensures capacity { result.capacity ≡ capacity }
     {
         Switch {
-            entries: Vec::new(alloc),
+            entries: OrderedMap::new(alloc),
             rules: 0,
             capacity,
         }
@@ -78,7 +76,7 @@ impl Switch {
     pub fn rules_of(&self, pair: Pair) -> Option<&[Rule]>
         ensures { option_copied result ≡ map.get self.now.table pair }
     {
-        match value_at(&self.entries, &pair) {
+        match self.entries.get(&pair) {
             Some(rules) => Some(rules.items()),
             None => None,
         }
@@ -106,7 +104,7 @@ impl Switch {
         ensures count { rule_count self.new.table + count_at self.old.table pair ≡ rule_count self.old.table + length rules }
     {
         let added = rules.len();
-        let before = put_reserved(&mut self.entries, pair, rules);
+        let before = self.entries.put(pair, rules);
         self.rules = self.rules - count(before) + added;
     }
 
@@ -115,7 +113,7 @@ impl Switch {
         ensures count { result ≡ count_at self.now.table pair }
         ensures within { result ≤ rule_count self.now.table }
     {
-        match value_at(&self.entries, &pair) {
+        match self.entries.get(&pair) {
             None => 0,
             Some(rules) => rules.len(),
         }
@@ -128,7 +126,7 @@ impl Switch {
         ensures room { self.old.room ≤ self.new.room }
         ensures count { rule_count self.new.table + count_at self.old.table pair ≡ rule_count self.old.table }
     {
-        let before = take_out(&mut self.entries, &pair);
+        let before = self.entries.remove(&pair);
         self.rules -= count(before);
     }
 
@@ -136,7 +134,7 @@ impl Switch {
     pub fn iter(&self) -> Iter<'_>
         ensures { result ≡ map.entries self.now.table }
     {
-        Iter::new(&self.entries)
+        Iter::new(self.entries.iter())
     }
 
     /// Copies of all rules, by port, tag and order. Memory is the only refusal.

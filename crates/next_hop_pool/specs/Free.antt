@@ -51,7 +51,7 @@ all_free base size = record { base = base; taken = replicate size false }
 abbrev pub address_of : Tags → Tag → Ip
 address_of p t = record { 0 = p.base.0 + t.0 }
 
--- The pool's invariant: all addresses are below 2 ^ 32, no tag below the mark is free, and the free ones are counted.
+-- what is kept of a pool: all addresses are below 2 ^ 32, no tag below the mark is free, and the free ones are counted.
 pub record IsKept (base : ℕ) (taken : List Bool) (least free : ℕ) : Type 0 where
   pub small : length taken ≤ 65536
   pub within : base + length taken < 4294967296

@@ -4,7 +4,7 @@ ghost use Rattle.std.specs.Prelude.{◌≡◌, ◌≢◌, [], ◌≤◌, ◌<◌
 ghost use Rattle.net_types.specs.declared.address.Tag.{Tag};
 ghost use Rattle.next_hop_pool.specs.Free.{free_tags, is_above, IsTag, is_taken, marked, all_free, address_of};
 
-use crate::place::first_free;
+use crate::place::{RUN, first_free};
 use net_types::{Ip, Memory, Tag};
 use std::alloc::Global;
 use std::marker::Model;
@@ -15,19 +15,22 @@ pub struct Pool {
     base: u32,
     // Tag 1 stands at place 0.
     taken: Vec<bool>,
+    // Where a run of places is marked, all of them are taken.
+    full: Vec<bool>,
     // The tags of all places below are taken.
     least: usize,
     free: u32,
 }
 
 impl Model for Pool {
-    ghost use Rattle.next_hop_pool.specs.Free.{Tags, IsKept};
+    ghost use Rattle.next_hop_pool.specs.Free.{Tags};
+    ghost use Rattle.next_hop_pool.specs.Runs.{IsHeld};
 
     ghost Value = { Tags };
 
     ghost view = { λ a. record { base = record { 0 = a.base }; taken = a.taken.items } };
 
-    ghost invariant = { λ a. IsKept a.base a.taken.items a.least a.free };
+    ghost invariant = { λ a. IsHeld a.base a.taken.items a.full.items a.least a.free };
 }
 
 impl Pool {
@@ -38,6 +41,7 @@ impl Pool {
         Pool {
             base: 0,
             taken: Vec::new(alloc),
+            full: Vec::new(alloc),
             least: 0,
             free: 0,
         }
@@ -51,9 +55,11 @@ impl Pool {
         ensures { IfOk result (λ pool. pool ≡ all_free base size) }
     {
         let taken = vec![in alloc; false; size as usize]?;
+        let full = vec![in alloc; false; size as usize / RUN + 1]?;
         Ok(Pool {
             base: base.0,
             taken,
+            full,
             least: 0,
             free: size,
         })
@@ -65,11 +71,12 @@ impl Pool {
         ensures within { IfSome result (IsTag self.old) }
         ensures after { MatchOption result (self.new ≡ self.old) (λ t. self.new ≡ marked self.old t true) }
     {
-        let at = first_free(self.taken.as_slice(), self.least);
+        let at = first_free(self.taken.as_slice(), self.full.as_slice(), self.least);
         if at < self.taken.len() {
             self.taken[at] = true;
             self.least = at + 1;
             self.free -= 1;
+            self.mark_run(at);
             return Some(Tag(at as u32 + 1));
         }
         self.least = at;
@@ -95,6 +102,7 @@ impl Pool {
         let at = (tag.0 - 1) as usize;
         self.taken[at] = true;
         self.free -= 1;
+        self.mark_run(at);
     }
 
     /// Gives a taken tag back.
@@ -105,6 +113,7 @@ impl Pool {
     {
         let at = (tag.0 - 1) as usize;
         self.taken[at] = false;
+        self.full[at / RUN] = false;
         self.least = self.least.min(at);
         self.free += 1;
     }
@@ -147,12 +156,24 @@ impl Pool {
         None
     }
 
+    // Marks the run of a place, where all its places are taken.
+    fn mark_run(&mut self, at: usize)
+        requires { at < length self.old.taken }
+        ensures { self.new ≡ self.old }
+    {
+        let run = at / RUN;
+        let from = self.least.max(run * RUN);
+        if first_free(self.taken.as_slice(), self.full.as_slice(), from) >= run * RUN + RUN {
+            self.full[run] = true;
+        }
+    }
+
     // The least free tag with a greater number.
     fn free_above(&self, number: usize) -> Option<Tag>
         ensures { (p : Tag → Bool) → ((t : Tag) → 0 < t.0 → t.0 ≤ number → p t ≡ false) → ((t : Tag) → number < t.0 → p t ≡ true) → result ≡ find p (free_tags self.now) }
     {
         let from = self.least.max(number);
-        let at = first_free(self.taken.as_slice(), from);
+        let at = first_free(self.taken.as_slice(), self.full.as_slice(), from);
         if at < self.taken.len() {
             return Some(Tag(at as u32 + 1));
         }

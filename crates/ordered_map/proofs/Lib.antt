@@ -1,3 +1,4 @@
 pub mod CountLemmas
 pub mod SplitLemmas
 pub mod WalkLemmas
+pub mod ChangeLemmas

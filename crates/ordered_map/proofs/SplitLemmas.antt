@@ -23,7 +23,7 @@ turned o x y r e = o.antisymm y x ∙ ap ordering_reverse e
 
 module _ {K X : Type 0} (R : K → K → Ordering) where
   -- the key is greater than each of these
-  abbrev IsPast : K → List (K × X) → Type 0
+  abbrev pub IsPast : K → List (K × X) → Type 0
   IsPast q [] = Unit {0}
   IsPast q (e ∷ es) = (R q e.0 ≡ Greater) × IsPast q es
 
@@ -140,13 +140,13 @@ module _ {K X : Type 0} (R : K → K → Ordering) where
 
   module _ (o : IsTotalOrder R) where
     -- a key that is not smaller than an entry is greater than all before it
-    past_smaller : (q : K) (l : List (K × X)) (e : K × X) (r : List (K × X)) → is_sorted R (l ++ e ∷ r) ≡ true → R q e.0 ≡ Greater → IsPast q l
+    pub past_smaller : (q : K) (l : List (K × X)) (e : K × X) (r : List (K × X)) → is_sorted R (l ++ e ∷ r) ≡ true → R q e.0 ≡ Greater → IsPast q l
     past_smaller q [] e r h more = tt
     past_smaller q (f ∷ l) e r h more =
         let parts = and_parts (below_all R f.0 (l ++ e ∷ r)) (is_sorted R (l ++ e ∷ r)) h in
         (turned o f.0 q Less (o.trans f.0 e.0 q (below_entry f.0 l e r parts.0) (turned o q e.0 Greater more)), past_smaller q l e r parts.1 more)
 
-    past_tied : (q : K) (l : List (K × X)) (e : K × X) (r : List (K × X)) → is_sorted R (l ++ e ∷ r) ≡ true → R q e.0 ≡ Equal → IsPast q l
+    pub past_tied : (q : K) (l : List (K × X)) (e : K × X) (r : List (K × X)) → is_sorted R (l ++ e ∷ r) ≡ true → R q e.0 ≡ Equal → IsPast q l
     past_tied q [] e r h tie = tt
     past_tied q (f ∷ l) e r h tie =
         let parts = and_parts (below_all R f.0 (l ++ e ∷ r)) (is_sorted R (l ++ e ∷ r)) h in
@@ -158,7 +158,7 @@ module _ {K X : Type 0} (R : K → K → Ordering) where
         let parts = and_parts (is_lt (R x e.0)) (below_all R x es) h in
         both _ _ (ap is_lt (o.trans q x e.0 low (less _ parts.0))) (below_smaller q x es low parts.1)
 
-    below_tied : (q x : K) (es : List (K × X)) → R q x ≡ Equal → below_all R x es ≡ true → below_all R q es ≡ true
+    pub below_tied : (q x : K) (es : List (K × X)) → R q x ≡ Equal → below_all R x es ≡ true → below_all R q es ≡ true
     below_tied q x [] tie h = refl
     below_tied q x (e ∷ es) tie h =
         let parts = and_parts (is_lt (R x e.0)) (below_all R x es) h in

@@ -5,7 +5,7 @@ ghost use Rattle.std.specs.Iterator.{at_most};
 ghost use Rattle.std.specs.Option.{option_map};
 ghost use Rattle.std.specs.Map.Iter.{TakesFirst, deref_pair};
 ghost use Rattle.std.specs.FinMap.Entries.{is_sorted};
-ghost use Rattle.ordered_map.specs.Entries.{entries_of, head_of};
+ghost use Rattle.ordered_map.specs.Entries.{above, entries_of, head_of};
 
 use crate::tree::{Tree, first, next_after};
 use std::marker::Model;
@@ -36,6 +36,16 @@ impl<'a, K: Ord, V> Iter<'a, K, V> {
         ensures { result ≡ entries_of tree.now }
     {
         Iter { tree, last: None }
+    }
+
+    pub(crate) fn after(tree: &'a Tree<K, V>, key: &'a K) -> Iter<'a, K, V>
+        requires rising { IsTrue (is_sorted K.cmp (entries_of tree.now)) }
+        ensures { result ≡ above K.cmp key.now (entries_of tree.now) }
+    {
+        Iter {
+            tree,
+            last: Some(key),
+        }
     }
 
     fn ahead(&self) -> Option<(&'a K, &'a V)>

@@ -7,6 +7,8 @@ mod iter;
 mod map;
 mod spare;
 mod tree;
+mod values;
 
 pub use iter::Iter;
 pub use map::OrderedMap;
+pub use values::Change;

@@ -4,12 +4,14 @@ ghost use Rattle.std.specs.Prelude.{◌≡◌, ◌≤◌, ◌<◌, ◌+◌, [], 
 ghost use Rattle.std.specs.Option.{option_map};
 ghost use Rattle.std.specs.Map.Iter.{deref_pair};
 ghost use Rattle.std.specs.FinMap.Entries.{find, put, is_sorted};
+ghost use Rattle.ordered_map.specs.Changes.{changed_all, changed_at};
 ghost use Rattle.ordered_map.specs.Entries.{without, above, head_of};
 
 use crate::change::{put_in, take_from};
 use crate::iter::Iter;
 use crate::spare::fill;
 use crate::tree::{Node, Tree, first, next_after, value_of};
+use crate::values::{Change, change_all, change_at};
 use std::alloc::{AllocError, Global};
 use std::marker::Model;
 
@@ -86,6 +88,31 @@ impl<K: Ord, V> OrderedMap<K, V> {
         ensures { result ≡ self.now.items }
     {
         Iter::new(&self.tree)
+    }
+
+    /// The entries with keys above this one, in their order. The key itself need not have a value.
+    pub fn iter_after<'a>(&'a self, key: &'a K) -> Iter<'a, K, V>
+        ensures { result ≡ above K.cmp key.now self.now.items }
+    {
+        Iter::after(&self.tree, key)
+    }
+
+    /// Changes the value of a key in its place, where it has one.
+    pub fn change<C: Change<V>>(&mut self, key: &K, change: &C)
+        ensures items { self.new.items ≡ changed_at K.cmp key.now (C.changed change.now) self.old.items }
+        ensures rising { IsTrue (is_sorted K.cmp self.new.items) }
+        ensures room { self.new.room ≡ self.old.room }
+    {
+        change_at(&mut self.tree, key, change);
+    }
+
+    /// Changes each value in its place.
+    pub fn change_all<C: Change<V>>(&mut self, change: &C)
+        ensures items { self.new.items ≡ changed_all (C.changed change.now) self.old.items }
+        ensures rising { IsTrue (is_sorted K.cmp self.new.items) }
+        ensures room { self.new.room ≡ self.old.room }
+    {
+        change_all(&mut self.tree, change);
     }
 }
 

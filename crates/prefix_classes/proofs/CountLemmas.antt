@@ -1,23 +1,25 @@
 -- The numbers of members that are kept of tags, against the tags of prefixes.
-use Rattle.std.proofs.Common.{◌≡◌, ℕ, ◌+◌, ◌-◌, ◌<◌, ◌^◌, Bool, true, false, cond, ◌&&◌, List, [], ◌∷◌, map, length, get_or, set, sym, ap, subst, ◌∙◌, refl, arith}
+use Rattle.std.proofs.Common.{◌≡◌, ℕ, ◌+◌, ◌<◌, ◌^◌, Bool, true, false, cond, ◌&&◌, List, [], ◌∷◌, map, length, sym, ap, ◌∙◌, refl, arith}
 use Rattle.std.specs.Prelude.{Option, Some, None, is_some}
 use Rattle.std.specs.Option.{option_map}
-use Rattle.std.specs.Ordering.{eq_by_cmp, is_lt}
+use Rattle.std.specs.Ordering.{eq_by_cmp, is_eq, is_lt}
+use Rattle.std.specs.Cmp.{alike_right, eq_by_cmp_equiv}
 use Rattle.std.specs.FinMap.{FinMap, get, insert, remove, entries, same_map}
-use Rattle.std.specs.FinMap.Entries.{find, put, is_sorted, below_all, find-put, find_tied}
+use Rattle.std.specs.FinMap.Entries.{find, is_sorted, below_all, find_tied}
 use Rattle.net_types.proofs.OrderLemmas.{tags_total}
-use Rattle.net_types.proofs.PlaceLemmas.{get_sorted, put_sorted}
+use Rattle.net_types.proofs.PlaceLemmas.{get_sorted}
 use Rattle.net_types.proofs.TieLemmas.{tag_cmp-IsAntisymmetric, tie_Equal}
 use Rattle.net_types.specs.Keys.{prefix_cmp, tag_cmp}
 use Rattle.net_types.specs.declared.address.Tag.{Tag}
 use Rattle.net_types.specs.declared.prefix.Prefix.{Prefix}
 use Rattle.net_types.specs.declared.route.Part.{Part}
-use Rattle.sorted_map.proofs.SearchLemmas.{found, missed}
-use Rattle.sorted_map.specs.Places.{IsAt, IsGapFor}
+use Rattle.ordered_map.specs.Changes.{changed_at}
 use Rattle.prefix_classes.proofs.MemberLemmas.{members-insert, members-remove, members-le, is_tag-itself, some_member}
 use Rattle.prefix_classes.specs.Classes.{has_tag, members}
 use Rattle.prefix_classes.specs.Counts.{counted, members_of, sig_entry, sigs_of, IsCounted, IsRecounted}
+use Rattle.prefix_classes.specs.Recounted.{recounted}
 use Rattle.prefix_classes.specs.declared.members.Kept.{Kept}
+use Rattle.prefix_classes.specs.declared.members.Recount.TheVariants.{More, Less}
 
 -- ---- the signatures
 
@@ -68,61 +70,69 @@ same_sigs es fs sorted sorted_too same = same_map tags_total tag_cmp-IsAntisymme
 pub tied : (es : List (Tag × Kept)) (u t : Tag) → eq_by_cmp tag_cmp u t ≡ true → find tag_cmp u es ≡ find tag_cmp t es
 tied es u t e = sym (find_tied tag_cmp tags_total u t (tie_Equal _ e) es)
 
+here_or_not : (b : Bool) (f : Kept → Kept) (k : Kept) → ◌≡◌ {A = Option Kept} (Some (cond b (f k) k)) (cond b (Some (f k)) (Some k))
+here_or_not true f k = refl
+here_or_not false f k = refl
+
+find-changed : (t : Tag) (f : Kept → Kept) (u : Tag) (es : List (Tag × Kept)) → find tag_cmp u (changed_at tag_cmp t f es) ≡ cond (eq_by_cmp tag_cmp u t) (option_map f (find tag_cmp u es)) (find tag_cmp u es)
+find-changed t f u [] = elim (eq_by_cmp tag_cmp u t) as (λ b. ◌≡◌ {A = Option Kept} None (cond b None None)) [ true ↦ refl | false ↦ refl ]
+find-changed t f u (e ∷ es) =
+    elim (eq_by_cmp tag_cmp u e.0) as (λ b. eq_by_cmp tag_cmp u e.0 ≡ b → cond b (Some (cond (eq_by_cmp tag_cmp t e.0) (f e.1) e.1)) (find tag_cmp u (changed_at tag_cmp t f es)) ≡ cond (eq_by_cmp tag_cmp u t) (option_map f (cond b (Some e.1) (find tag_cmp u es))) (cond b (Some e.1) (find tag_cmp u es))) [
+      | true ↦ λ tie.
+          let same : eq_by_cmp tag_cmp t e.0 ≡ eq_by_cmp tag_cmp u t = ap is_eq (sym (alike_right tags_total u e.0 t (tie_Equal _ tie))) ∙ (eq_by_cmp_equiv tags_total).symm t u in
+          ap (λ b. Some (cond b (f e.1) e.1)) same ∙ here_or_not (eq_by_cmp tag_cmp u t) f e.1
+      | false ↦ λ apart. find-changed t f u es
+    ] refl
+
 -- a kept tag gets another number
-exchanged : (t : Tag) (es : List (Tag × Kept)) (k : Kept) (n : ℕ) (before after : Option Tag) → is_sorted tag_cmp es ≡ true → find tag_cmp t es ≡ Some k
-    → ((u : Tag) → eq_by_cmp tag_cmp u t ≡ true → n + has_tag u before ≡ k.members + has_tag u after) → ((u : Tag) → eq_by_cmp tag_cmp u t ≡ false → has_tag u before ≡ has_tag u after)
-    → IsRecounted es (put tag_cmp t (record k { members = n }) es) before after
-exchanged t es k n before after sorted is tie apart =
-    let new : Kept = record k { members = n } in
-    let sorted_too = put_sorted tag_cmp tags_total t new es sorted in
-    record {
-      sorted = sorted_too;
-      sigs = same_sigs es _ sorted sorted_too (λ u.
-          ap sig_in (find-put tag_cmp tags_total u t new es)
-          ∙ elim (eq_by_cmp tag_cmp u t) as (λ b. eq_by_cmp tag_cmp u t ≡ b → sig_in (cond b (Some new) (find tag_cmp u es)) ≡ sig_in (find tag_cmp u es)) [
-            | true ↦ λ e. ap sig_in (sym (tied es u t e ∙ is))
-            | false ↦ λ e. refl
-          ] refl);
-      counts = λ u.
-          ap (λ o. members_of o + has_tag u before) (find-put tag_cmp tags_total u t new es)
-          ∙ elim (eq_by_cmp tag_cmp u t) as (λ b. eq_by_cmp tag_cmp u t ≡ b → members_of (cond b (Some new) (find tag_cmp u es)) + has_tag u before ≡ counted es u + has_tag u after) [
-            | true ↦ λ e. tie u e ∙ ap (λ o. members_of o + has_tag u after) (sym (tied es u t e ∙ is))
-            | false ↦ λ e. ap (λ n. counted es u + n) (apart u e)
-          ] refl;
-    }
+exchanged : (t : Tag) (es fs : List (Tag × Kept)) (f : Kept → Kept) (k : Kept) (before after : Option Tag) → is_sorted tag_cmp es ≡ true → is_sorted tag_cmp fs ≡ true → fs ≡ changed_at tag_cmp t f es → find tag_cmp t es ≡ Some k → (f k).sig ≡ k.sig
+    → ((u : Tag) → eq_by_cmp tag_cmp u t ≡ true → (f k).members + has_tag u before ≡ k.members + has_tag u after) → ((u : Tag) → eq_by_cmp tag_cmp u t ≡ false → has_tag u before ≡ has_tag u after)
+    → IsRecounted es fs before after
+exchanged t es fs f k before after sorted sorted_too next is same_sig tie apart = record {
+  sorted = sorted_too;
+  sigs = same_sigs es fs sorted sorted_too (λ u.
+      ap sig_in (found u)
+      ∙ elim (eq_by_cmp tag_cmp u t) as (λ b. eq_by_cmp tag_cmp u t ≡ b → sig_in (cond b (Some (f k)) (find tag_cmp u es)) ≡ sig_in (find tag_cmp u es)) [
+        | true ↦ λ e. ap Some same_sig ∙ ap sig_in (sym (tied es u t e ∙ is))
+        | false ↦ λ e. refl
+      ] refl);
+  counts = λ u.
+      ap (λ o. members_of o + has_tag u before) (found u)
+      ∙ elim (eq_by_cmp tag_cmp u t) as (λ b. eq_by_cmp tag_cmp u t ≡ b → members_of (cond b (Some (f k)) (find tag_cmp u es)) + has_tag u before ≡ counted es u + has_tag u after) [
+        | true ↦ λ e. tie u e ∙ ap (λ o. members_of o + has_tag u after) (sym (tied es u t e ∙ is))
+        | false ↦ λ e. ap (λ n. counted es u + n) (apart u e)
+      ] refl;
+}
+  where
+    found : (u : Tag) → find tag_cmp u fs ≡ cond (eq_by_cmp tag_cmp u t) (Some (f k)) (find tag_cmp u es)
+    found u = ap (find tag_cmp u) next ∙ find-changed t f u es
+        ∙ elim (eq_by_cmp tag_cmp u t) as (λ b. eq_by_cmp tag_cmp u t ≡ b → cond b (option_map f (find tag_cmp u es)) (find tag_cmp u es) ≡ cond b (Some (f k)) (find tag_cmp u es)) [
+          | true ↦ λ e. ap (option_map f) (tied es u t e ∙ is)
+          | false ↦ λ e. refl
+        ] refl
 
 one_if : (b c : Bool) → b ≡ c → ◌≡◌ {A = ℕ} (cond b 1 0) (cond c 1 0)
 one_if b c e = ap (λ x. let one : ℕ = cond x 1 0 in one) e
-
-none_there : {A : Type 0} (o : Option A) → is_some o ≡ true → o ≡ None → ⊥
-none_there o there none = let e = sym there ∙ ap is_some none in cc
 
 pub some_there : (o : Option Kept) → 0 < members_of o → is_some o ≡ true
 some_there None some = absurd (omega arith)
 some_there (Some k) some = refl
 
--- a search of a kept tag doesn't end at a gap
-pub not_missed : (t : Tag) {slice es : List (Tag × Kept)} {at : ℕ} → slice ≡ es → is_sorted tag_cmp es ≡ true → is_some (find tag_cmp t es) ≡ true → IsGapFor tag_cmp slice t at → ⊥
-not_missed t {es = es} same sorted there gap = none_there (find tag_cmp t es) there (missed tag_cmp tags_total same sorted gap).find_is
+-- a kept tag counts one member more, and a tag that has some one less
+module _ (t : Tag) (es fs : List (Tag × Kept)) (sorted : is_sorted tag_cmp es ≡ true) (sorted_too : is_sorted tag_cmp fs ≡ true) where
+  pub raised : fs ≡ changed_at tag_cmp t (recounted More) es → is_some (find tag_cmp t es) ≡ true → counted es t + 1 < 2 ^ 64 → IsRecounted es fs None (Some t)
+  raised next there small = by (find tag_cmp t es) refl there small
+    where
+      by : (o : Option Kept) → find tag_cmp t es ≡ o → is_some o ≡ true → members_of o + 1 < 2 ^ 64 → IsRecounted es fs None (Some t)
+      by None is some fits = cc
+      by (Some k) is some fits = exchanged t es fs (recounted More) k None (Some t) sorted sorted_too next is refl (λ u tie. let one = one_if _ _ tie in omega (arith, one, fits)) (λ u apart. sym (one_if _ _ apart))
 
--- the entry at the place where a search ended
-module _ (t : Tag) {slice es : List (Tag × Kept)} {at : ℕ} (e : Tag × Kept) (same : slice ≡ es) (sorted : is_sorted tag_cmp es ≡ true) (there : IsAt tag_cmp slice t at) (is : e ≡ get_or es at e) where
-  found_entry : find tag_cmp t es ≡ Some e.1
-  found_entry = (found tag_cmp tags_total same sorted there e).find_is ∙ ap (λ (d : Tag × Kept). Some d.1) (sym is)
-
-  written : (k : Kept) → put tag_cmp t k es ≡ set es at (e.0, k)
-  written k = (found tag_cmp tags_total same sorted there e).put_is k ∙ ap (λ (d : Tag × Kept). set es at (d.0, k)) (sym is)
-
-  pub number_there : e.1.members ≡ counted es t
-  number_there = ap members_of (sym found_entry)
-
-  pub raised : IsRecounted es (set es at (e.0, record e.1 { members = e.1.members + 1 })) None (Some t)
-  raised = subst (λ fs. IsRecounted es fs None (Some t)) (written (record e.1 { members = e.1.members + 1 }))
-      (exchanged t es e.1 (e.1.members + 1) None (Some t) sorted found_entry (λ u tie. let one = one_if _ _ tie in omega (arith, one)) (λ u apart. sym (one_if _ _ apart)))
-
-  pub lowered : 0 < counted es t → IsRecounted es (set es at (e.0, record e.1 { members = e.1.members - 1 })) (Some t) None
-  lowered some = subst (λ fs. IsRecounted es fs (Some t) None) (written (record e.1 { members = e.1.members - 1 }))
-      (exchanged t es e.1 (e.1.members - 1) (Some t) None sorted found_entry (λ u tie. let one = one_if _ _ tie in let number = number_there in omega (arith, one, number, some)) (λ u apart. one_if _ _ apart))
+  pub lowered : fs ≡ changed_at tag_cmp t (recounted Less) es → 0 < counted es t → IsRecounted es fs (Some t) None
+  lowered next some = by (find tag_cmp t es) refl some
+    where
+      by : (o : Option Kept) → find tag_cmp t es ≡ o → 0 < members_of o → IsRecounted es fs (Some t) None
+      by None is positive = absurd (omega (arith, positive))
+      by (Some k) is positive = exchanged t es fs (recounted Less) k (Some t) None sorted sorted_too next is refl (λ u tie. let one = one_if _ _ tie in omega (arith, one, positive)) (λ u apart. one_if _ _ apart)
 
 -- ---- one prefix
 

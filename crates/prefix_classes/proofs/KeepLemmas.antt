@@ -13,7 +13,7 @@ use Rattle.net_types.specs.Keys.{prefix_cmp, tag_cmp}
 use Rattle.net_types.specs.declared.address.Tag.{Tag}
 use Rattle.net_types.specs.declared.prefix.Prefix.{Prefix}
 use Rattle.net_types.specs.declared.route.Part.{Part}
-use Rattle.sorted_map.specs.Places.{without}
+use Rattle.ordered_map.specs.Entries.{without}
 use Rattle.prefix_classes.proofs.CountLemmas.{sig_in, get-sigs, find_not_kept, tied}
 use Rattle.prefix_classes.proofs.MemberLemmas.{members-empty}
 use Rattle.prefix_classes.specs.Classes.{given, members, missing, new_ones}

@@ -1,18 +1,16 @@
 -- The next tag with members is that of the first of the entries with greater tags that has members.
-use Rattle.std.proofs.Common.{◌≡◌, ℕ, zero, suc, ◌-◌, ◌<◌, ◌≤◌, Bool, true, false, cond, not, List, [], ◌∷◌, length, drop, take, filter, find, get_or, sym, ap, subst, ◌∙◌, refl, arith, inl, inr, ◌⊎◌}
-use Rattle.std.specs.Prelude.{Option, Some, None, IfSome, IfNone, is_some, nat_lt, nat_le}
-use Rattle.std.specs.Cmp.{ranked}
+use Rattle.std.proofs.Common.{◌≡◌, ℕ, zero, suc, ◌<◌, ◌≤◌, Bool, true, false, cond, List, [], ◌∷◌, filter, find, sym, ap, subst, ◌∙◌, refl, arith, inl, inr, ◌⊎◌}
+use Rattle.std.specs.Prelude.{Option, Some, None, IfSome, IfNone, is_some, nat_lt}
+use Rattle.std.specs.Cmp.{nat_cmp_is, ranked}
 use Rattle.std.specs.FinMap.{FinMap, get}
 use Rattle.std.specs.FinMap.Entries as entries
 use Rattle.std.specs.FinMap.Entries.{is_sorted, below_all}
-use Rattle.std.specs.List.{AllWithin}
-use Rattle.std.specs.List.Sorted.{IsNonDecreasingBy}
 use Rattle.std.specs.Option.{option_map}
-use Rattle.std.specs.Ordering.{eq_by_cmp, is_lt}
-use Rattle.std.specs.declared.cmp.Ordering.TheVariants.{Less}
+use Rattle.std.specs.Ordering.{eq_by_cmp, is_lt, nat_cmp}
+use Rattle.std.specs.declared.cmp.Ordering.{Ordering}
+use Rattle.std.specs.declared.cmp.Ordering.TheVariants.{Less, Equal, Greater}
+use Rattle.ordered_map.specs.Entries.{above}
 use Rattle.std.proofs.lemmas.Bool.{and_parts, ltb-true, lt-ltb}
-use Rattle.std.proofs.lemmas.Bool.Decides.{nat_tests}
-use Rattle.std.proofs.lemmas.List.{take_rest}
 use Rattle.net_types.proofs.OrderLemmas.{tags_total}
 use Rattle.net_types.proofs.TieLemmas.{tag_cmp-IsAntisymmetric, same_from_tie, ties_itself}
 use Rattle.net_types.specs.Keys.{prefix_cmp, tag_cmp}
@@ -26,40 +24,25 @@ use Rattle.prefix_classes.specs.Classes.{IsAbove, IsNextTag, members}
 use Rattle.prefix_classes.specs.Counts.{IsCounted, counted, has_members, is_above, members_of, sigs_of, tag_of}
 use Rattle.prefix_classes.specs.declared.members.Kept.{Kept}
 
--- what follows the point where a test begins to fail is what fails it
-pub parted : {X : Type 0} (p q : X → Bool) → ((x : X) → q x ≡ not (p x)) → (xs : List X) (i : ℕ) → AllWithin (λ y. p y ≡ true) xs 0 i → AllWithin (λ y. p y ≡ false) xs i (length xs) → drop i xs ≡ filter q xs
-parted p q turned [] zero passed failed = refl
-parted p q turned [] (suc i) passed failed = refl
-parted p q turned (x ∷ xs) zero passed failed =
-    sym (ap (λ b. cond b (x ∷ filter q xs) (filter q xs)) (turned x ∙ ap not (failed 0 x (omega arith) (omega arith)))
-    ∙ ap (λ ys. x ∷ ys) (sym (parted p q turned xs zero (λ k d low high. absurd (omega arith)) (λ k d low high. failed (suc k) d (omega arith) (omega arith)))))
-parted p q turned (x ∷ xs) (suc i) passed failed =
-    parted p q turned xs i (λ k d low high. passed (suc k) d (omega arith) (omega arith)) (λ k d low high. failed (suc k) d (omega arith) (omega arith))
-    ∙ sym (ap (λ b. cond b (x ∷ filter q xs) (filter q xs)) (turned x ∙ ap not (passed 0 x (omega arith) (omega arith))))
+-- the entries above a tag are those of greater tags
+less_is : (m n : ℕ) → is_lt (nat_cmp m n) ≡ nat_lt m n
+less_is m n = elim (nat_lt m n) as (λ b. nat_lt m n ≡ b → is_lt (nat_cmp m n) ≡ b) [
+  | true ↦ λ e. ap is_lt (sym (nat_cmp_is m n Less (ltb-true m n e)))
+  | false ↦ λ e. not_less (nat_cmp m n) refl (λ lt. let f = sym (lt-ltb m n lt) ∙ e in cc)
+] refl
+  where
+    not_less : (r : Ordering) → nat_cmp m n ≡ r → (m < n → ⊥) → is_lt r ≡ false
+    not_less Less e never = absurd (never (ranked m n Less (sym e)))
+    not_less Equal e never = refl
+    not_less Greater e never = refl
+
+pub above_is_greater : (a : Tag) (es : List (Tag × Kept)) → above tag_cmp a es ≡ filter (is_above (Some a)) es
+above_is_greater a [] = refl
+above_is_greater a (e ∷ es) = λ i. cond (less_is a.0 e.0.0 i) (e ∷ above_is_greater a es i) (above_is_greater a es i)
 
 pub all_pass : {X : Type 0} (xs : List X) → xs ≡ filter (λ (x : X). true) xs
 all_pass [] = refl
 all_pass (x ∷ xs) = ap (λ ys. x ∷ ys) (all_pass xs)
-
--- so it is for entries that rise and the test of greater tags
-below_at : (x : Tag) (es : List (Tag × Kept)) (k : ℕ) (d : Tag × Kept) → below_all tag_cmp x es ≡ true → k < length es → x.0 < (get_or es k d).0.0
-below_at x [] k d below within = absurd (omega arith)
-below_at x (e ∷ es) zero d below within = ranked x.0 e.0.0 Less (sym (less (tag_cmp x e.0) (and_parts (is_lt (tag_cmp x e.0)) (below_all tag_cmp x es) below).0))
-below_at x (e ∷ es) (suc k) d below within = below_at x es k d (and_parts (is_lt (tag_cmp x e.0)) (below_all tag_cmp x es) below).1 (omega arith)
-
-pub numbers_rise : (es : List (Tag × Kept)) → is_sorted tag_cmp es ≡ true → IsNonDecreasingBy (λ (e : Tag × Kept). e.0.0) es
-numbers_rise [] sorted i j d order within = absurd (omega arith)
-numbers_rise (e ∷ es) sorted zero zero d order within = omega arith
-numbers_rise (e ∷ es) sorted zero (suc j) d order within = let smaller = below_at e.0 es j d (first_below tag_cmp e es sorted) (omega arith) in omega (arith, smaller)
-numbers_rise (e ∷ es) sorted (suc i) zero d order within = absurd (omega arith)
-numbers_rise (e ∷ es) sorted (suc i) (suc j) d order within = numbers_rise es (rest_sorted tag_cmp e es sorted) i j d (omega arith) (omega arith)
-
-pub not_past : (m n : ℕ) → nat_lt m n ≡ not (nat_le n m)
-not_past m n = by (nat_le n m) refl
-  where
-    by : (b : Bool) → nat_le n m ≡ b → nat_lt m n ≡ not b
-    by true is = grind (arith, nat_tests, is)
-    by false is = grind (arith, nat_tests, is)
 
 -- the first key is smaller than one that is found behind it
 below_found : (x q : Tag) (es : List (Tag × Kept)) → below_all tag_cmp x es ≡ true → 0 < counted es q → x.0 < q.0
@@ -192,10 +175,8 @@ module _ (after : Option Tag) where
     pub answered : IsAnswered (option_map tag_of (next es))
     answered = answered_by (next es) (answer es is.sorted)
 
-    -- so it is for a search behind the entries that are passed
-    pub found_behind : (r : Option Tag) (from : ℕ) (xs ys : List (Tag × Kept)) → xs ≡ es → ys ≡ es → drop from xs ≡ filter (is_above after) xs → r ≡ option_map tag_of (find has_members (take (length ys - from) (drop from ys))) → IsAnswered r
-    found_behind r from xs ys x y passed found = subst IsAnswered (sym (found ∙ ap (λ zs. option_map tag_of (find has_members zs))
-        (take_rest ys from ∙ ap (drop from) (y ∙ sym x) ∙ passed ∙ ap (filter (is_above after)) x))) answered
+    pub found : (r : Option Tag) → r ≡ option_map tag_of (find has_members (filter (is_above after) es)) → IsAnswered r
+    found r e = subst IsAnswered (sym e) answered
 
 -- the tag of a prefix is kept
 pub tag_is_kept : (m : FinMap prefix_cmp Tag) (es : List (Tag × Kept)) (sigs : FinMap tag_cmp (List Part)) → IsCounted m es → sigs_of es ≡ sigs → (p : Prefix) (o : Option Tag) → o ≡ get m p → IfSome o (λ t. is_some (get sigs t) ≡ true)

@@ -1,11 +1,10 @@
 -- Trimmed signatures: the tags stay as they are, and each signature is trimmed.
-use Rattle.std.proofs.Common.{◌≡◌, Bool, true, false, cond, ◌&&◌, List, [], ◌∷◌, ◌++◌, drop, length, map, take, sym, ap, subst, ◌∙◌, refl}
-use Rattle.std.specs.Prelude.{ℕ, Option, Some, None}
+use Rattle.std.proofs.Common.{◌≡◌, Bool, true, false, cond, ◌&&◌, List, [], ◌∷◌, map, sym, ap, subst, ◌∙◌, refl}
+use Rattle.std.specs.Prelude.{Option, Some, None}
 use Rattle.std.specs.FinMap.{FinMap, get}
 use Rattle.std.specs.FinMap.Entries.{find, is_sorted, below_all}
 use Rattle.std.specs.Option.{option_map}
 use Rattle.std.specs.Ordering.{eq_by_cmp, is_lt}
-use Rattle.std.proofs.lemmas.List.{length-map, take_at}
 use Rattle.net_types.specs.Keys.{prefix_cmp, tag_cmp}
 use Rattle.net_types.specs.Signatures.{trimmed}
 use Rattle.net_types.specs.declared.address.Pid.{Pid}
@@ -57,15 +56,9 @@ module _ (who : Pid) (named : List Pid) where
   get_trimmed es sorted t =
       get-sigs (map trim es) t (sorted-trimmed es ∙ sorted) ∙ ap sig_in (find-trimmed t es) ∙ trimmed_sig (find tag_cmp t es) ∙ ap (option_map (trimmed who named)) (sym (get-sigs es t sorted))
 
-  -- the entries once they are written back
-  whole : (es xs ys : List (Tag × Kept)) (n : ℕ) → ys ≡ es → xs ≡ map trim ys → n ≡ length ys → take n (xs ++ drop (length xs) es) ≡ map trim es
-  whole es xs ys n same is len =
-      take_at xs (drop (length xs) es) n (ap length is ∙ length-map ys trim ∙ sym len) ∙ is ∙ ap (map trim) same
+  pub counted_whole : (m : FinMap prefix_cmp Tag) (es fs : List (Tag × Kept)) → IsCounted m es → fs ≡ map trim es → IsCounted m fs
+  counted_whole m es fs counts is = subst (IsCounted m) (sym is) (counted_trimmed m es counts)
 
-  pub counted_whole : (m : FinMap prefix_cmp Tag) (es xs ys : List (Tag × Kept)) (n : ℕ) → IsCounted m es → ys ≡ es → xs ≡ map trim ys → n ≡ length ys → IsCounted m (take n (xs ++ drop (length xs) es))
-  counted_whole m es xs ys n counts same is len = subst (IsCounted m) (sym (whole es xs ys n same is len)) (counted_trimmed m es counts)
-
-  pub sigs_whole : (es xs ys : List (Tag × Kept)) (n : ℕ) (sigs : FinMap tag_cmp (List Part)) → is_sorted tag_cmp es ≡ true → sigs_of es ≡ sigs → ys ≡ es → xs ≡ map trim ys → n ≡ length ys
-      → (t : Tag) → get (sigs_of (take n (xs ++ drop (length xs) es))) t ≡ option_map (trimmed who named) (get sigs t)
-  sigs_whole es xs ys n sigs sorted kept same is len t =
-      ap (λ ds. get (sigs_of ds) t) (whole es xs ys n same is len) ∙ get_trimmed es sorted t ∙ ap (λ m. option_map (trimmed who named) (get m t)) kept
+  pub sigs_whole : (es fs : List (Tag × Kept)) (sigs : FinMap tag_cmp (List Part)) → is_sorted tag_cmp es ≡ true → sigs_of es ≡ sigs → fs ≡ map trim es → (t : Tag) → get (sigs_of fs) t ≡ option_map (trimmed who named) (get sigs t)
+  sigs_whole es fs sigs sorted kept is t =
+      ap (λ ds. get (sigs_of ds) t) is ∙ get_trimmed es sorted t ∙ ap (λ m. option_map (trimmed who named) (get m t)) kept

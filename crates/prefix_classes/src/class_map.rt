@@ -8,11 +8,11 @@ ghost use Rattle.net_types.specs.declared.address.Tag.{Tag as AnyTag};
 ghost use Rattle.prefix_classes.specs.Classes.{IsAbove, IsNextTag, given, members, missing, new_ones};
 
 use crate::members::{Kept, lower, move_member, raise};
-use crate::next::{count_passed, first_used};
+use crate::next::first_used;
 use crate::trimming::trim_all;
 use net_types::{Memory, Pid, Prefix, Sig, Tag};
+use ordered_map::OrderedMap;
 use prefix_map::PrefixMap;
-use sorted_map::{put_reserved, take_out, value_at};
 use std::alloc::Global;
 use std::marker::Model;
 
@@ -20,13 +20,12 @@ use std::marker::Model;
 /// members. Beside this there is room for a number of new prefixes and of new tags.
 #[derive(Drop)]
 pub struct ClassMap {
+    alloc: Global,
     tags: PrefixMap<Tag>,
-    kept: Vec<(Tag, Kept)>,
+    kept: OrderedMap<Tag, Kept>,
 }
 
 impl Model for ClassMap {
-    ghost use Rattle.std.specs.Prelude.{◌-◌};
-    ghost use Rattle.std.specs.Vec.{vec_len, vec_capacity};
     ghost use Rattle.std.specs.Coded.{codes};
     ghost use Rattle.std.specs.FinMap as map;
     ghost use Rattle.prefix_classes.specs.Classes.{Classes};
@@ -36,7 +35,7 @@ impl Model for ClassMap {
 
     ghost coded = { Prim.hlevel (codes, map.code) };
 
-    ghost view = { λ a. classes_of a.tags a.kept.items (vec_capacity a.kept - vec_len a.kept) };
+    ghost view = { λ a. classes_of a.tags a.kept.items a.kept.room };
 
     ghost invariant = { λ a. IsCounted a.tags.map a.kept.items };
 }
@@ -48,8 +47,9 @@ impl ClassMap {
         ensures kept { result.kept ≡ map.empty }
     {
         ClassMap {
+            alloc,
             tags: PrefixMap::new(alloc),
-            kept: Vec::new(alloc),
+            kept: OrderedMap::new(alloc),
         }
     }
 
@@ -79,7 +79,7 @@ impl ClassMap {
     pub fn sig_of(&self, tag: Tag) -> Option<&Sig>
         ensures { option_copied result ≡ map.get self.now.kept tag }
     {
-        match value_at(&self.kept, &tag) {
+        match self.kept.get(&tag) {
             Some(kept) => Some(&kept.sig),
             None => None,
         }
@@ -89,27 +89,27 @@ impl ClassMap {
     pub fn members(&self, tag: Tag) -> usize
         ensures { result ≡ members self.now.tag tag }
     {
-        match value_at(&self.kept, &tag) {
+        match self.kept.get(&tag) {
             Some(kept) => kept.members,
             None => 0,
         }
     }
 
-    /// The least tag that has members, or the least such tag greater than this one. That tag is kept.
+    /// The least tag that has members, or the least such tag greater than this one. That tag is kept. It goes over the
+    /// kept tags without members that lie between.
     pub fn next_tag(&self, after: Option<Tag>) -> Option<Tag>
         ensures next { IfSome result (IsNextTag self.now.tag after) }
         ensures none { IfNone result ((tag : AnyTag) → IsAbove after tag → members self.now.tag tag ≡ 0) }
         ensures kept { IfSome result (λ tag. IsTrue (is_some (map.get self.now.kept tag))) }
     {
-        let from = count_passed(&self.kept, after);
-        first_used(&self.kept[from..])
+        first_used(&self.kept, after)
     }
 
     /// How many tags are kept.
     pub fn tagged(&self) -> usize
         ensures { result ≡ length (map.entries self.now.kept) }
     {
-        self.kept.as_slice().len()
+        self.kept.len()
     }
 
     /// Keeps a tag with its signature, and gives it to each of the prefixes, whatever tag they had. A prefix that stands
@@ -150,7 +150,7 @@ impl ClassMap {
         ensures prefixes { self.new.prefixes ≡ self.old.prefixes }
         ensures tags { self.old.tags ≤ self.new.tags }
     {
-        take_out(&mut self.kept, &tag);
+        self.kept.remove(&tag);
     }
 
     /// Takes out of a sender's part in each kept signature the offers that are neither the best one's nor those of
@@ -161,8 +161,7 @@ impl ClassMap {
         ensures prefixes { self.new.prefixes ≡ self.old.prefixes }
         ensures tags { self.new.tags ≡ self.old.tags }
     {
-        let alloc = *self.kept.allocator();
-        trim_all(alloc, &mut self.kept, who, named);
+        trim_all(self.alloc, &mut self.kept, who, named);
     }
 
     // Keeps a tag that no prefix has, with its signature.
@@ -174,7 +173,7 @@ impl ClassMap {
         ensures tags { self.old.tags ≤ self.new.tags + 1 }
         ensures prefixes { self.new.prefixes ≡ self.old.prefixes }
     {
-        put_reserved(&mut self.kept, tag, Kept { sig, members: 0 });
+        self.kept.put(tag, Kept { sig, members: 0 });
     }
 
     // Gives a prefix a tag that is kept, in the place of the one it had.

@@ -2,13 +2,13 @@
 
 ghost use Rattle.std.specs.Prelude.{◌≡◌, ◌<◌, ◌+◌, ◌^◌, None, Some, IsTrue, is_some};
 ghost use Rattle.std.specs.FinMap.Entries.{find, is_sorted};
-ghost use Rattle.std.specs.Vec.{vec_len, vec_capacity};
 ghost use Rattle.net_types.specs.Keys.{tag_cmp};
 ghost use Rattle.prefix_classes.specs.Classes.{is_tag};
 ghost use Rattle.prefix_classes.specs.Counts.{counted, IsRecounted};
+ghost use Rattle.prefix_classes.specs.Recounted.{recounted};
 
 use net_types::{Sig, Tag};
-use sorted_map::place;
+use ordered_map::{Change, OrderedMap};
 
 #[derive(Drop)]
 pub(crate) struct Kept {
@@ -16,44 +16,53 @@ pub(crate) struct Kept {
     pub(crate) members: usize,
 }
 
+/// One member more, or one less.
+#[derive(Clone, Copy)]
+pub(crate) enum Recount {
+    More,
+    Less,
+}
+
+impl Change<Kept> for Recount {
+    ghost changed = { recounted };
+
+    fn change(&self, value: &mut Kept) {
+        match self {
+            Recount::More => value.members = value.members.saturating_add(1),
+            Recount::Less => value.members = value.members.saturating_sub(1),
+        }
+    }
+}
+
 /// Counts one member more.
-pub(crate) fn raise(kept: &mut Vec<(Tag, Kept)>, tag: Tag)
+pub(crate) fn raise(kept: &mut OrderedMap<Tag, Kept>, tag: Tag)
     requires rising { IsTrue (is_sorted tag_cmp kept.old.items) }
     requires there { IsTrue (is_some (find tag_cmp tag kept.old.items)) }
     requires small { counted kept.old.items tag + 1 < 2 ^ 64 }
     ensures counts { IsRecounted kept.old.items kept.new.items None (Some tag) }
-    ensures len { vec_len kept.new ≡ vec_len kept.old }
-    ensures capacity { vec_capacity kept.new ≡ vec_capacity kept.old }
+    ensures room { kept.new.room ≡ kept.old.room }
 {
-    match place(kept, &tag) {
-        Ok(at) => kept[at].1.members += 1,
-        Err(_) => unreachable!(),
-    }
+    kept.change(&tag, &Recount::More);
 }
 
 /// Counts one member less.
-pub(crate) fn lower(kept: &mut Vec<(Tag, Kept)>, tag: Tag)
+pub(crate) fn lower(kept: &mut OrderedMap<Tag, Kept>, tag: Tag)
     requires rising { IsTrue (is_sorted tag_cmp kept.old.items) }
     requires some { 0 < counted kept.old.items tag }
     ensures counts { IsRecounted kept.old.items kept.new.items (Some tag) None }
-    ensures len { vec_len kept.new ≡ vec_len kept.old }
-    ensures capacity { vec_capacity kept.new ≡ vec_capacity kept.old }
+    ensures room { kept.new.room ≡ kept.old.room }
 {
-    match place(kept, &tag) {
-        Ok(at) => kept[at].1.members -= 1,
-        Err(_) => unreachable!(),
-    }
+    kept.change(&tag, &Recount::Less);
 }
 
 /// Counts a member of one tag as one of another, or of the same.
-pub(crate) fn move_member(kept: &mut Vec<(Tag, Kept)>, from: Tag, to: Tag)
+pub(crate) fn move_member(kept: &mut OrderedMap<Tag, Kept>, from: Tag, to: Tag)
     requires rising { IsTrue (is_sorted tag_cmp kept.old.items) }
     requires some { 0 < counted kept.old.items from }
     requires there { IsTrue (is_some (find tag_cmp to kept.old.items)) }
     requires small { counted kept.old.items to + 1 < 2 ^ 64 + is_tag to from }
     ensures counts { IsRecounted kept.old.items kept.new.items (Some from) (Some to) }
-    ensures len { vec_len kept.new ≡ vec_len kept.old }
-    ensures capacity { vec_capacity kept.new ≡ vec_capacity kept.old }
+    ensures room { kept.new.room ≡ kept.old.room }
 {
     lower(kept, from);
     raise(kept, to);

@@ -1,31 +1,31 @@
 //! The next one of the tags that have members.
 
-ghost use Rattle.std.specs.Prelude.{◌≡◌, ◌≤◌, IsTrue, drop, filter, find, length};
+ghost use Rattle.std.specs.Prelude.{◌≡◌, filter, find};
 ghost use Rattle.std.specs.Option.{option_map};
-ghost use Rattle.std.specs.FinMap.Entries.{is_sorted};
-ghost use Rattle.net_types.specs.Keys.{tag_cmp};
 ghost use Rattle.prefix_classes.specs.Counts.{has_members, is_above, tag_of};
 
 use crate::members::Kept;
 use net_types::Tag;
+use ordered_map::{Iter, OrderedMap};
 
-/// How many entries stand before those of greater tags.
-pub(crate) fn count_passed(kept: &[(Tag, Kept)], after: Option<Tag>) -> usize
-    requires { IsTrue (is_sorted tag_cmp kept.now) }
-    ensures value { drop result kept.now ≡ filter (is_above after) kept.now }
-    ensures in_range { result ≤ length kept.now }
+/// The first tag with members, of all or of the greater ones.
+pub(crate) fn first_used(kept: &OrderedMap<Tag, Kept>, after: Option<Tag>) -> Option<Tag>
+    ensures { result ≡ option_map tag_of (find has_members (filter (is_above after) kept.now.items)) }
 {
     match after {
-        Some(after) => kept.partition_point(|entry| entry.0.0 <= after.0),
-        None => 0,
+        None => first_with_members(kept.iter()),
+        Some(tag) => first_with_members(kept.iter_after(&tag)),
     }
 }
 
-/// The first tag with members.
-pub(crate) fn first_used(kept: &[(Tag, Kept)]) -> Option<Tag>
-    ensures { result ≡ option_map tag_of (find has_members kept.now) }
+/// The tag of the first entry with members.
+fn first_with_members(entries: Iter<'_, Tag, Kept>) -> Option<Tag>
+    ensures { result ≡ option_map tag_of (find has_members entries.entry) }
 {
-    kept.iter()
-        .find(|entry| entry.1.members > 0)
-        .map(|entry| entry.0)
+    for (tag, kept) in entries {
+        if kept.members > 0 {
+            return Some(*tag);
+        }
+    }
+    None
 }

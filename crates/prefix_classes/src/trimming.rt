@@ -4,10 +4,11 @@ ghost use Rattle.std.specs.Prelude.{◌≡◌, map, nat_eq};
 ghost use Rattle.std.specs.List.{list_any};
 ghost use Rattle.net_types.specs.declared.address.Pid.{Pid as AnyPid};
 ghost use Rattle.net_types.specs.Signatures.{counts, trimmed, trimmed_part};
-ghost use Rattle.prefix_classes.specs.Trimmed.{trimmed_entry};
+ghost use Rattle.prefix_classes.specs.Trimmed.{trimmed_entry, trimmed_kept};
 
 use crate::members::Kept;
 use net_types::{Items, Part, Pid, Sig, Tag};
+use ordered_map::{Change, OrderedMap};
 use std::alloc::Global;
 use std::mem;
 
@@ -51,11 +52,26 @@ fn trim_sig(alloc: Global, sig: &mut Sig, who: Pid, named: &[Pid])
     *sig = Items::from_vec(parts);
 }
 
-/// Takes the sender's offers that don't count out of each signature.
-pub(crate) fn trim_all(alloc: Global, kept: &mut [(Tag, Kept)], who: Pid, named: &[Pid])
-    ensures { kept.new ≡ map (trimmed_entry who named.now) kept.old }
-{
-    for entry in kept.iter_mut() {
-        trim_sig(alloc, &mut entry.1.sig, who, named);
+/// Takes a sender's offers that don't count out of a signature.
+#[derive(Drop)]
+struct Trim<'a> {
+    alloc: Global,
+    who: Pid,
+    named: &'a [Pid],
+}
+
+impl<'a> Change<Kept> for Trim<'a> {
+    ghost changed = { λ t k. trimmed_kept t.who t.named.now k };
+
+    fn change(&self, value: &mut Kept) {
+        trim_sig(self.alloc, &mut value.sig, self.who, self.named);
     }
+}
+
+/// Takes the sender's offers that don't count out of each signature.
+pub(crate) fn trim_all(alloc: Global, kept: &mut OrderedMap<Tag, Kept>, who: Pid, named: &[Pid])
+    ensures items { kept.new.items ≡ map (trimmed_entry who named.now) kept.old.items }
+    ensures room { kept.new.room ≡ kept.old.room }
+{
+    kept.change_all(&Trim { alloc, who, named });
 }

@@ -9,6 +9,4 @@ mod classes;
 #[cfg(test)]
 mod prefixes;
 #[cfg(test)]
-mod sorted_lists;
-#[cfg(test)]
 mod tags;

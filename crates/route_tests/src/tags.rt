@@ -42,6 +42,23 @@ fn tags_are_taken_and_given_back(rt: HostRuntime) -> Result<(), Fail> {
 }
 
 #[test]
+fn runs_of_taken_tags_are_passed(rt: HostRuntime) -> Result<(), Fail> {
+    let mut pool = Pool::new(rt.alloc(), Ip(100), 1000)?;
+    for tag in 1..=1000u32 {
+        assert!(rt; pool.take_least() == Some(Tag(tag)));
+    }
+    for tag in [700u32, 256, 257] {
+        assert!(rt; give_back(&mut pool, Ip(tag.saturating_add(100))));
+    }
+    assert!(rt; pool.next_free(Some(Tag(257))) == Some(Tag(700)));
+    for tag in [256, 257, 700] {
+        assert!(rt; pool.take_least() == Some(Tag(tag)));
+    }
+    assert!(rt; pool.take_least() == None);
+    Ok(())
+}
+
+#[test]
 fn tags_have_addresses(rt: HostRuntime) -> Result<(), Fail> {
     let pool = Pool::new(rt.alloc(), Ip(100), 3)?;
     assert!(rt; pool.address(Tag(3)) == Ip(103));

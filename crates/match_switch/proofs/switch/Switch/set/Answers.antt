@@ -4,40 +4,43 @@ use Rattle.std.specs.Prelude.{is_some}
 use Rattle.match_switch.proofs.TableLemmas.{get_is, count_is, count_found, room_is, table_put, few_before, kept_put, count_put, room_put}
 use Rattle.match_switch.proofs.switch.Switch.set.Goals as goal
 
-pub put_reserved-before-requires-clause-room : goal.put_reserved-before-requires-clause-room
-put_reserved-before-requires-clause-room c = λ none.
-    let room = c.requires.room (get_is c.self.inside.entries.items c.self.inside.rules _ c.self.inside.capacity c.self.invariant c.args.self.now c.self.view_is c.args.pair ∙ none) in
+pub put-before-requires : goal.put-before-requires
+put-before-requires c =
     let spare = room_is c.self.inside.entries.items c.self.inside.rules _ c.self.inside.capacity c.self.invariant c.args.self.now c.self.view_is in
-    omega (arith, room, spare)
+    record {
+      room = λ none.
+          let room = c.requires.room (get_is c.self.inside.entries.items c.self.inside.rules _ c.self.inside.capacity c.self.invariant c.args.self.now c.self.view_is c.args.pair ∙ none) in
+          omega (arith, room, spare);
+    }
 
 pub overflow_add-self : goal.overflow_add-self
 overflow_add-self c =
     let all = count_is c.self.inside.entries.items c.self.inside.rules _ c.self.inside.capacity c.self.invariant c.args.self.now c.self.view_is in
-    let before = c.put_reserved-before.result in
-    let found = count_found c.self.inside.entries.items c.self.inside.rules _ c.self.inside.capacity c.self.invariant c.args.self.now c.self.view_is c.args.pair before c.put_reserved-before.ensures.value c.count.result c.count.ensures in
-    let few = few_before c.self.inside.entries.items c.self.inside.rules _ c.self.inside.capacity c.self.invariant c.args.self.now c.self.view_is c.args.pair before c.put_reserved-before.ensures.value c.count.result c.count.ensures in
+    let before = c.put-before.result in
+    let found = count_found c.self.inside.entries.items c.self.inside.rules _ c.self.inside.capacity c.self.invariant c.args.self.now c.self.view_is c.args.pair before c.put-before.ensures.value c.count.result c.count.ensures in
+    let few = few_before c.self.inside.entries.items c.self.inside.rules _ c.self.inside.capacity c.self.invariant c.args.self.now c.self.view_is c.args.pair before c.put-before.ensures.value c.count.result c.count.ensures in
     omega (arith, all, found, few, c.requires.few, c.len-added.ensures)
 
 pub overflow_sub-self : goal.overflow_sub-self
 overflow_sub-self c =
-    let few = few_before c.self.inside.entries.items c.self.inside.rules _ c.self.inside.capacity c.self.invariant c.args.self.now c.self.view_is c.args.pair c.put_reserved-before.result c.put_reserved-before.ensures.value c.count.result c.count.ensures in
+    let few = few_before c.self.inside.entries.items c.self.inside.rules _ c.self.inside.capacity c.self.invariant c.args.self.now c.self.view_is c.args.pair c.put-before.result c.put-before.ensures.value c.count.result c.count.ensures in
     omega (arith, few)
 
 pub invariant_of-self : goal.invariant_of-self
 invariant_of-self c =
-    kept_put c.self.inside.entries.items c.self.inside.rules _ c.self.inside.capacity c.self.invariant c.args.self.now c.self.view_is c.args.pair c.args.rules c.put_reserved-before.new.entries.items c.put_reserved-before.ensures.items c.put_reserved-before.result c.put_reserved-before.ensures.value c.len-added.result c.count.result c.len-added.ensures c.count.ensures
+    kept_put c.self.inside.entries.items c.self.inside.rules _ c.self.inside.capacity c.self.invariant c.args.self.now c.self.view_is c.args.pair c.args.rules c.put-before.new.self.items c.put-before.ensures.items c.put-before.result c.put-before.ensures.value c.len-added.result c.count.result c.len-added.ensures c.count.ensures
 
 pub returns-clause-table : goal.returns-clause-table
 returns-clause-table c =
-    table_put c.self.inside.entries.items c.self.inside.rules _ c.self.inside.capacity c.self.invariant c.args.self.now c.self.view_is c.args.pair c.args.rules c.put_reserved-before.new.entries.items c.put_reserved-before.ensures.items
+    table_put c.self.inside.entries.items c.self.inside.rules _ c.self.inside.capacity c.self.invariant c.args.self.now c.self.view_is c.args.pair c.args.rules c.put-before.new.self.items c.put-before.ensures.items
 
 pub returns-clause-room : goal.returns-clause-room
 returns-clause-room c =
     let there = get_is c.self.inside.entries.items c.self.inside.rules _ c.self.inside.capacity c.self.invariant c.args.self.now c.self.view_is c.args.pair in
-    let same = ap is_some (c.put_reserved-before.ensures.value ∙ sym there) in
-    let len = rw same at c.put_reserved-before.ensures.len in
-    room_put _ _ _ _ _ (is_some _) (ap (λ s. s.room) c.self.view_is) c.put_reserved-before.ensures.capacity len
+    let same = ap is_some (c.put-before.ensures.value ∙ sym there) in
+    let spare = room_is c.self.inside.entries.items c.self.inside.rules _ c.self.inside.capacity c.self.invariant c.args.self.now c.self.view_is in
+    room_put _ _ _ _ _ spare same c.put-before.ensures.room
 
 pub returns-clause-count : goal.returns-clause-count
 returns-clause-count c =
-    count_put c.self.inside.entries.items c.self.inside.rules _ c.self.inside.capacity c.self.invariant c.args.self.now c.self.view_is c.args.pair c.args.rules c.put_reserved-before.new.entries.items c.put_reserved-before.ensures.items
+    count_put c.self.inside.entries.items c.self.inside.rules _ c.self.inside.capacity c.self.invariant c.args.self.now c.self.view_is c.args.pair c.args.rules c.put-before.new.self.items c.put-before.ensures.items

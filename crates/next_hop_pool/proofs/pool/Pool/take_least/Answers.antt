@@ -3,6 +3,7 @@ use Rattle.std.specs.Prelude.{Some, find, slice_get}
 use Rattle.next_hop_pool.specs.Free.{free_tags, free_in, tag, IsKept}
 use Rattle.next_hop_pool.proofs.FreeLemmas.{free_from, free_by_place, find_first, kept_taken, find_free, find_no_free, or_left, taken_before}
 use Rattle.net_types.specs.declared.address.Tag.{Tag}
+use Rattle.next_hop_pool.proofs.RunLemmas.{lent_marked, taken_marked}
 use Rattle.next_hop_pool.proofs.pool.Pool.take_least.Goals as goal
 
 first_by_place : (bs : List Bool) → find (λ _. true) (free_from 1 bs) ≡ slice_get (free_in bs) 0
@@ -23,14 +24,27 @@ none_left base least free at bs slice size same kept past len skipped =
     let before = taken_before bs least at kept.full (λ k le lt. ap (λ xs. get_or xs k true) (sym same) ∙ skipped k le lt) in
     sym (find_no_free (λ (_ : Tag). true) 1 bs (λ k lt. or_left _ _ (before k (omega (arith, ap length same))))) ∙ first_by_place bs
 
+pub first_free-at-requires : goal.first_free-at-requires
+first_free-at-requires c =
+    let size = ap length c.as_slice.ensures.value in
+    record {
+      marked = lent_marked _ _ _ _ c.as_slice.ensures.value c.as_slice-2.ensures.value c.self.invariant.marked;
+      small = omega (arith, size, c.self.invariant.kept.small);
+    }
+
 pub overflow_sub-self : goal.overflow_sub-self
-overflow_sub-self c = (taken_first _ c.self.inside.least c.self.inside.free c.first_free-at.result c.self.inside.taken.items _ _ c.as_slice.ensures.value c.self.invariant c.if-at-len.true (c.as_slice.ensures.len ∙ sym c.len.ensures) c.first_free-at.ensures.skipped c.first_free-at.ensures.free).0
+overflow_sub-self c = (taken_first _ c.self.inside.least c.self.inside.free c.first_free-at.result c.self.inside.taken.items _ _ c.as_slice.ensures.value c.self.invariant.kept c.if-at-len.true (c.as_slice.ensures.len ∙ sym c.len.ensures) c.first_free-at.ensures.skipped c.first_free-at.ensures.free).0
 
 pub invariant_of-self : goal.invariant_of-self
-invariant_of-self c = (taken_first _ c.self.inside.least c.self.inside.free c.first_free-at.result c.self.inside.taken.items _ _ c.as_slice.ensures.value c.self.invariant c.if-at-len.true (c.as_slice.ensures.len ∙ sym c.len.ensures) c.first_free-at.ensures.skipped c.first_free-at.ensures.free).1
+invariant_of-self c =
+    let within : c.first_free-at.result < length c.self.inside.taken.items = omega (arith, c.if-at-len.true, c.len.ensures, ap length c.as_slice.ensures.value, c.as_slice.ensures.len) in
+    record {
+      kept = (taken_first _ c.self.inside.least c.self.inside.free c.first_free-at.result c.self.inside.taken.items _ _ c.as_slice.ensures.value c.self.invariant.kept c.if-at-len.true (c.as_slice.ensures.len ∙ sym c.len.ensures) c.first_free-at.ensures.skipped c.first_free-at.ensures.free).1;
+      marked = taken_marked c.self.inside.taken.items c.self.inside.full.items c.first_free-at.result within c.self.invariant.marked;
+    }
 
 pub returns-then-at-len-clause-value : goal.returns-then-at-len-clause-value
-returns-then-at-len-clause-value c = (taken_first _ c.self.inside.least c.self.inside.free c.first_free-at.result c.self.inside.taken.items _ _ c.as_slice.ensures.value c.self.invariant c.if-at-len.true (c.as_slice.ensures.len ∙ sym c.len.ensures) c.first_free-at.ensures.skipped c.first_free-at.ensures.free).2 ∙ ap (λ s. slice_get (free_tags s) 0) c.self.view_is
+returns-then-at-len-clause-value c = (taken_first _ c.self.inside.least c.self.inside.free c.first_free-at.result c.self.inside.taken.items _ _ c.as_slice.ensures.value c.self.invariant.kept c.if-at-len.true (c.as_slice.ensures.len ∙ sym c.len.ensures) c.first_free-at.ensures.skipped c.first_free-at.ensures.free).2 ∙ ap (λ s. slice_get (free_tags s) 0) c.self.view_is
 
 pub returns-clause-value : goal.returns-clause-value
-returns-clause-value c = none_left _ c.self.inside.least c.self.inside.free c.first_free-at.result c.self.inside.taken.items _ _ c.as_slice.ensures.value c.self.invariant c.if-at-len.false (c.as_slice.ensures.len ∙ sym c.len.ensures) c.first_free-at.ensures.skipped ∙ ap (λ s. slice_get (free_tags s) 0) c.self.view_is
+returns-clause-value c = none_left _ c.self.inside.least c.self.inside.free c.first_free-at.result c.self.inside.taken.items _ _ c.as_slice.ensures.value c.self.invariant.kept c.if-at-len.false (c.as_slice.ensures.len ∙ sym c.len.ensures) c.first_free-at.ensures.skipped ∙ ap (λ s. slice_get (free_tags s) 0) c.self.view_is

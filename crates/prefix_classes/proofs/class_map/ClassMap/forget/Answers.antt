@@ -1,4 +1,4 @@
-use Rattle.std.proofs.Common.{sym, ap, subst, ◌∙◌, arith}
+use Rattle.std.proofs.Common.{sym, ap, subst, ◌∙◌}
 use Rattle.prefix_classes.proofs.KeepLemmas.{forget_none}
 use Rattle.prefix_classes.specs.Classes.{Classes, members}
 use Rattle.prefix_classes.specs.Counts.{IsCounted, sigs_of}
@@ -7,12 +7,9 @@ use Rattle.prefix_classes.proofs.class_map.ClassMap.forget.Goals as goal
 pub invariant_of-self : goal.invariant_of-self
 invariant_of-self c =
     let it = forget_none _ _ c.args.tag c.args.self.now.kept c.self.invariant (ap (λ (s : Classes). s.kept) c.self.view_is) (ap (λ (s : Classes). members s.tag c.args.tag) c.self.view_is ∙ c.requires) in
-    subst (IsCounted c.self.inside.tags.map) (sym c.take_out.ensures.items) it.0
+    subst (IsCounted c.self.inside.tags.map) (sym c.remove.ensures.items) it.0
 
 pub returns-clause-kept : goal.returns-clause-kept
 returns-clause-kept c =
     let it = forget_none _ _ c.args.tag c.args.self.now.kept c.self.invariant (ap (λ (s : Classes). s.kept) c.self.view_is) (ap (λ (s : Classes). members s.tag c.args.tag) c.self.view_is ∙ c.requires) in
-    ap sigs_of c.take_out.ensures.items ∙ it.1
-
-pub returns-clause-tags : goal.returns-clause-tags
-returns-clause-tags c = let room = ap (λ (s : Classes). s.tags) c.self.view_is in omega (arith, room, c.take_out.ensures.room)
+    ap sigs_of c.remove.ensures.items ∙ it.1

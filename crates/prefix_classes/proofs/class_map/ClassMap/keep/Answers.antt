@@ -7,9 +7,9 @@ use Rattle.prefix_classes.proofs.class_map.ClassMap.keep.Goals as goal
 pub invariant_of-self : goal.invariant_of-self
 invariant_of-self c =
     let it = keep_new _ _ c.args.tag (record { sig = c.args.sig; members = 0 }) c.args.self.now.kept refl c.self.invariant (ap (λ (s : Classes). s.kept) c.self.view_is) c.requires.new in
-    subst (IsCounted c.self.inside.tags.map) (sym c.put_reserved.ensures.items) it.0
+    subst (IsCounted c.self.inside.tags.map) (sym c.put.ensures.items) it.0
 
 pub returns-clause-kept : goal.returns-clause-kept
 returns-clause-kept c =
     let it = keep_new _ _ c.args.tag (record { sig = c.args.sig; members = 0 }) c.args.self.now.kept refl c.self.invariant (ap (λ (s : Classes). s.kept) c.self.view_is) c.requires.new in
-    ap sigs_of c.put_reserved.ensures.items ∙ it.1
+    ap sigs_of c.put.ensures.items ∙ it.1

@@ -10,6 +10,6 @@ use Rattle.prefix_classes.proofs.class_map.ClassMap.tagged.Goals as goal
 
 pub returns : goal.returns
 returns c =
-    ap length c.as_slice.ensures.value ∙ sym (length-map c.self.inside.kept.items sig_entry)
+    c.len.ensures ∙ sym (length-map c.self.inside.kept.items sig_entry)
     ∙ ap length (sym (entries_of_sorted tag_cmp _ (sorted-sigs c.self.inside.kept.items ∙ c.self.invariant.sorted)))
     ∙ ap (λ (s : Classes). length (entries s.kept)) c.self.view_is

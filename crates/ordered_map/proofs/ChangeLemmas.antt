@@ -1,0 +1,62 @@
+-- What changes of values keep, and the entries on both sides of one that changes.
+use Rattle.std.proofs.Common.{◌≡◌, ℕ, true, cond, ◌&&◌, List, [], ◌∷◌, ◌++◌, length, map, ap, ◌∙◌, refl, arith}
+use Rattle.std.specs.Cmp.{IsTotalOrder}
+use Rattle.std.specs.Ordering.{eq_by_cmp, is_eq, is_lt}
+use Rattle.std.specs.declared.cmp.Ordering.{Ordering}
+use Rattle.std.specs.declared.cmp.Ordering.TheVariants.{Less, Equal, Greater}
+use Rattle.std.specs.FinMap.Entries.{is_sorted, below_all}
+use Rattle.std.proofs.lemmas.Bool.{and_parts}
+use Rattle.std.proofs.lemmas.List.{length-map, map-append}
+use Rattle.ordered_map.specs.Changes.{with_values, changed_at}
+use Rattle.ordered_map.specs.Kept.{IsKept}
+use Rattle.ordered_map.proofs.SplitLemmas.{less, IsPast, past_smaller, past_tied, below_smaller, below_tied, sorted_back}
+
+module _ {K V : Type 0} (R : K → K → Ordering) where
+  below_values : (f : K → V → V) (x : K) (es : List (K × V)) → below_all R x (with_values f es) ≡ below_all R x es
+  below_values f x [] = refl
+  below_values f x (e ∷ es) = ap (λ b. is_lt (R x e.0) && b) (below_values f x es)
+
+  pub sorted_values : (f : K → V → V) (es : List (K × V)) → is_sorted R (with_values f es) ≡ is_sorted R es
+  sorted_values f [] = refl
+  sorted_values f (e ∷ es) = λ i. below_values f e.0 es i && sorted_values f es i
+
+  -- the keys stay
+  pub values_rise : (f : K → V → V) (es fs : List (K × V)) → is_sorted R es ≡ true → fs ≡ with_values f es → is_sorted R fs ≡ true
+  values_rise f es fs rising is = ap (is_sorted R) is ∙ sorted_values f es ∙ rising
+
+  pub values_kept : (f : K → V → V) (es fs : List (K × V)) (spare count : ℕ) → IsKept R es spare count → fs ≡ with_values f es → IsKept R fs spare count
+  values_kept f es fs spare count kept is =
+      let size : length fs ≡ length es = ap length is ∙ length-map es (λ (e : K × V). (e.0, f e.0 e.1)) in
+      record { rising = values_rise f es fs kept.rising is; counted = omega (arith, size, kept.counted); fits = kept.fits }
+
+  module _ (q : K) (f : V → V) where
+    abbrev one : K × V → K × V
+    one e = (e.0, cond (eq_by_cmp R q e.0) (f e.1) e.1)
+
+    past_stay : (l : List (K × V)) → IsPast R q l → map one l ≡ l
+    past_stay [] p = refl
+    past_stay (e ∷ l) p = λ i. (e.0, cond (is_eq (p.0 i)) (f e.1) e.1) ∷ past_stay l p.1 i
+
+    below_stay : (m : List (K × V)) → below_all R q m ≡ true → map one m ≡ m
+    below_stay [] h = refl
+    below_stay (e ∷ m) h =
+        let parts = and_parts (is_lt (R q e.0)) (below_all R q m) h in
+        λ i. (e.0, cond (is_eq (less (R q e.0) parts.0 i)) (f e.1) e.1) ∷ below_stay m parts.1 i
+
+    module _ (o : IsTotalOrder R) (l : List (K × V)) (e : K × V) (r : List (K × V)) (h : is_sorted R (l ++ e ∷ r) ≡ true) where
+      pub changed_left : R q e.0 ≡ Less → changed_at R q f (l ++ e ∷ r) ≡ changed_at R q f l ++ e ∷ r
+      changed_left low =
+          let parts = and_parts (below_all R e.0 r) (is_sorted R r) (sorted_back R l (e ∷ r) h) in
+          map-append one l (e ∷ r)
+          ∙ (λ i. map one l ++ (e.0, cond (is_eq (low i)) (f e.1) e.1) ∷ below_stay r (below_smaller R o q e.0 r low parts.0) i)
+
+      pub changed_here : R q e.0 ≡ Equal → changed_at R q f (l ++ e ∷ r) ≡ l ++ (e.0, f e.1) ∷ r
+      changed_here tie =
+          let parts = and_parts (below_all R e.0 r) (is_sorted R r) (sorted_back R l (e ∷ r) h) in
+          map-append one l (e ∷ r)
+          ∙ (λ i. past_stay l (past_tied R o q l e r h tie) i ++ (e.0, cond (is_eq (tie i)) (f e.1) e.1) ∷ below_stay r (below_tied R o q e.0 r tie parts.0) i)
+
+      pub changed_right : R q e.0 ≡ Greater → changed_at R q f (l ++ e ∷ r) ≡ l ++ e ∷ changed_at R q f r
+      changed_right more =
+          map-append one l (e ∷ r)
+          ∙ (λ i. past_stay l (past_smaller R o q l e r h more) i ++ (e.0, cond (is_eq (more i)) (f e.1) e.1) ∷ map one r)

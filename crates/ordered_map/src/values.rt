@@ -1,0 +1,66 @@
+//! Values that change where they stand.
+
+ghost use Rattle.std.specs.Prelude.{◌≡◌, IsTrue};
+ghost use Rattle.std.specs.FinMap.Entries.{is_sorted};
+ghost use Rattle.ordered_map.specs.Changes.{changed_all, changed_at};
+ghost use Rattle.ordered_map.specs.Entries.{entries_of};
+
+use crate::tree::{Node, Tree};
+use std::cmp::Ordering;
+
+/// What becomes of a value that changes.
+pub trait Change<V> {
+    /// The value afterwards.
+    ghost changed: { Self → V → V };
+
+    /// Changes a value.
+    fn change(&self, value: &mut V)
+        ensures { value.new ≡ changed self.now value.old };
+}
+
+/// Changes the value of a key, where it has one.
+pub(crate) fn change_at<K: Ord, V, C: Change<V>>(tree: &mut Tree<K, V>, key: &K, change: &C)
+    requires rising { IsTrue (is_sorted K.cmp (entries_of tree.old)) }
+    ensures { entries_of tree.new ≡ changed_at K.cmp key.now (C.changed change.now) (entries_of tree.old) }
+{
+    match tree {
+        Tree::Empty => {}
+        Tree::Fork(node) => match &mut **node {
+            Node::Blank => {}
+            Node::Full {
+                left,
+                key: held,
+                value,
+                height: _,
+                right,
+            } => match key.cmp(held) {
+                Ordering::Less => change_at(left, key, change),
+                Ordering::Equal => change.change(value),
+                Ordering::Greater => change_at(right, key, change),
+            },
+        },
+    }
+}
+
+/// Changes each value.
+pub(crate) fn change_all<K, V, C: Change<V>>(tree: &mut Tree<K, V>, change: &C)
+    ensures { entries_of tree.new ≡ changed_all (C.changed change.now) (entries_of tree.old) }
+{
+    match tree {
+        Tree::Empty => {}
+        Tree::Fork(node) => match &mut **node {
+            Node::Blank => {}
+            Node::Full {
+                left,
+                key: _,
+                value,
+                height: _,
+                right,
+            } => {
+                change_all(left, change);
+                change.change(value);
+                change_all(right, change);
+            }
+        },
+    }
+}
