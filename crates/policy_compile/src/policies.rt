@@ -8,13 +8,15 @@ ghost use Rattle.net_types.specs.declared.headers.Assign.{Assign as AnyAssign};
 ghost use Rattle.net_types.specs.declared.headers.Span.{Span as AnySpan};
 ghost use Rattle.net_types.specs.Meets.{IsMeet};
 ghost use Rattle.net_types.specs.Sets.{Member, SameMembers};
-ghost use Rattle.net_types.specs.Policies.{Fwd, den, atoms, mods};
+ghost use Rattle.net_types.specs.Policies.{Fwd, Both, den, atoms, mods};
 ghost use Rattle.classifier.specs.Classifiers.{meaning, cubes_of, assigns_of};
 ghost use Rattle.policy_syntax.specs.Views.{policy_of, target_of};
 ghost use Rattle.classifier.specs.Compiled.{IsCompiled};
+ghost use Rattle.policy_compile.specs.Parts.{AreParts};
 
+use crate::parts::{alone, appended};
 use crate::preds::{compile_pred, unchanged};
-use classifier::{Classifier, Results, parallel, sequence, single};
+use classifier::{Classifier, Results, parallel_all, sequence, single};
 use net_types::{Assign, Loc, Memory};
 use policy_isolate::Names;
 use policy_syntax::{Node, Target, Tree};
@@ -51,7 +53,42 @@ fn forward<N: Names>(alloc: Global, target: Target<'_>, names: &N) -> Result<Cla
     }
 }
 
+/// The classifiers of the parts of a sum, however its brackets stand; of another policy its own.
+#[cycle(sums)]
+fn parts_of<N: Names>(alloc: Global, tree: &Tree<'_>, names: &N) -> Result<Vec<Classifier>, Memory>
+    ensures { IfOk result (λ v. AreParts (N.pid_of names.now) (policy_of tree.now) v.items) }
+{
+    match tree.node() {
+        Node::Both(first, second) => {
+            let parts = parts_of_both(alloc, first, second, names)?;
+            Ok(parts)
+        }
+        _ => {
+            let whole = compiled(alloc, tree, names)?;
+            let parts = alone(alloc, whole)?;
+            Ok(parts)
+        }
+    }
+}
+
+/// The classifiers of the parts of two policies' sum.
+#[cycle(sums)]
+fn parts_of_both<N: Names>(
+    alloc: Global,
+    first: &Tree<'_>,
+    second: &Tree<'_>,
+    names: &N,
+) -> Result<Vec<Classifier>, Memory>
+    ensures { IfOk result (λ v. AreParts (N.pid_of names.now) (Both (policy_of first.now) (policy_of second.now)) v.items) }
+{
+    let left = parts_of(alloc, first, names)?;
+    let right = parts_of(alloc, second, names)?;
+    let parts = appended(left, right)?;
+    Ok(parts)
+}
+
 /// What `compile` does, with its three promises as one.
+#[cycle(sums)]
 fn compiled<N: Names>(alloc: Global, tree: &Tree<'_>, names: &N) -> Result<Classifier, Memory>
     ensures { IfOk result (λ c. IsCompiled (N.pid_of names.now) (policy_of tree.now) c) }
 {
@@ -81,9 +118,8 @@ fn compiled<N: Names>(alloc: Global, tree: &Tree<'_>, names: &N) -> Result<Class
             Ok(changed)
         }
         Node::Both(first, second) => {
-            let left = compiled(alloc, first, names)?;
-            let right = compiled(alloc, second, names)?;
-            let either = parallel(alloc, &left, &right)?;
+            let parts = parts_of_both(alloc, first, second, names)?;
+            let either = parallel_all(alloc, &parts)?;
             Ok(either)
         }
         Node::Then(first, second) => {
