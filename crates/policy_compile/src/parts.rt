@@ -16,6 +16,7 @@ pub fn alone(alloc: Global, c: Classifier) -> Result<Vec<Classifier>, Memory>
 }
 
 /// The second classifiers behind the first.
+#[tactic(auto, using(std::proofs::Common::append_assoc))]
 pub fn appended(first: Vec<Classifier>, second: Vec<Classifier>) -> Result<Vec<Classifier>, Memory>
     ensures { IfOk result (λ v. v.items ≡ first.items ++ second.items) }
 {

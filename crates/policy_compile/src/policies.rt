@@ -8,14 +8,14 @@ ghost use Rattle.net_types.specs.declared.headers.Assign.{Assign as AnyAssign};
 ghost use Rattle.net_types.specs.declared.headers.Span.{Span as AnySpan};
 ghost use Rattle.net_types.specs.Meets.{IsMeet};
 ghost use Rattle.net_types.specs.Sets.{Member, SameMembers};
-ghost use Rattle.net_types.specs.Policies.{Fwd, Both, den, atoms, mods};
+ghost use Rattle.net_types.specs.Policies.{Policy, Fwd, Both, Then, den, atoms, mods};
 ghost use Rattle.classifier.specs.Classifiers.{meaning, cubes_of, assigns_of};
 ghost use Rattle.policy_syntax.specs.Views.{policy_of, target_of};
 ghost use Rattle.classifier.specs.Compiled.{IsCompiled};
 ghost use Rattle.policy_compile.specs.Parts.{AreParts};
 
 use crate::parts::{alone, appended};
-use crate::preds::{compile_pred, unchanged};
+use crate::preds::{compile_pred, plain_cube, unchanged};
 use classifier::{Classifier, Results, parallel_all, sequence, single};
 use net_types::{Assign, Loc, Memory};
 use policy_isolate::Names;
@@ -87,6 +87,60 @@ fn parts_of_both<N: Names>(
     Ok(parts)
 }
 
+/// Whether a policy compiles to two rules at most.
+fn is_simple(tree: &Tree<'_>) -> bool {
+    match tree.node() {
+        Node::Both(_, _) => false,
+        Node::Then(_, _) => false,
+        Node::Test(pred) => plain_cube(pred).is_some(),
+        _ => true,
+    }
+}
+
+/// A policy before a classifier.
+#[cycle(sums)]
+fn whole_before<N: Names>(
+    alloc: Global,
+    tree: &Tree<'_>,
+    next: Classifier,
+    names: &N,
+) -> Result<Classifier, Memory>
+    ensures { IfOk result (λ c. (q : Policy) → IsCompiled (N.pid_of names.now) q next → IsCompiled (N.pid_of names.now) (Then (policy_of tree.now) q) c) }
+{
+    let whole = compiled(alloc, tree, names)?;
+    let chained = sequence(alloc, &whole, &next)?;
+    Ok(chained)
+}
+
+/// The same, where a simple end of the policy is put before the classifier first: so a chain of such ends goes over the rules
+/// of what stands before them once.
+#[cycle(sums)]
+fn before<N: Names>(
+    alloc: Global,
+    tree: &Tree<'_>,
+    next: Classifier,
+    names: &N,
+) -> Result<Classifier, Memory>
+    ensures { IfOk result (λ c. (q : Policy) → IsCompiled (N.pid_of names.now) q next → IsCompiled (N.pid_of names.now) (Then (policy_of tree.now) q) c) }
+{
+    match tree.node() {
+        Node::Then(first, second) => {
+            if is_simple(second) {
+                let end = compiled(alloc, second, names)?;
+                let later = sequence(alloc, &end, &next)?;
+                let chained = before(alloc, first, later, names)?;
+                return Ok(chained);
+            }
+            let chained = whole_before(alloc, tree, next, names)?;
+            Ok(chained)
+        }
+        _ => {
+            let chained = whole_before(alloc, tree, next, names)?;
+            Ok(chained)
+        }
+    }
+}
+
 /// What `compile` does, with its three promises as one.
 #[cycle(sums)]
 fn compiled<N: Names>(alloc: Global, tree: &Tree<'_>, names: &N) -> Result<Classifier, Memory>
@@ -123,9 +177,8 @@ fn compiled<N: Names>(alloc: Global, tree: &Tree<'_>, names: &N) -> Result<Class
             Ok(either)
         }
         Node::Then(first, second) => {
-            let left = compiled(alloc, first, names)?;
-            let right = compiled(alloc, second, names)?;
-            let chained = sequence(alloc, &left, &right)?;
+            let next = compiled(alloc, second, names)?;
+            let chained = before(alloc, first, next, names)?;
             Ok(chained)
         }
     }

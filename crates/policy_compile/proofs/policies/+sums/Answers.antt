@@ -10,6 +10,7 @@ use Rattle.policy_syntax.specs.Views.{policy_of, pred_of}
 use Rattle.classifier.specs.Compiled.{IsCompiled}
 use Rattle.classifier.specs.Sums.{IsSum}
 use Rattle.policy_compile.specs.Parts.{AreParts}
+use Rattle.policy_compile.proofs.ChainLemmas.{compiled-regrouped}
 use Rattle.policy_compile.proofs.PartLemmas.{parts-one, parts-both, compiled-parts}
 use Rattle.classifier.proofs.CompileLemmas
 use Rattle.policy_compile.proofs.policies.+sums.Goals as goal
@@ -55,13 +56,27 @@ compiled-returns-in_ok-either-in-Both g t c =
     let p = model.Both (policy_of c.in-Both.first.now) (policy_of c.in-Both.second.now) in
     subst (λ q. IsCompiled pid_of q c.in_ok-either-in-Both.either) c.in-Both.ensures
     (compiled-parts pid_of p c.in_ok-parts-in-Both.parts.items c.in_ok-either-in-Both.either c.in_ok-parts-in-Both.ensures
-    (subst (λ xs. IsSum xs c.in_ok-either-in-Both.either) c.deref-in-Both.ensures.value c.in_ok-either-in-Both.ensures))
+    (subst (λ xs. IsSum xs c.in_ok-either-in-Both.either) c.deref.ensures.value c.in_ok-either-in-Both.ensures))
 
 pub compiled-returns-in_ok-chained-in-Then : goal.compiled-returns-in_ok-chained-in-Then
 compiled-returns-in_ok-chained-in-Then g t c =
-    let f = c.in_ok-chained-in-Then.ensures in
     subst (λ p. IsCompiled (g.N.Names.pid_of c.args.names.now) p c.in_ok-chained-in-Then.chained) c.in-Then.ensures
-    (CompileLemmas.compiled-then (g.N.Names.pid_of c.args.names.now) (policy_of c.in-Then.first.now) (policy_of c.in-Then.second.now) c.in_ok-left-in-Then.left c.in_ok-right-in-Then.right c.in_ok-chained-in-Then.chained c.in_ok-left-in-Then.ensures c.in_ok-right-in-Then.ensures f.chain f.cubes f.assigns)
+    (c.in_ok-chained-in-Then.ensures (policy_of c.in-Then.second.now) c.in_ok-next-in-Then.ensures)
+
+pub whole_before-returns : goal.whole_before-returns
+whole_before-returns g t c = λ q h.
+    let f = c.in_ok-chained.ensures in
+    CompileLemmas.compiled-then (g.N.Names.pid_of c.args.names.now) (policy_of c.args.tree.now) q c.in_ok-whole.whole c.args.next c.in_ok-chained.chained c.in_ok-whole.ensures h f.chain f.cubes f.assigns
+
+pub before-returns-then-is_simple-in-Then : goal.before-returns-then-is_simple-in-Then
+before-returns-then-is_simple-in-Then g t c = λ q h.
+    let pid_of = g.N.Names.pid_of c.args.names.now in
+    let first = policy_of c.in-Then.first.now in
+    let second = policy_of c.in-Then.second.now in
+    let f = c.in_ok-later-in-Then.ensures in
+    subst (λ p. IsCompiled pid_of (model.Then p q) c.in_ok-chained-in-Then.chained) c.in-Then.ensures
+    (compiled-regrouped pid_of first second q c.in_ok-chained-in-Then.chained (c.in_ok-chained-in-Then.ensures (model.Then second q)
+    (CompileLemmas.compiled-then pid_of second q c.in_ok-end-in-Then.end c.args.next c.in_ok-later-in-Then.later c.in_ok-end-in-Then.ensures h f.chain f.cubes f.assigns)))
 
 pub parts_of-returns-in_ok-parts-in-Both : goal.parts_of-returns-in_ok-parts-in-Both
 parts_of-returns-in_ok-parts-in-Both g t c = subst (λ p. AreParts (g.N.Names.pid_of c.args.names.now) p c.in_ok-parts-in-Both.parts.items) c.in-Both.ensures c.in_ok-parts-in-Both.ensures

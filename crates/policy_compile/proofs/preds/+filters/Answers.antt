@@ -41,7 +41,7 @@ compile_pred-returns-in_ok-either-in-Or t c =
     let p = model.Or (pred_of c.in-Or.first.now) (pred_of c.in-Or.second.now) in
     subst (λ q. Filters q c.in_ok-either-in-Or.either) (sym (ap pred_of c.in-Or.is))
     (filter-parts p c.in_ok-parts-in-Or.parts.items c.in_ok-either-in-Or.either c.in_ok-parts-in-Or.ensures
-    (subst (λ xs. IsSum xs c.in_ok-either-in-Or.either) c.deref-in-Or.ensures.value c.in_ok-either-in-Or.ensures))
+    (subst (λ xs. IsSum xs c.in_ok-either-in-Or.either) c.deref.ensures.value c.in_ok-either-in-Or.ensures))
 
 pub compile_pred-returns-in_ok-both-in-None : goal.compile_pred-returns-in_ok-both-in-None
 compile_pred-returns-in_ok-both-in-None t c =
