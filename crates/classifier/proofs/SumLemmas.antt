@@ -9,7 +9,7 @@ use Rattle.net_types.specs.Cubes.{everything}
 use Rattle.net_types.specs.Meets.{IsMeet}
 use Rattle.net_types.specs.Sets.{Member, SameMembers, union_over}
 use Rattle.net_types.proofs.SetLemmas
-use Rattle.net_types.proofs.MeetLemmas.{IsMeet-member, IsMeet-sum, IsMeet-everything}
+use Rattle.net_types.proofs.MeetLemmas.{IsMeet-member, IsMeet-sum}
 use Rattle.classifier.specs.declared.classifier.Classifier.{Classifier}
 use Rattle.classifier.specs.Meaning as lines
 use Rattle.classifier.specs.Classifiers.{lines_of, meaning, cubes_of, assigns_of}

@@ -1,7 +1,6 @@
 use Rattle.std.proofs.Common.{◌≡◌, length, List, [], ◌∷◌, map, sym, ap, ◌∙◌, subst}
 use Rattle.std.proofs.lemmas.Bool.{eqb-true}
 use Rattle.net_types.specs.Sets.{Member}
-use Rattle.net_types.specs.declared.headers.Assign.{Assign}
 use Rattle.classifier.specs.Items.{Item}
 use Rattle.classifier.specs.Meaning.{carried}
 use Rattle.classifier.specs.Sums.{IsSum}

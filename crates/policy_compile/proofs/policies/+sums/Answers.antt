@@ -68,8 +68,8 @@ whole_before-returns g t c = λ q h.
     let f = c.in_ok-chained.ensures in
     CompileLemmas.compiled-then (g.N.Names.pid_of c.args.names.now) (policy_of c.args.tree.now) q c.in_ok-whole.whole c.args.next c.in_ok-chained.chained c.in_ok-whole.ensures h f.chain f.cubes f.assigns
 
-pub before-returns-then-is_simple-in-Then : goal.before-returns-then-is_simple-in-Then
-before-returns-then-is_simple-in-Then g t c = λ q h.
+pub before-returns-then-is_simple : goal.before-returns-then-is_simple
+before-returns-then-is_simple g t c = λ q h.
     let pid_of = g.N.Names.pid_of c.args.names.now in
     let first = policy_of c.in-Then.first.now in
     let second = policy_of c.in-Then.second.now in
