@@ -5,7 +5,7 @@ use Rattle.net_types.specs.declared.address.Pid.{Pid}
 use Rattle.net_types.specs.declared.cube.Cube.{Cube}
 use Rattle.net_types.specs.declared.headers.Assign.{Assign}
 use Rattle.net_types.specs.Headers.{followed_by}
-use Rattle.net_types.specs.Meets.{IsMeet, behind}
+use Rattle.net_types.specs.Meets.{behind}
 use Rattle.net_types.specs.Sets.{Member, union_over}
 use Rattle.net_types.specs.Policies as model
 use Rattle.net_types.specs.Policies.{Packet, den, mods, atoms}

@@ -1,18 +1,12 @@
 -- Sums of many parts, by what is known of each part.
-use Rattle.std.proofs.Common.{◌≡◌, ℕ, Bool, true, false, ◌||◌, cond, Option, List, [], ◌∷◌, ◌++◌, refl, inl, inr, sym, ap, ◌∙◌, subst}
+use Rattle.std.proofs.Common.{ℕ, Option, List, [], ◌∷◌, ◌++◌, inl, inr, subst}
 use Rattle.std.proofs.lemmas.List.{append-nil}
 use Rattle.net_types.specs.declared.address.Pid.{Pid}
-use Rattle.net_types.specs.declared.cube.Cube.{Cube}
-use Rattle.net_types.specs.declared.headers.Headers.{Headers}
-use Rattle.net_types.specs.declared.headers.Loc.{Loc}
-use Rattle.net_types.specs.declared.headers.Assign.{Assign}
-use Rattle.net_types.specs.Headers.{no_change}
-use Rattle.net_types.specs.Meets.{IsMeet}
-use Rattle.net_types.specs.Sets.{Member, SameMembers, union_over}
+use Rattle.net_types.specs.Sets.{Member, union_over}
 use Rattle.net_types.specs.Policies as model
 use Rattle.net_types.specs.Policies.{holds, den, mods, pred_atoms, atoms}
 use Rattle.net_types.proofs.SetLemmas
-use Rattle.net_types.proofs.MeetLemmas.{IsMeet-wider, IsMeet-sum, IsMeet-append_left, IsMeet-append_right}
+use Rattle.net_types.proofs.MeetLemmas.{IsMeet-wider, IsMeet-append_left, IsMeet-append_right}
 use Rattle.classifier.specs.declared.classifier.Classifier.{Classifier}
 use Rattle.classifier.specs.Classifiers.{meaning, cubes_of, assigns_of}
 use Rattle.classifier.specs.Compiled.{Filters, IsCompiled}
