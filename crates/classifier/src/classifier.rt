@@ -1,10 +1,10 @@
 //! The type of classifiers.
 
-ghost use Rattle.std.specs.Prelude.{IsTrue};
+ghost use Rattle.std.specs.Prelude.{IsTrue, IfOk};
 ghost use Rattle.classifier.specs.Meaning.{HasDistinctCubes, HasDistinctCubes-prop, ends_with_everything};
 
 use crate::line::{Line, Lines};
-use net_types::Items;
+use net_types::{Items, Memory, TryCopy};
 
 /// Rules in order, of which the first with a packet's headers decides. Their cubes differ, and the last has all headers.
 #[derive(Drop)]
@@ -34,6 +34,14 @@ impl Classifier {
         ensures { lines_of result ≡ lines }
     {
         Classifier { lines }
+    }
+
+    /// A classifier of the same rules.
+    pub(crate) fn twin(&self) -> Result<Classifier, Memory>
+        ensures { IfOk result (λ c. lines_of c ≡ lines_of self.now) }
+    {
+        let lines = self.lines.copy()?;
+        Ok(Classifier::from_lines(lines))
     }
 
     /// The same of a vector.

@@ -13,6 +13,7 @@ mod results;
 mod run;
 mod runs;
 mod seen;
+mod sum;
 mod tight;
 
 pub use classifier::Classifier;
@@ -22,3 +23,4 @@ pub use ops::{choose, negate, parallel, sequence, single, test, tighten};
 pub use product::product_within;
 pub use results::Results;
 pub use seen::{push_line, push_lines};
+pub use sum::parallel_all;

@@ -53,7 +53,7 @@ pull-followed c first next =
     ∙ ap (has c) (sym (apply-followed_by first next h)) ∙ sym (has-pull c (followed_by first next) h))
 
 -- behind a chain
-behind-onto : (ps qs : List Assign) (cubes near : List Cube) → SameMembers near (behind qs cubes) → (d : Cube) → Member d (behind ps near) → Member d (behind (union_over (λ first. map (λ next. followed_by first next) qs) ps) cubes)
+pub behind-onto : (ps qs : List Assign) (cubes near : List Cube) → SameMembers near (behind qs cubes) → (d : Cube) → Member d (behind ps near) → Member d (behind (union_over (λ first. map (λ next. followed_by first next) qs) ps) cubes)
 behind-onto ps qs cubes near same d k =
     let far = Member-behind ps near d k in
     let close = Member-behind qs cubes far.cube (same.onto far.cube far.cube_stands) in

@@ -2,3 +2,4 @@ pub mod Sets
 pub mod Narrow
 pub mod Apart
 pub mod Measures
+pub mod Parts

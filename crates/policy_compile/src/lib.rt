@@ -6,6 +6,7 @@ mod atoms;
 mod fields;
 mod meets;
 mod mods;
+mod parts;
 mod policies;
 mod preds;
 mod sets;

@@ -8,13 +8,15 @@ ghost use Rattle.net_types.specs.declared.headers.Assign.{Assign as AnyAssign};
 ghost use Rattle.net_types.specs.declared.headers.Span.{Span as AnySpan};
 ghost use Rattle.net_types.specs.Meets.{IsMeet};
 ghost use Rattle.net_types.specs.Sets.{Member, SameMembers};
-ghost use Rattle.net_types.specs.Policies.{Fwd, den, atoms, mods};
+ghost use Rattle.net_types.specs.Policies.{Policy, Fwd, Both, Then, den, atoms, mods};
 ghost use Rattle.classifier.specs.Classifiers.{meaning, cubes_of, assigns_of};
 ghost use Rattle.policy_syntax.specs.Views.{policy_of, target_of};
 ghost use Rattle.classifier.specs.Compiled.{IsCompiled};
+ghost use Rattle.policy_compile.specs.Parts.{AreParts};
 
-use crate::preds::{compile_pred, unchanged};
-use classifier::{Classifier, Results, parallel, sequence, single};
+use crate::parts::{alone, appended};
+use crate::preds::{compile_pred, plain_cube, unchanged};
+use classifier::{Classifier, Results, parallel_all, sequence, single};
 use net_types::{Assign, Loc, Memory};
 use policy_isolate::Names;
 use policy_syntax::{Node, Target, Tree};
@@ -51,7 +53,96 @@ fn forward<N: Names>(alloc: Global, target: Target<'_>, names: &N) -> Result<Cla
     }
 }
 
+/// The classifiers of the parts of a sum, however its brackets stand; of another policy its own.
+#[cycle(sums)]
+fn parts_of<N: Names>(alloc: Global, tree: &Tree<'_>, names: &N) -> Result<Vec<Classifier>, Memory>
+    ensures { IfOk result (λ v. AreParts (N.pid_of names.now) (policy_of tree.now) v.items) }
+{
+    match tree.node() {
+        Node::Both(first, second) => {
+            let parts = parts_of_both(alloc, first, second, names)?;
+            Ok(parts)
+        }
+        _ => {
+            let whole = compiled(alloc, tree, names)?;
+            let parts = alone(alloc, whole)?;
+            Ok(parts)
+        }
+    }
+}
+
+/// The classifiers of the parts of two policies' sum.
+#[cycle(sums)]
+fn parts_of_both<N: Names>(
+    alloc: Global,
+    first: &Tree<'_>,
+    second: &Tree<'_>,
+    names: &N,
+) -> Result<Vec<Classifier>, Memory>
+    ensures { IfOk result (λ v. AreParts (N.pid_of names.now) (Both (policy_of first.now) (policy_of second.now)) v.items) }
+{
+    let left = parts_of(alloc, first, names)?;
+    let right = parts_of(alloc, second, names)?;
+    let parts = appended(left, right)?;
+    Ok(parts)
+}
+
+/// Whether a policy compiles to two rules at most.
+fn is_simple(tree: &Tree<'_>) -> bool {
+    match tree.node() {
+        Node::Both(_, _) => false,
+        Node::Then(_, _) => false,
+        Node::Test(pred) => plain_cube(pred).is_some(),
+        _ => true,
+    }
+}
+
+/// A policy before a classifier.
+#[cycle(sums)]
+fn whole_before<N: Names>(
+    alloc: Global,
+    tree: &Tree<'_>,
+    next: Classifier,
+    names: &N,
+) -> Result<Classifier, Memory>
+    ensures { IfOk result (λ c. (q : Policy) → IsCompiled (N.pid_of names.now) q next → IsCompiled (N.pid_of names.now) (Then (policy_of tree.now) q) c) }
+{
+    let whole = compiled(alloc, tree, names)?;
+    let chained = sequence(alloc, &whole, &next)?;
+    Ok(chained)
+}
+
+/// The same, where a simple end of the policy is put before the classifier first: so a chain of such ends goes over the rules
+/// of what stands before them once.
+#[cycle(sums)]
+fn before<N: Names>(
+    alloc: Global,
+    tree: &Tree<'_>,
+    next: Classifier,
+    names: &N,
+) -> Result<Classifier, Memory>
+    ensures { IfOk result (λ c. (q : Policy) → IsCompiled (N.pid_of names.now) q next → IsCompiled (N.pid_of names.now) (Then (policy_of tree.now) q) c) }
+{
+    match tree.node() {
+        Node::Then(first, second) => {
+            if is_simple(second) {
+                let end = compiled(alloc, second, names)?;
+                let later = sequence(alloc, &end, &next)?;
+                let chained = before(alloc, first, later, names)?;
+                return Ok(chained);
+            }
+            let chained = whole_before(alloc, tree, next, names)?;
+            Ok(chained)
+        }
+        _ => {
+            let chained = whole_before(alloc, tree, next, names)?;
+            Ok(chained)
+        }
+    }
+}
+
 /// What `compile` does, with its three promises as one.
+#[cycle(sums)]
 fn compiled<N: Names>(alloc: Global, tree: &Tree<'_>, names: &N) -> Result<Classifier, Memory>
     ensures { IfOk result (λ c. IsCompiled (N.pid_of names.now) (policy_of tree.now) c) }
 {
@@ -81,15 +172,13 @@ fn compiled<N: Names>(alloc: Global, tree: &Tree<'_>, names: &N) -> Result<Class
             Ok(changed)
         }
         Node::Both(first, second) => {
-            let left = compiled(alloc, first, names)?;
-            let right = compiled(alloc, second, names)?;
-            let either = parallel(alloc, &left, &right)?;
+            let parts = parts_of_both(alloc, first, second, names)?;
+            let either = parallel_all(alloc, &parts)?;
             Ok(either)
         }
         Node::Then(first, second) => {
-            let left = compiled(alloc, first, names)?;
-            let right = compiled(alloc, second, names)?;
-            let chained = sequence(alloc, &left, &right)?;
+            let next = compiled(alloc, second, names)?;
+            let chained = before(alloc, first, next, names)?;
             Ok(chained)
         }
     }

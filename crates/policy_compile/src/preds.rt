@@ -3,11 +3,13 @@
 ghost use Rattle.std.specs.Prelude.{◌≡◌, ◌∷◌, [], IfOk};
 ghost use Rattle.net_types.specs.Headers.{no_change};
 ghost use Rattle.net_types.specs.declared.headers.Loc.TheVariants.{Stay};
-ghost use Rattle.net_types.specs.Policies.{plain, test_cube};
+ghost use Rattle.net_types.specs.Policies.{Or, plain, test_cube};
 ghost use Rattle.policy_syntax.specs.Views.{pred_of, test_of};
 ghost use Rattle.classifier.specs.Compiled.{Filters, KeepsFound};
+ghost use Rattle.policy_compile.specs.Parts.{AreFilters};
 
-use classifier::{Classifier, Results, negate, parallel, sequence, single};
+use crate::parts::{alone, appended};
+use classifier::{Classifier, Results, negate, parallel_all, sequence, single};
 use net_types::{Assign, Cube, Loc, Memory};
 use policy_syntax::{Pred, Test};
 use std::alloc::Global;
@@ -71,7 +73,41 @@ fn keep_found(alloc: Global, found: Option<Cube>) -> Result<Classifier, Memory>
     }
 }
 
+/// The classifiers of the parts of a disjunction, however its brackets stand; of another predicate its own.
+#[cycle(filters)]
+fn filters_of(alloc: Global, pred: &Pred<'_>) -> Result<Vec<Classifier>, Memory>
+    ensures { IfOk result (λ v. AreFilters (pred_of pred.now) v.items) }
+{
+    match pred {
+        Pred::Or(first, second) => {
+            let parts = filters_of_both(alloc, first, second)?;
+            Ok(parts)
+        }
+        _ => {
+            let whole = compile_pred(alloc, pred)?;
+            let parts = alone(alloc, whole)?;
+            Ok(parts)
+        }
+    }
+}
+
+/// The classifiers of the parts of two predicates' disjunction.
+#[cycle(filters)]
+fn filters_of_both(
+    alloc: Global,
+    first: &Pred<'_>,
+    second: &Pred<'_>,
+) -> Result<Vec<Classifier>, Memory>
+    ensures { IfOk result (λ v. AreFilters (Or (pred_of first.now) (pred_of second.now)) v.items) }
+{
+    let left = filters_of(alloc, first)?;
+    let right = filters_of(alloc, second)?;
+    let parts = appended(left, right)?;
+    Ok(parts)
+}
+
 /// The packet as it is where the predicate holds, and nothing elsewhere.
+#[cycle(filters)]
 pub fn compile_pred(alloc: Global, pred: &Pred<'_>) -> Result<Classifier, Memory>
     ensures { IfOk result (λ c. Filters (pred_of pred.now) c) }
 {
@@ -102,9 +138,8 @@ pub fn compile_pred(alloc: Global, pred: &Pred<'_>) -> Result<Classifier, Memory
             }
         },
         Pred::Or(first, second) => {
-            let left = compile_pred(alloc, first)?;
-            let right = compile_pred(alloc, second)?;
-            let either = parallel(alloc, &left, &right)?;
+            let parts = filters_of_both(alloc, first, second)?;
+            let either = parallel_all(alloc, &parts)?;
             Ok(either)
         }
     }

@@ -207,7 +207,7 @@ fn sent(octet: u8, sport: Option<u16>, dport: Option<u16>) -> Packet {
 }
 
 // Every construct stands in one of them, alone and in parts.
-const POLICIES: [&str; 18] = [
+const POLICIES: [&str; 21] = [
     "drop + pass",
     "block",
     "fwd(C) + fwd(2)",
@@ -226,6 +226,9 @@ const POLICIES: [&str; 18] = [
     "fwd(C) >> block + block >> fwd(2) >> pass",
     "modify(dstport=1, dstport=80, srcport=9) >> (match(dstport=80) + match(dstport=1) >> block)",
     "match(inport=2) + match(srcip=0.0.0.0/0 & dstip=10.0.0.0/7) >> modify(dstip=9.9.9.9)",
+    "(match(dstport=80) + (fwd(C) + match(srcport=7)) >> fwd(2)) + (drop + (pass + block))",
+    "match(srcport=7 | (dstport=443 | (proto=9 | !inport=1)) | srcip=11.0.0.0/8)",
+    "match(!dstport=80) >> modify(srcport=8) >> pass >> match(srcport=8) >> fwd(B) >> pass",
 ];
 
 #[test]

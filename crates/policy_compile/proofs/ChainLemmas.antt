@@ -1,0 +1,92 @@
+-- Chains whose brackets stand otherwise.
+use Rattle.std.proofs.Common.{◌≡◌, ℕ, Option, Some, None, List, [], ◌∷◌, ◌++◌, map, refl, inl, inr, sym, ap, ◌∙◌, subst}
+use Rattle.std.specs.Option.{option_or}
+use Rattle.net_types.specs.declared.address.Pid.{Pid}
+use Rattle.net_types.specs.declared.cube.Cube.{Cube}
+use Rattle.net_types.specs.declared.headers.Assign.{Assign}
+use Rattle.net_types.specs.Headers.{followed_by}
+use Rattle.net_types.specs.Meets.{behind}
+use Rattle.net_types.specs.Sets.{Member, union_over}
+use Rattle.net_types.specs.Policies as model
+use Rattle.net_types.specs.Policies.{Packet, den, mods, atoms}
+use Rattle.net_types.proofs.SetLemmas
+use Rattle.net_types.proofs.MeetLemmas.{IsMeet-wider, IsMeet-member, Member-behind, behind-Member}
+use Rattle.classifier.specs.declared.classifier.Classifier.{Classifier}
+use Rattle.classifier.specs.Compiled.{IsCompiled}
+use Rattle.classifier.proofs.SumLemmas.{union-append}
+use Rattle.policy_compile.proofs.AtomLemmas.{behind-onto}
+
+-- what a function gives of each of what another gives
+union-union : {A B C : Type 0} (f : B → List C) (g : A → List B) (xs : List A) → union_over (λ x. union_over f (g x)) xs ≡ union_over f (union_over g xs)
+union-union f g [] = refl
+union-union f g (x ∷ xs) = ap (λ zs. union_over f (g x) ++ zs) (union-union f g xs) ∙ sym (union-append f (g x) (union_over g xs))
+
+-- three assignments, one after another
+or-regrouped : {A : Type 0} (a b c : Option A) → option_or (option_or c b) a ≡ option_or c (option_or b a)
+or-regrouped a b None = refl
+or-regrouped a b (Some x) = refl
+
+followed-regrouped : (first second third : Assign) → followed_by first (followed_by second third) ≡ followed_by (followed_by first second) third
+followed-regrouped a b c =
+    let src = or-regrouped a.src b.src c.src in
+    let dst = or-regrouped a.dst b.dst c.dst in
+    let sport = or-regrouped a.sport b.sport c.sport in
+    let dport = or-regrouped a.dport b.dport c.dport in
+    rw (src, dst, sport, dport) refl
+
+-- the assignments of a chain
+abbrev pub in_turn : List Assign → List Assign → List Assign
+in_turn firsts nexts = union_over (λ first. map (λ next. followed_by first next) nexts) firsts
+
+-- a member of them, with the two that it is made of
+record InTurn (firsts nexts : List Assign) (m : Assign) : Type 0 where
+  pub first : Assign
+  pub next : Assign
+  pub first_stands : Member first firsts
+  pub next_stands : Member next nexts
+  pub is : m ≡ followed_by first next
+
+turn-from : (firsts nexts : List Assign) (m : Assign) → Member m (in_turn firsts nexts) → InTurn firsts nexts m
+turn-from firsts nexts m k =
+    let s = SetLemmas.union-Member (λ first. map (λ next. followed_by first next) nexts) firsts m k in
+    let i = SetLemmas.map-Member (λ next. followed_by s.of next) nexts m s.gives in
+    record { first = s.of; next = i.of; first_stands = s.stands; next_stands = i.stands; is = i.is }
+
+turn-to : (firsts nexts : List Assign) (first next : Assign) → Member first firsts → Member next nexts → Member (followed_by first next) (in_turn firsts nexts)
+turn-to firsts nexts first next h k =
+    SetLemmas.Member-union (λ a. map (λ b. followed_by a b) nexts) firsts first (followed_by first next) h (SetLemmas.Member-map (λ b. followed_by first b) nexts next k)
+
+mods-regrouped : (ps qs rs : List Assign) (m : Assign) → Member m (in_turn ps (in_turn qs rs)) → Member m (in_turn (in_turn ps qs) rs)
+mods-regrouped ps qs rs m k =
+    let s = turn-from ps (in_turn qs rs) m k in
+    let u = turn-from qs rs s.next s.next_stands in
+    let e : m ≡ followed_by (followed_by s.first u.first) u.next = s.is ∙ ap (followed_by s.first) u.is ∙ followed-regrouped s.first u.first u.next in
+    subst (λ n. Member n (in_turn (in_turn ps qs) rs)) (sym e)
+    (turn-to (in_turn ps qs) rs (followed_by s.first u.first) u.next (turn-to ps qs s.first u.first s.first_stands u.first_stands) u.next_stands)
+
+atoms-regrouped : (p q r : model.Policy) (a : Cube) → Member a (atoms (model.Then p (model.Then q r))) → Member a (atoms (model.Then (model.Then p q) r))
+atoms-regrouped p q r a k =
+    let near = behind (mods q) (atoms r) in
+    let left = atoms (model.Then p q) in
+    let right = behind (mods (model.Then p q)) (atoms r) in
+    elim (SetLemmas.Member-append_cases (atoms p) (behind (mods p) (atoms q ++ near)) a k) [
+      | inl first ↦ SetLemmas.Member-append_left left right a (SetLemmas.Member-append_left (atoms p) (behind (mods p) (atoms q)) a first)
+      | inr later ↦
+          let s = Member-behind (mods p) (atoms q ++ near) a later in
+          elim (SetLemmas.Member-append_cases (atoms q) near s.cube s.cube_stands) [
+            | inl second ↦ SetLemmas.Member-append_left left right a (SetLemmas.Member-append_right (atoms p) (behind (mods p) (atoms q)) a
+                (behind-Member (mods p) (atoms q) s.set s.cube a s.set_stands second s.is))
+            | inr third ↦ SetLemmas.Member-append_right left right a
+                (behind-onto (mods p) (mods q) (atoms r) near (SetLemmas.same_refl near) a (behind-Member (mods p) near s.set s.cube a s.set_stands third s.is))
+          ]
+    ]
+
+-- a chain of three, the last two of which are compiled first
+pub compiled-regrouped : (pid_of : List ℕ → Option Pid) (p q r : model.Policy) (c : Classifier) → IsCompiled pid_of (model.Then p (model.Then q r)) c → IsCompiled pid_of (model.Then (model.Then p q) r) c
+compiled-regrouped pid_of p q r c f = record {
+  means = λ h l. SetLemmas.same_trans (f.means h l)
+      (SetLemmas.same_eq (union-union (λ (x : Packet). den pid_of r x.0 x.1) (λ (x : Packet). den pid_of q x.0 x.1) (den pid_of p h l)));
+  cubes = λ x k. IsMeet-wider (atoms (model.Then p (model.Then q r))) (atoms (model.Then (model.Then p q) r))
+      (λ a m. IsMeet-member (atoms (model.Then (model.Then p q) r)) a (atoms-regrouped p q r a m)) x (f.cubes x k);
+  assigns = λ m k. mods-regrouped (mods p) (mods q) (mods r) m (f.assigns m k);
+}
