@@ -1,0 +1,378 @@
+"""The inputs of `bench/run` and `bench/hostile`: lines of exchanges of several sizes, UPDATE messages, and texts of policies."""
+import string
+
+def comments(out):
+    line = b"# " + b"x" * 97 + b"\n"
+    for _ in range(1000):
+        out.write(line * 1000)
+
+
+def refused_lines(out):
+    for _ in range(1000):
+        out.write(b"frob A\n" * 1000)
+
+
+def long_lines(out):
+    for _ in range(1000):
+        out.write(b"y" * 20000 + b"\n")
+
+
+INPUTS = [
+    ("100 MB of comments", comments),
+    ("1000000 refused short lines", refused_lines),
+    ("1000 lines of 20000 octets", long_lines),
+]
+PACKETS = 100000
+
+
+def datagram(destination):
+    """28 octets of UDP to an address, with a right header checksum."""
+    header = bytes.fromhex("4500001c0000000040110000c0000201") + destination
+    words = [int.from_bytes(header[i : i + 2], "big") for i in range(0, 20, 2)]
+    total = sum(words)
+    while total > 0xFFFF:
+        total = (total & 0xFFFF) + (total >> 16)
+    return header[:10] + (0xFFFF - total).to_bytes(2, "big") + header[12:] + bytes.fromhex("03e8005000080000")
+
+
+def exchange_of_200(out):
+    """Two participants, 200 prefixes of length 16, and a router that has resolved all its next hops."""
+    out.write(b"exchange 100.64.0.0 400 1000\n")
+    for name, number in ((b"A", 1), (b"B", 2)):
+        out.write(b"participant %s 6500%d 1.0.0.%d\n" % (name, number, number))
+        out.write(b"port %s %d 172.16.1.%d 02:00:00:00:00:0%d\n" % (name, number, number, number))
+    for n in range(200):
+        out.write(b"update B " + update(b"", bytes([16, 10, n])).hex().encode() + b"\n")
+    out.write(b"drain A\nresolve 1\n")
+
+
+def exchange_with_packets(out):
+    exchange_of_200(out)
+    for n in range(PACKETS):
+        out.write(b"packet 1 " + datagram(bytes([10, n * 7919 % 200, n >> 8 & 255, n & 255])).hex().encode() + b"\n")
+
+
+def single_updates(out, count):
+    """Sixteen participants with a port each, and so many updates, each of which announces a prefix of its own."""
+    out.write(b"exchange 100.64.0.0 4000 100000\n")
+    for n in range(16):
+        out.write(b"participant P%d %d 1.0.0.%d\n" % (n, 65001 + n, n + 1))
+        out.write(b"port P%d %d 172.16.1.%d 02:00:00:00:00:%02x\n" % (n, n + 1, n + 1, n + 1))
+    for n in range(count):
+        message = update(b"", bytes([24, 10, n // 256, n % 256]), 65001 + n % 16, n % 16 + 1)
+        out.write(b"update P%d " % (n % 16) + message.hex().encode() + b"\n")
+
+
+def update(attributes, prefixes, number=65002, host=2):
+    """An UPDATE message that announces prefixes with these attributes beside ORIGIN, AS_PATH (of one AS) and NEXT_HOP (172.16.1.host)."""
+    block = bytes.fromhex("400101004002040201") + number.to_bytes(2, "big") + bytes.fromhex("400304ac1001") + bytes([host]) + attributes
+    body = b"\0\0" + len(block).to_bytes(2, "big") + block + prefixes
+    return b"\xff" * 16 + (19 + len(body)).to_bytes(2, "big") + b"\2" + body
+
+
+def many_prefixes():
+    numbers = [(n * 7919) % 1300 for n in range(1300)]
+    return b"".join(bytes([16, 10 + n // 256, n % 256]) for n in numbers)
+
+
+MESSAGES = [
+    ("a small message", update(b"", b"\x08\x0a"), 1000000),
+    ("1300 prefixes in no order", update(b"", many_prefixes()), 5000),
+    ("150 unknown attributes, falling", update(b"".join(bytes([0xC0, 255 - n, 20]) + b"x" * 20 for n in range(150)), b"\x08\x0a"), 20000),
+]
+
+
+def choices(field, values, action):
+    """A sum of one test a value."""
+    return "+".join(f"match({field}={value}){action}" for value in values)
+
+
+def settings(field, values):
+    """A sum of one assignment a value."""
+    return "+".join(f"modify({field}={value})" for value in values)
+
+
+def nets(count):
+    return [f"{value}.0.0.0/8" for value in range(1, count + 1)]
+
+
+def grid(count, action):
+    """Tests of four fields, each with so many values: (count + 1) to the fourth meets."""
+    ports = range(1, count + 1)
+    return "+".join([choices("srcport", ports, action), choices("dstport", ports, action),
+                     choices("srcip", nets(count), action), choices("dstip", nets(count), action)])
+
+
+def lonely(count):
+    """Conjunctions that meet hardly anything, each of which is compared with all meets."""
+    return "+".join(f"match(srcip=99.9.{i // 10}.{i % 10},srcport={100 + i},dstport={100 + i},proto=9)" for i in range(count))
+
+
+def nested(levels, count):
+    """Chains within chains; each loses a test, so that each has to be counted by itself."""
+    text = "+".join([lonely(count), "+".join(f"match(srcip=1.2.3.4/{length})" for length in range(1, 15)),
+                     choices("dstport", range(1, 44), ""), choices("srcport", range(1, 44), "")])
+    for level in range(levels):
+        text = f"modify(dstip=9.9.9.9)>>(match(dstip=1.1.1.{level})+{text})"
+    return text
+
+
+def lost(levels, octets):
+    """Chains within chains, each of which loses a test, before tests that meet one another hardly at all."""
+    start = "modify(srcport=1)>>(match(dstport=2,srcport=2)+"
+    tests = [f"dstport=1,{field}={value}" for field, values in (("proto", range(1, 16)), ("inport", range(1, 16)),
+             ("srcip", [f"{n}.1.1.1" for n in range(1, 16)]), ("dstip", [f"{n}.1.1.1" for n in range(1, 15)])) for value in values]
+    left = octets - levels * (len(start) + 1) - len("match()") - len("|".join(tests))
+    count = next(n for n in range(left) if len("|".join([f"dstport={3 + i}" for i in range(n + 1)] + tests)) - len("|".join(tests)) > left)
+    return start * levels + "match(" + "|".join([f"dstport={3 + i}" for i in range(count)] + tests) + ")" + ")" * levels
+
+
+def repeated(count):
+    """A chain of sums of assignments, each with 900 ways."""
+    parts = ")>>(".join([settings("srcport", range(1, 7)), settings("dstport", range(1, 7)),
+                         settings("srcip", [f"{i}.0.0.0" for i in range(1, 6)]), settings("dstip", [f"{i}.0.0.0" for i in range(1, 6)])])
+    return ">>".join([f"(({parts}))"] * count)
+
+
+def either(field, count):
+    return "match(" + "|".join(f"{field}={value}" for value in range(count)) + ")"
+
+
+def crossed(count):
+    """Each of so many tests of one field with each of another's."""
+    return either("srcport", count) + ">>" + either("proto", count)
+
+
+def grid_of(count):
+    """So many tests of each of four fields, one field before the next."""
+    values = range(1, count + 1)
+    fields = [("srcport", values), ("dstport", values), ("srcip", nets(count)), ("dstip", nets(count))]
+    return ">>".join("match(" + "|".join(f"{field}={value}" for value in found) + ")" for field, found in fields)
+
+
+def within(count):
+    """Source prefixes each within the one before, destinations likewise, and two tests of each port: all their meets."""
+    lengths = [f"0.0.0.0/{length}" for length in range(1, count + 1)]
+    fields = [("srcip", lengths), ("dstip", lengths), ("srcport", [1, 2]), ("dstport", [1, 2])]
+    return "+".join("match(" + "|".join(f"{field}={value}" for value in found) + ")" for field, found in fields)
+
+
+def twice(policy):
+    """A policy before itself."""
+    return f"({policy})>>({policy})"
+
+
+SOURCES = settings("srcport", range(1, 33))
+TARGETS = settings("dstport", range(1, 33))
+POLICIES = [
+    ("16 choices in each of four fields: 65536 meets", "wide " + grid(15, ">>fwd(C)")),
+    ("one choice more", "wide " + grid(15, ">>fwd(C)") + "+match(srcport=16)>>fwd(C)"),
+    ("32 assignments and then 32 others: 1024", "wide (" + SOURCES + ")>>(" + TARGETS + ")"),
+    ("one assignment more", "wide (" + SOURCES + "+modify(srcport=33))>>(" + TARGETS + ")"),
+    ("one chain before 116 lonely conjunctions", "wide " + nested(1, 116)),
+    ("60 chains within chains before 65", "wide " + nested(60, 65)),
+    ("62 chains within chains before some 330 tests apart", "wide " + lost(62, 8192)),
+    ("18 sums of 900 assignments in a chain", "wide " + repeated(18)),
+    ("300 clauses compile", "compile " + choices("dstport", range(1, 301), ">>fwd(C)")),
+    ("two lists of 128 tests compile to 16513 rules", "compile " + crossed(128)),
+    ("two lists of 256 tests compile to 65793 rules", "compile " + crossed(256)),
+    ("eleven tests of each of four fields, before themselves", "compile " + twice(grid_of(11))),
+    ("fifteen", "compile " + twice(grid_of(15))),
+    ("2601 rules of prefixes within prefixes, before themselves", "compile " + twice(within(16))),
+    ("9801", "compile " + twice(within(32))),
+    ("two lists of 32 tests tightened", "tighten " + crossed(32)),
+    ("two lists of 64 tests tightened", "tighten " + crossed(64)),
+    ("two lists of 128 tests tightened", "tighten " + crossed(128)),
+    ("two lists of 256 tests tightened", "tighten " + crossed(256)),
+]
+EDITS = 20
+
+
+def clauses(tests, targets):
+    """A clause a test, each to the next of the targets."""
+    return "+".join(f"match({test})>>fwd({targets[n % len(targets)]})" for n, test in enumerate(tests))
+
+
+def disjoint(targets):
+    """300 clauses, no two of which apply to the same packet."""
+    return clauses([f"dstport={n + 1}" for n in range(300)], targets)
+
+
+def crossing(targets):
+    """140 clauses, each of one half of which crosses each of the other: 71 times 71 meets."""
+    ports = clauses([f"dstport={n + 1}" for n in range(70)], targets[:1])
+    return ports + "+" + clauses([f"srcip=1.1.1.{n + 1}" for n in range(70)], targets[1:])
+
+
+def by_source(count, targets):
+    """So many clauses by source, of which at most 256 are different."""
+    return clauses([f"srcip=1.1.1.{n % 256}" for n in range(count)], targets)
+
+
+def line(*words):
+    return " ".join(words).encode() + b"\n"
+
+
+def exchange_of_three(out):
+    """A with port 1, B with ports 2 and 3, C with port 4; B and C announce one prefix, and C another."""
+    out.write(b"exchange 100.64.0.0 65536 1000000\n")
+    for number, name in enumerate("ABC", 1):
+        out.write(line("participant", name, str(65000 + number), f"1.0.0.{number}"))
+    for name, number in (("A", 1), ("B", 2), ("B", 3), ("C", 4)):
+        out.write(line("port", name, str(number), f"172.16.1.{number}", f"02:00:00:00:00:{number:02x}"))
+    for name, number, host, prefix in (("B", 65002, 2, b"\x08\x0a"), ("C", 65003, 4, b"\x08\x0a"), ("C", 65003, 4, b"\x08\x14")):
+        out.write(line("update", name, update(b"", prefix, number, host).hex()))
+
+
+def edits(out, word, policy):
+    """A policy, then `drop` in its place, again and again."""
+    exchange_of_three(out)
+    for _ in range(EDITS):
+        out.write(line(*word, policy))
+        out.write(line(*word, "drop"))
+
+
+def named(n):
+    """The participants' names: those of one letter first, since a text of 300 clauses has room for no longer ones."""
+    return string.ascii_letters[n] if n < 52 else f"N{n}"
+
+
+def participants(out, count):
+    """So many participants with a port each."""
+    out.write(b"exchange 100.64.0.0 65536 1000000\n")
+    for n in range(count):
+        out.write(line("participant", named(n), str(64512 + n), f"1.0.{n // 255}.{n % 255 + 1}"))
+        out.write(line("port", named(n), str(n + 1), f"172.16.{n // 255 + 1}.{n % 255 + 1}", f"02:00:00:00:{n // 255:02x}:{n % 255:02x}"))
+
+
+def announced(n, prefix):
+    """One of the first 255 announces a prefix."""
+    return line("update", named(n), update(b"", prefix, 64512 + n, n + 1).hex())
+
+
+def among_64(out, word, policy, announcers, prefixes):
+    """64 participants, each fourth of whom has a policy; then each of the announcers announces each of the prefixes."""
+    participants(out, 64)
+    for n in range(0, 64, 4):
+        out.write(line(word, named(n), policy(n)))
+    for count in range(prefixes):
+        for n in announcers:
+            out.write(announced(n, bytes([24, 10, count // 256, count % 256])))
+
+
+EDITED = [
+    ("out, 300 clauses of disjoint tests", ("out", "A"), disjoint("BC")),
+    ("out, 140 clauses of two fields that cross", ("out", "A"), crossing("CB")),
+    ("in, 260 clauses by source", ("in", "B"), by_source(260, "23")),
+]
+# word, policy of each fourth participant, who announces, and how many prefixes
+JOINED = [
+    ("out, 300 clauses of disjoint tests", "out", lambda n: disjoint([named(1), named(2)]), (1, 2), 50),
+    ("out, 140 clauses of two fields that cross", "out", lambda n: crossing([named(1), named(2)]), (1, 2), 5),
+    ("in, 255 clauses by source", "in", lambda n: by_source(255, [n + 1]), (0, 4), 20),
+]
+TOLD = 5000
+
+
+def exchange_of_two(out):
+    """A with port 1, B with port 2."""
+    out.write(b"exchange 100.64.0.0 65536 1000000\n")
+    for name, number in (("A", 1), ("B", 2)):
+        out.write(line("participant", name, str(65000 + number), f"1.0.0.{number}"))
+        out.write(line("port", name, str(number), f"172.16.1.{number}", f"02:00:00:00:00:{number:02x}"))
+
+
+def untold(out):
+    """5000 prefixes of B's that A isn't told yet."""
+    exchange_of_two(out)
+    for first in range(0, TOLD, 1000):
+        prefixes = b"".join(bytes([24, 10, n // 256, n % 256]) for n in range(first, first + 1000))
+        out.write(line("update", "B", update(b"", prefixes).hex()))
+
+
+def tests_of(field, values):
+    return [f"{field}={value}" for value in values]
+
+
+def four_fields(first, last, action):
+    """Tests of four fields, each with the values from one to another: 65536 meets where there are fifteen."""
+    values = range(first, last + 1)
+    return "+".join(choices(field, found, action) for field, found in (("srcport", values), ("dstport", values),
+                    ("srcip", [f"{value}.0.0.0/8" for value in values]), ("dstip", [f"{value}.0.0.0/8" for value in values])))
+
+
+def inside(count, ports):
+    """Source and destination prefixes each within the one before, and tests of further fields: most of their meets overlap."""
+    lengths = [f"0.0.0.0/{length}" for length in range(1, count + 1)]
+    fields = [("srcip", lengths), ("dstip", lengths), ("srcport", (1, 2)), ("dstport", (1, 2)), ("proto", (6, 17)), ("inport", ports)]
+    return "+".join("match(" + "|".join(tests_of(field, values)) + ")" for field, values in fields if values)
+
+
+def filled(start, piece):
+    """A text, and a piece again and again up to 8192 octets."""
+    return start + piece * ((8192 - len(start)) // len(piece))
+
+
+def repeated_before(policy, last):
+    """A policy before itself, as often as a text has room for it, and before another."""
+    return ">>".join([f"({policy})"] * ((8192 - len(last)) // (len(policy) + 4)) + [last])
+
+
+def assigned(sources, targets):
+    """So many source ports times so many destination ports are set."""
+    return "(" + settings("srcport", range(1, sources + 1)) + ")>>(" + settings("dstport", range(1, targets + 1)) + ")"
+
+
+def exchange_of_256(out):
+    """256 participants, of whom all but the first announce one prefix."""
+    participants(out, 256)
+    for n in range(1, 255):
+        out.write(announced(n, b"\x08\x0a"))
+
+
+def receiver_of_four_fields(out):
+    """B announces a prefix, and its policy tests four fields, each with values of its own."""
+    exchange_of_two(out)
+    out.write(line("update", "B", update(b"", b"\x08\x0a").hex()))
+    out.write(line("in", "B", four_fields(16, 30, ">>fwd(2)")))
+
+
+def receivers_of_four_fields(out):
+    """Sixteen participants announce one prefix to the first one alone, and the policy of each has 65536 rules."""
+    participants(out, 17)
+    for n in range(1, 17):
+        out.write(line("export", named(n), f"allow {named(0)} *; deny * *"))
+        out.write(line("in", named(n), four_fields(1, 15, f">>fwd({n + 1})")))
+        out.write(announced(n, b"\x08\x0a"))
+
+
+EACH = "+".join(f"fwd({named(n)})" for n in range(1, 255))
+SLOWEST = [
+    ("out, 65536 meets of four fields", exchange_of_three, ("out", "A"), four_fields(1, 15, ">>fwd(C)")),
+    ("in, the same", exchange_of_three, ("in", "B"), four_fields(1, 15, ">>fwd(2)")),
+    ("out, the same, to a receiver that tests 15 other values of each", receiver_of_four_fields, ("out", "A"), "(" + four_fields(1, 15, "") + ")>>fwd(B)"),
+    ("out, sixteen targets that test the same", receivers_of_four_fields, ("out", named(0)), "+".join(f"fwd({named(n)})" for n in range(1, 17))),
+    ("out, 65536 meets of four fields and 254 targets each", exchange_of_256, ("out", named(0)), four_fields(1, 15, "") + "+" + EACH),
+    ("out, the same and `pass` up to 8192 octets", exchange_of_three, ("out", "A"), filled(four_fields(1, 15, ""), "+pass")),
+    ("out, the same before `pass` up to 8192 octets", exchange_of_three, ("out", "A"), filled("(" + four_fields(1, 15, "") + ")", ">>pass")),
+    ("out, 9801 rules of prefixes within prefixes, before themselves", exchange_of_three, ("out", "A"), twice(within(32)) + ">>fwd(C)"),
+    ("out, 15552 such rules", exchange_of_three, ("out", "A"), twice(inside(23, ())) + ">>fwd(C)"),
+    ("out, 29403 such rules", exchange_of_three, ("out", "A"), twice(inside(32, ())) + ">>fwd(C)"),
+    ("out, 58806 such rules", exchange_of_three, ("out", "A"), twice(inside(32, (1,))) + ">>fwd(C)"),
+    ("out, the same before themselves up to 8192 octets", exchange_of_three, ("out", "A"), repeated_before(inside(32, (1,)), "fwd(C)")),
+    ("in, 257 assignments and 65536 meets of four fields", exchange_of_three, ("in", "B"), assigned(16, 16) + "+" + four_fields(1, 15, "")),
+    ("in, 1024 assignments and 65536 meets of four fields", exchange_of_three, ("in", "B"), assigned(33, 31) + "+" + four_fields(1, 15, "")),
+]
+
+
+def each_alone(out):
+    untold(out)
+    out.write(b"take A 1\n" * TOLD)
+
+
+def all_at_once(out):
+    untold(out)
+    out.write(b"drain A\n")
+
+
+PARSED = 200
