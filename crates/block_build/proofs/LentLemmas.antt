@@ -1,16 +1,11 @@
 -- A view of the classifiers of all participants is one of the policies that they do.
-use Rattle.std.proofs.Common.{◌≡◌, List, sym, subst}
+use Rattle.std.proofs.Common.{List, sym, subst}
 use Rattle.classifier.specs.Meaning as lines
 use Rattle.classifier.specs.declared.line.Line.{Line}
 use Rattle.block_build.specs.Laws.{ViewsAreOf}
-use Rattle.block_build.specs.Lent.{inbound_at, outbound_at}
-use Rattle.block_build.specs.Views.{inbound_of}
 use Rattle.net_types.specs.Answers.{policy_of}
-use Rattle.net_types.specs.Meets.{IsMeet}
-use Rattle.net_types.specs.Policies.{atoms, den}
+use Rattle.net_types.specs.Policies.{den}
 use Rattle.net_types.specs.Sets.{Member, SameMembers}
-use Rattle.net_types.specs.declared.cube.Cube.{Cube}
-use Rattle.net_types.specs.declared.headers.Headers.{Headers}
 use Rattle.net_types.specs.declared.headers.Loc.TheVariants.{Stay}
 
 pub views_are_of : ViewsAreOf

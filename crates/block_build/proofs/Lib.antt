@@ -7,6 +7,8 @@ pub mod RightBlocks
 pub mod PolicyRight
 pub mod ViewLemmas
 pub mod BoundLemmas
+pub mod ExitLemmas
+pub mod PortLemmas
 pub mod InportLemmas
 pub mod TightLemmas
 mod LentLemmas

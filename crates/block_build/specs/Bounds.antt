@@ -1,11 +1,16 @@
 -- Lists of rules that may have stopped at a limit.
-use Rattle.std.specs.Prelude.{◌≡◌, ℕ, ◌≤◌, Bool, List, length, if◌then◌else◌}
+use Rattle.std.specs.Prelude.{◌≡◌, ℕ, ◌≤◌, Bool, true, false, List, [], ◌∷◌, ◌++◌, length, take, if◌then◌else◌}
+use Rattle.classifier.specs.Items.{Item}
+use Rattle.classifier.specs.Lines.{add_lines, product}
 use Rattle.classifier.specs.Meaning.{HasDistinctCubes}
+use Rattle.classifier.specs.declared.join.Join.TheVariants.{Union}
 use Rattle.classifier.specs.declared.line.Line.{Line}
 use Rattle.net_types.specs.Meets.{IsMeet}
 use Rattle.net_types.specs.Sets.{Member}
+use Rattle.net_types.specs.declared.address.Pid.{Pid}
 use Rattle.net_types.specs.declared.cube.Cube.{Cube}
-use Rattle.block_build.specs.Spreads.{beside}
+use Rattle.block_build.specs.Offers.{goes_to}
+use Rattle.block_build.specs.Spreads.{beside, spread}
 use Rattle.block_build.specs.declared.receive.Receiver.{Receiver}
 
 -- each cube is a meet of the atoms
@@ -29,3 +34,27 @@ pub record IsSomeBeside (limit : ℕ) (goes : Bool) (xs ys made : List Line) : T
   pub whole_within : length made ≤ limit → made ≡ (if goes then beside xs ys else xs)
   pub differ : HasDistinctCubes xs → HasDistinctCubes made
   pub meets : (atoms : List Cube) → AreMeets atoms xs → AreMeets atoms ys → AreMeets atoms made
+
+-- Some rules with the product of the first of others with a third list: of all of these, where they are within the limit.
+pub record IsAdded (limit : ℕ) (old xs ys new : List Line) : Type 0 where
+  pub taken : ℕ
+  pub is : new ≡ add_lines old (product Union (take taken xs) ys)
+  pub whole_within : length new ≤ limit → new ≡ add_lines old (product Union xs ys)
+
+-- Some rules with others, where they are within the limit. In any case the cubes differ where they did before, and are meets
+-- where those of the rules before, of the receivers' and of the sender's rules are.
+pub record IsGrown (limit : ℕ) (old more : List Line) (rs : List Receiver) (xs new : List Line) : Type 0 where
+  pub whole_within : length new ≤ limit → new ≡ add_lines old more
+  pub differ : HasDistinctCubes old → HasDistinctCubes new
+  pub meets : (atoms : List Cube) → AreTheirMeets atoms rs → AreMeets atoms xs → AreMeets atoms old → AreMeets atoms new
+
+-- whether there is a last receiver to which some items don't send
+abbrev pub IsEnd : Bool → Pid → List Item → List Receiver → Bool → Type 0
+IsEnd left best items rs true = (others : List Receiver) × (r : Receiver) × (rs ≡ others ++ r ∷ []) × (goes_to left best items r.who ≡ false)
+IsEnd left best items rs false = (others : List Receiver) (r : Receiver) → rs ≡ others ++ r ∷ [] → goes_to left best items r.who ≡ true
+
+-- The receivers up to the last one that some items send to.
+pub record IsReached (left : Bool) (best : Pid) (items : List Item) (rs front : List Receiver) : Type 0 where
+  pub all : (xs : List Line) → spread left best items xs front ≡ spread left best items xs rs
+  pub theirs : (r : Receiver) → Member r front → Member r rs
+  pub last : (others : List Receiver) (r : Receiver) → front ≡ others ++ r ∷ [] → goes_to left best items r.who ≡ true

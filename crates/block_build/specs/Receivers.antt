@@ -51,3 +51,8 @@ receiver inbound o = record { who = o.exporter; lines = if o.hole then discardin
 -- the participants in the offers, each with its rules
 abbrev pub receivers : (Pid → List Line) → List Offer → List Receiver
 receivers inbound offers = map (receiver inbound) offers
+
+-- a participant with its rules and the port of its NEXT_HOP, none for a hole
+abbrev pub receiver_by : Pid → Option PortNo → List Line → Receiver
+receiver_by who None ys = record { who = who; lines = discarding }
+receiver_by who (Some hop) ys = record { who = who; lines = received_lines hop ys }

@@ -36,9 +36,9 @@ fn actions_of(alloc: Global, items: &[(Assign, Loc)]) -> Result<Actions, Memory>
     Ok(Actions::from_vec(actions))
 }
 
-/// The rules of the table.
-pub(crate) fn rules_of(alloc: Global, xs: &[Line]) -> Result<Vec<Rule>, Memory>
-    ensures { IfOk result (λ v. v.items ≡ rules_of xs.now) }
+/// The rules of the table. Each line goes as its rule comes.
+pub(crate) fn rules_of(alloc: Global, xs: Vec<Line>) -> Result<Vec<Rule>, Memory>
+    ensures { IfOk result (λ v. v.items ≡ rules_of xs.items) }
 {
     let mut rules = Vec::new(alloc);
     for x in xs {

@@ -59,6 +59,6 @@ pub fn build<L: Ledger>(
     if count > room {
         return Err(BuildFault::Wide { rules: count });
     }
-    let rules = rules_of(alloc, &lines)?;
+    let rules = rules_of(alloc, lines)?;
     Ok(Block::new(rules))
 }

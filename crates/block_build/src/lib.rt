@@ -5,6 +5,7 @@ mod actions;
 mod block;
 mod blocks;
 mod building;
+mod exits;
 mod laws;
 mod offers;
 mod receive;

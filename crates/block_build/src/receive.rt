@@ -1,17 +1,17 @@
-//! What the rules of a receiver make of a packet, as ports to leave by.
+//! What a receiver makes of a packet, as ports to leave by.
 
 ghost use Rattle.std.specs.Prelude.{◌≡◌, ◌∷◌, [], IfOk, OnOk};
+ghost use Rattle.classifier.specs.Items.{add_all};
 ghost use Rattle.net_types.specs.Headers.{no_change};
 ghost use Rattle.net_types.specs.declared.headers.Loc.TheVariants.{Out};
-ghost use Rattle.block_build.specs.Receivers.{add_exit, add_exits, discarding, exit_of, received_items, received_lines, receiver, receivers};
-ghost use Rattle.block_build.specs.Views.{inbound_of};
+ghost use Rattle.block_build.specs.Receivers.{add_exit, add_exits, exit_of, received_items};
 
-use crate::view::View;
-use classifier::{Line, Lines, Results};
-use net_types::{Assign, Cube, Items, Loc, Memory, Offer, Pid, PortNo};
+use classifier::{Lines, Results};
+use net_types::{Assign, Loc, Memory, Pid, PortNo, TryCopy};
 use std::alloc::Global;
 
-/// A participant in the offers, with its rules as ports to leave by. By a hole nothing leaves.
+/// What contracts see of a participant in the offers: its rules as ports to leave by. By a hole nothing leaves. No call makes
+/// one: `Exits` has the participant's own rules, and makes of each what is needed of it.
 #[derive(Drop)]
 pub struct Receiver {
     pub who: Pid,
@@ -70,59 +70,28 @@ fn received_results(alloc: Global, hop: PortNo, results: &Results) -> Result<Res
     }
 }
 
-/// A receiver's rules, as ports to leave by.
-fn received_lines(alloc: Global, hop: PortNo, xs: &[Line]) -> Result<Vec<Line>, Memory>
-    ensures { IfOk result (λ v. v.items ≡ received_lines hop xs.now) }
+/// The results beside others: those alone where there are no others.
+fn beside_others(others: &Results, results: Results) -> Result<Results, Memory>
+    ensures { IfOk result (λ r. r ≡ add_all others.now results) }
 {
-    let mut lines = Vec::new(alloc);
-    for x in xs {
-        let results = received_results(alloc, hop, &x.results)?;
-        lines.push(Line {
-            cube: x.cube,
-            results,
-        })?;
+    results.known();
+    if others.is_empty() {
+        return Ok(results);
     }
-    Ok(lines)
+    let mut both = others.copy()?;
+    both.push_all(&results)?;
+    Ok(both)
 }
 
-/// The rules of a hole: everything is discarded.
-fn discarding(alloc: Global) -> Result<Vec<Line>, Memory>
-    ensures { IfOk result (λ v. v.items ≡ discarding) }
-{
-    let mut lines = Vec::new(alloc);
-    lines.push(Line {
-        cube: Cube::everything(),
-        results: Results::new(alloc),
-    })?;
-    Ok(lines)
-}
-
-/// The participant of an offer, with its rules, or those of a hole.
-fn receiver_of(alloc: Global, view: &View<'_>, offer: &Offer) -> Result<Receiver, Memory>
-    ensures { IfOk result (λ r. r ≡ receiver (inbound_of view.now) offer.now) }
-{
-    let lines = if offer.hole {
-        discarding(alloc)?
-    } else {
-        received_lines(alloc, offer.port, view.inbound(offer.exporter))?
-    };
-    Ok(Receiver {
-        who: offer.exporter,
-        lines: Items::from_vec(lines),
-    })
-}
-
-/// The participants in the offers, each with its rules.
-pub(crate) fn receivers_of(
+/// How a receiver's results leave, beside what leaves by receivers before it.
+pub(crate) fn received_beside(
     alloc: Global,
-    view: &View<'_>,
-    offers: &[Offer],
-) -> Result<Vec<Receiver>, Memory>
-    ensures { IfOk result (λ v. v.items ≡ receivers (inbound_of view.now) offers.now) }
+    others: &Results,
+    hop: PortNo,
+    results: &Results,
+) -> Result<Results, Memory>
+    ensures { IfOk result (λ r. r ≡ add_all others.now (received_items hop results.now)) }
 {
-    let mut all = Vec::new(alloc);
-    for offer in offers {
-        all.push(receiver_of(alloc, view, offer)?)?;
-    }
-    Ok(all)
+    let received = received_results(alloc, hop, results)?;
+    beside_others(others, received)
 }

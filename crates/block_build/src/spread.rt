@@ -1,20 +1,19 @@
 //! The rules of a sender, spread over the receivers that they send to.
 
-ghost use Rattle.std.specs.Prelude.{◌≡◌, ◌++◌, ◌∷◌, [], IfOk, OnOk, map};
+ghost use Rattle.std.specs.Prelude.{◌≡◌, ◌≤◌, ◌∷◌, [], IfOk, OnOk, length, map};
 ghost use Rattle.std.specs.Option.{option_to_list};
 ghost use Rattle.classifier.specs.Lines.{add_lines, line};
 ghost use Rattle.classifier.specs.Seen.{Agrees};
 ghost use Rattle.net_types.specs.Cells.{freed};
-ghost use Rattle.block_build.specs.Bounds.{IsSome, IsSomeBeside};
-ghost use Rattle.block_build.specs.Offers.{goes_to};
+ghost use Rattle.block_build.specs.Bounds.{IsAdded, IsEnd, IsGrown, IsReached, IsSome, IsSomeBeside};
 ghost use Rattle.block_build.specs.Receivers.{receivers};
-ghost use Rattle.block_build.specs.Spreads.{blocks, built, restricted, within_rule};
+ghost use Rattle.block_build.specs.Spreads.{are_for_any_port, blocks, built, restricted, spread, within_rule};
 ghost use Rattle.block_build.specs.Views.{inbound_of};
 
+use crate::exits::Exits;
 use crate::offers::{goes_to, has_one_left};
-use crate::receive::{Receiver, receivers_of};
 use crate::view::View;
-use classifier::{Join, Line, Results, product_within, push_line, push_lines};
+use classifier::{Line, Results, push_line};
 use net_types::{Assign, Cube, Loc, Memory, Offer, Part, Pid, PortNo, TryCopy};
 use std::alloc::Global;
 use std::collections::HashSet;
@@ -65,12 +64,34 @@ fn restricted(alloc: Global, port: PortNo, xs: &[Line]) -> Result<Vec<Line>, Mem
     Ok(lines)
 }
 
+/// Adds each of some rules joined with each of a receiver's. It stops where there are more than the limit.
+fn push_product(
+    alloc: Global,
+    lines: &mut Vec<Line>,
+    seen: &mut HashSet<Cube>,
+    xs: &[Line],
+    receiver: &Exits<'_>,
+    limit: usize,
+) -> Result<(), Memory>
+    requires { Agrees lines.old.items seen.old }
+    ensures added { OnOk result (IsAdded limit lines.old.items xs.now receiver.now.lines lines.new.items) }
+    ensures agrees { OnOk result (Agrees lines.new.items seen.new) }
+{
+    for x in xs {
+        receiver.push_row(alloc, lines, seen, x)?;
+        if lines.len() > limit {
+            return Ok(());
+        }
+    }
+    Ok(())
+}
+
 /// The rules beside those of one more receiver, where they go to it. It stops where there are more than the limit.
 fn beside(
     alloc: Global,
     goes: bool,
     lines: Vec<Line>,
-    receiver: &Receiver,
+    receiver: &Exits<'_>,
     limit: usize,
 ) -> Result<Vec<Line>, Memory>
     ensures { IfOk result (λ v. IsSomeBeside limit goes lines.items receiver.now.lines v.items) }
@@ -78,7 +99,9 @@ fn beside(
     if !goes {
         return Ok(lines);
     }
-    let more = product_within(alloc, Join::Union, &lines, receiver.lines.items(), limit)?;
+    let mut more = Vec::new(alloc);
+    let mut seen = HashSet::new(alloc);
+    push_product(alloc, &mut more, &mut seen, &lines, receiver, limit)?;
     Ok(more)
 }
 
@@ -86,15 +109,14 @@ fn beside(
 /// are more than the limit.
 fn within_rule(
     alloc: Global,
+    left: bool,
     best: Pid,
-    offers: &[Offer],
-    receivers: &[Receiver],
+    receivers: &[Exits<'_>],
     x: &Line,
     limit: usize,
 ) -> Result<Vec<Line>, Memory>
-    ensures { IfOk result (λ v. IsSome limit (within_rule best offers.now receivers.now x.now) receivers.now (x.now ∷ []) v.items) }
+    ensures { IfOk result (λ v. IsSome limit (spread left best x.now.results (line [] x.now.cube ∷ []) receivers.now) receivers.now (x.now ∷ []) v.items) }
 {
-    let left = has_one_left(offers, x.results.items());
     let mut lines = vec![in alloc;
         Line {
             cube: x.cube,
@@ -102,7 +124,7 @@ fn within_rule(
         },
     ]?;
     for receiver in receivers {
-        let goes = goes_to(left, best, x.results.items(), receiver.who);
+        let goes = goes_to(left, best, x.results.items(), receiver.who());
         lines = beside(alloc, goes, lines, receiver, limit)?;
         if lines.len() > limit {
             return Ok(lines);
@@ -111,12 +133,84 @@ fn within_rule(
     Ok(lines)
 }
 
+/// Whether there is a last receiver, and the results don't go to it.
+fn ends_unreached(left: bool, best: Pid, items: &[(Assign, Loc)], receivers: &[Exits<'_>]) -> bool
+    ensures { IsEnd left best items.now receivers.now result }
+{
+    match receivers.split_last() {
+        None => false,
+        Some((last, _)) => !goes_to(left, best, items, last.who()),
+    }
+}
+
+/// The receivers up to the last one that the results go to.
+fn reached<'r, 'v>(
+    left: bool,
+    best: Pid,
+    items: &[(Assign, Loc)],
+    receivers: &'r [Exits<'v>],
+) -> &'r [Exits<'v>]
+    ensures { IsReached left best items.now receivers.now result.now }
+{
+    let mut front = receivers;
+    while ends_unreached(left, best, items, front) {
+        front = &front[..front.len() - 1];
+    }
+    front
+}
+
+/// Adds the rule of a cube that nobody receives.
+fn push_dropped(
+    alloc: Global,
+    lines: &mut Vec<Line>,
+    seen: &mut HashSet<Cube>,
+    cube: Cube,
+) -> Result<(), Memory>
+    requires { Agrees lines.old.items seen.old }
+    ensures lines { OnOk result (lines.new.items ≡ add_lines lines.old.items (line [] cube ∷ [])) }
+    ensures agrees { OnOk result (Agrees lines.new.items seen.new) }
+{
+    let results = Results::new(alloc);
+    push_line(lines, seen, Line { cube, results })
+}
+
+/// Adds the rules within one rule of the sender. What the last receiver that its results go to makes of a packet is put straight
+/// to the rest. Where it finds more than the limit it stops.
+fn push_within(
+    alloc: Global,
+    lines: &mut Vec<Line>,
+    seen: &mut HashSet<Cube>,
+    best: Pid,
+    offers: &[Offer],
+    receivers: &[Exits<'_>],
+    x: &Line,
+    limit: usize,
+) -> Result<(), Memory>
+    requires { Agrees lines.old.items seen.old }
+    ensures grown { OnOk result (IsGrown limit lines.old.items (within_rule best offers.now receivers.now x.now) receivers.now (x.now ∷ []) lines.new.items) }
+    ensures agrees { OnOk result (length lines.new.items ≤ limit → Agrees lines.new.items seen.new) }
+{
+    let left = has_one_left(offers, x.results.items());
+    let front = reached(left, best, x.results.items(), receivers);
+    let Some((last, others)) = front.split_last() else {
+        push_dropped(alloc, lines, seen, x.cube)?;
+        return Ok(());
+    };
+    let within_x = within_rule(alloc, left, best, others, x, limit)?;
+    if within_x.len() > limit {
+        *lines = within_x;
+        return Ok(());
+    }
+    push_product(alloc, lines, seen, &within_x, last, limit)?;
+    Ok(())
+}
+
 /// The rules within each of a sender's rules. It stops where there are more than the limit.
 fn spread_all(
     alloc: Global,
     best: Pid,
     offers: &[Offer],
-    receivers: &[Receiver],
+    receivers: &[Exits<'_>],
     xs: &[Line],
     limit: usize,
 ) -> Result<Vec<Line>, Memory>
@@ -125,16 +219,41 @@ fn spread_all(
     let mut lines = Vec::new(alloc);
     let mut seen = HashSet::new(alloc);
     for x in xs {
-        let within_x = within_rule(alloc, best, offers, receivers, x, limit)?;
-        if within_x.len() > limit {
-            return Ok(within_x);
-        }
-        push_lines(&mut lines, &mut seen, within_x)?;
+        push_within(
+            alloc, &mut lines, &mut seen, best, offers, receivers, x, limit,
+        )?;
         if lines.len() > limit {
             return Ok(lines);
         }
     }
     Ok(lines)
+}
+
+/// The participants in the offers, each with its rules.
+fn exits_of<'v>(
+    alloc: Global,
+    view: &'v View<'_>,
+    offers: &[Offer],
+) -> Result<Vec<Exits<'v>>, Memory>
+    ensures { IfOk result (λ v. v.items ≡ receivers (inbound_of view.now) offers.now) }
+{
+    let mut all = Vec::new(alloc);
+    for offer in offers {
+        all.push(Exits::new(alloc, view, offer)?)?;
+    }
+    Ok(all)
+}
+
+/// Whether none of the rules tells by which port a packet has to come in.
+fn are_for_any_port(xs: &[Line]) -> bool
+    ensures { result ≡ are_for_any_port xs.now }
+{
+    for x in xs {
+        if x.cube.inport.is_some() {
+            return false;
+        }
+    }
+    true
 }
 
 /// The rules of a port and a part, with ports to leave by: all of them, where there are no more than the limit, and else
@@ -149,7 +268,11 @@ pub(crate) fn blocks_of(
     ensures { IfOk result (λ v. IsSome limit (built view.now port part.now) (receivers (inbound_of view.now) part.now.offers) (add_lines [] (restricted port view.now.outbound)) v.items) }
 {
     let offers = part.offers.items();
-    let receivers = receivers_of(alloc, view, offers)?;
-    let at_port = restricted(alloc, port, view.outbound())?;
+    let receivers = exits_of(alloc, view, offers)?;
+    let own = view.outbound();
+    if are_for_any_port(own) {
+        return spread_all(alloc, part.best, offers, &receivers, own, limit);
+    }
+    let at_port = restricted(alloc, port, own)?;
     spread_all(alloc, part.best, offers, &receivers, &at_port, limit)
 }

@@ -1,7 +1,8 @@
 //! The classifiers that the rules of a pair come from.
 
-ghost use Rattle.std.specs.Prelude.{◌≡◌, ◌++◌, ◌∷◌, [], OnOk, OnErr};
+ghost use Rattle.std.specs.Prelude.{◌≡◌, ◌++◌, ◌∷◌, [], IsTrue, OnOk, OnErr};
 ghost use Rattle.classifier.specs.Classifiers.{lines_of};
+ghost use Rattle.classifier.specs.Meaning.{HasDistinctCubes, ends_with_everything};
 ghost use Rattle.block_build.specs.Views.{IsTotal, inbound_of};
 
 use classifier::{Classifier, Line};
@@ -61,9 +62,11 @@ impl<'p> View<'p> {
         Ok(())
     }
 
-    /// The rules of the sender.
+    /// The rules of the sender: their cubes differ, and the last has all headers.
     pub fn outbound(&self) -> &[Line]
-        ensures { result.now ≡ self.now.outbound }
+        ensures rules { result.now ≡ self.now.outbound }
+        ensures distinct { HasDistinctCubes result.now }
+        ensures total { IsTrue (ends_with_everything result.now) }
     {
         self.outbound.lines()
     }

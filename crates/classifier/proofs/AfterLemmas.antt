@@ -23,7 +23,7 @@ add_all-add xs ys z = elim (cases_Bool (is_among ys z)) [
 ]
 
 -- to add a list that was made by adding is to add what it was made of
-add_all-twice : (xs ys zs : List Item) → add_all xs (add_all ys zs) ≡ add_all (add_all xs ys) zs
+pub add_all-twice : (xs ys zs : List Item) → add_all xs (add_all ys zs) ≡ add_all (add_all xs ys) zs
 add_all-twice xs ys [] = refl
 add_all-twice xs ys (z ∷ zs) = add_all-twice xs (add ys z) zs ∙ ap (λ ws. add_all ws zs) (add_all-add xs ys z)
 

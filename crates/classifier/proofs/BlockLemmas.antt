@@ -60,7 +60,7 @@ add_lines-add kept xs y = elim (cases_Bool (is_shadowed xs y)) [
   | inr reached ↦ rw reached (add_lines_append kept xs (y ∷ []))
 ]
 
-add_lines-twice : (kept xs ys : List Line) → add_lines kept (add_lines xs ys) ≡ add_lines (add_lines kept xs) ys
+pub add_lines-twice : (kept xs ys : List Line) → add_lines kept (add_lines xs ys) ≡ add_lines (add_lines kept xs) ys
 add_lines-twice kept xs [] = refl
 add_lines-twice kept xs (y ∷ ys) = add_lines-twice kept (add_line xs y) ys ∙ ap (λ zs. add_lines zs ys) (add_lines-add kept xs y)
 

@@ -1,17 +1,14 @@
 -- A product that may have stopped.
-use Rattle.std.proofs.Common.{sym, subst}
-use Rattle.classifier.specs.Fronts.{IsFront}
-use Rattle.classifier.specs.declared.join.Join.TheVariants.{Union}
-use Rattle.block_build.proofs.BoundLemmas.{front_beside}
-use Rattle.block_build.specs.Bounds.{IsSomeBeside}
+use Rattle.std.proofs.Common.{[], sym, subst}
+use Rattle.block_build.proofs.BoundLemmas.{added_beside}
+use Rattle.block_build.specs.Bounds.{IsAdded, IsSomeBeside}
 use Rattle.block_build.proofs.spread.beside.Goals as goal
 
 pub returns : goal.returns
 returns c =
-    let lines = c.args.lines.items in
     let theirs = c.args.receiver.now.lines in
-    let made = c.in_ok-more.more.items in
-    subst (λ b. IsSomeBeside c.args.limit b c.args.lines.items c.args.receiver.now.lines c.in_ok-more.more.items) (sym c.if-not-goes.false)
-    (front_beside c.args.limit lines theirs made
-    (subst (λ xs. IsFront c.args.limit Union xs c.args.receiver.now.lines c.in_ok-more.more.items) c.deref.ensures.value
-    (subst (λ ys. IsFront c.args.limit Union c.deref.result.now ys c.in_ok-more.more.items) c.items.ensures c.in_ok-more.ensures)))
+    let made = c.push_product.new.lines.items in
+    subst (λ b. IsSomeBeside c.args.limit b c.args.lines.items c.args.receiver.now.lines c.push_product.new.lines.items) (sym c.if-not-goes.false)
+    (added_beside c.args.limit c.args.lines.items theirs made
+    (subst (λ xs. IsAdded c.args.limit [] xs c.args.receiver.now.lines c.push_product.new.lines.items) c.deref.ensures.value
+    (subst (λ old. IsAdded c.args.limit old c.deref.result.now c.args.receiver.now.lines c.push_product.new.lines.items) c.new-more.ensures.items c.in_ok-push_product.ensures.added)))

@@ -21,9 +21,9 @@ loop-receiver-preserved c =
     let within : length c.in_ok-lines-2.lines.items ≤ c.args.limit = omega (arith, c.len.ensures, c.in_ok-lines-2.lines.ok, c.if-len-limit.false) in
     record {
       whole =
-          spread_more c.has_one_left-left.result c.args.best c.args.x.now.results c.loop-receiver.lines.items c.in_ok-lines-2.lines.items c.args.receivers.now c.loop-receiver.receiver-index c.receiver-item.result c.goes_to-goes.result
+          spread_more c.args.left c.args.best c.args.x.now.results c.loop-receiver.lines.items c.in_ok-lines-2.lines.items c.args.receivers.now c.loop-receiver.receiver-index c.receiver-item.result c.goes_to-goes.result
           c.loop-receiver-test.true c.receiver-item.is
-          (c.goes_to-goes.ensures ∙ ap (λ items. goes_to c.has_one_left-left.result c.args.best items c.receiver-item.result.who) c.items-in-loop-receiver.ensures)
+          (c.goes_to-goes.ensures ∙ ap (λ items. goes_to c.args.left c.args.best items c.who.result) c.items.ensures ∙ ap (goes_to c.args.left c.args.best c.args.x.now.results) c.who.ensures)
           (made.whole_within within)
           ∙ c.loop-receiver.invariant.whole;
       differ = made.differ c.loop-receiver.invariant.differ;

@@ -1,0 +1,85 @@
+-- The rules of a receiver, as ports to leave by, made one by one.
+use Rattle.std.proofs.Common.{◌≡◌, Bool, true, false, ◌&&◌, cond, Option, Some, None, List, [], ◌∷◌, ◌++◌, append_assoc, refl, inl, inr, sym, ap, ◌∙◌, subst}
+use Rattle.std.specs.Option.{option_map}
+use Rattle.std.proofs.lemmas.Bool.{cases_Bool}
+use Rattle.std.proofs.lemmas.List.{append-nil}
+use Rattle.net_types.proofs.SetLemmas
+use Rattle.net_types.specs.Sets.{HasNoRepeats, Member}
+use Rattle.classifier.proofs.ItemLemmas.{among-member}
+use Rattle.classifier.specs.Items.{Item, add_all, is_among}
+use Rattle.net_types.specs.Cubes.{lies_within_cube, meet_cubes}
+use Rattle.net_types.specs.declared.address.Pid.{Pid}
+use Rattle.net_types.specs.declared.address.PortNo.{PortNo}
+use Rattle.net_types.specs.declared.cube.Cube.{Cube}
+use Rattle.net_types.specs.declared.route.Offer.{Offer}
+use Rattle.classifier.proofs.RunLemmas.{row-append, row_apart}
+use Rattle.classifier.specs.Hulls.{holds_each}
+use Rattle.classifier.specs.Lines.{cons_line, joined, line, row}
+use Rattle.classifier.specs.declared.join.Join.TheVariants.{Union}
+use Rattle.classifier.specs.declared.line.Line.{Line}
+use Rattle.block_build.specs.Receivers.{discarding, received_items, received_lines, receiver, receiver_by}
+use Rattle.block_build.specs.declared.receive.Receiver.{Receiver}
+
+-- ---- items beside none
+
+absent : (ks ys : List Item) (y : Item) → HasNoRepeats (ks ++ y ∷ ys) → Member y ks → ⊥
+absent [] ys y d k = elim k [ ]
+absent (x ∷ ks) ys y d (inl e) = d.0 (subst (λ z. Member z (ks ++ y ∷ ys)) e (SetLemmas.Member-append_right ks (y ∷ ys) y (inl refl)))
+absent (x ∷ ks) ys y d (inr k) = absent ks ys y d.1 k
+
+added_items : (ks xs : List Item) → HasNoRepeats (ks ++ xs) → add_all ks xs ≡ ks ++ xs
+added_items ks [] d = sym (append-nil ks)
+added_items ks (y ∷ ys) d =
+    ap (λ b. add_all (cond b ks (ks ++ y ∷ [])) ys) fresh ∙ added_items (ks ++ y ∷ []) ys (subst HasNoRepeats (sym same) d) ∙ same
+  where
+    same : (ks ++ y ∷ []) ++ ys ≡ ks ++ y ∷ ys
+    same = append_assoc ks (y ∷ []) ys
+
+    fresh : is_among ks y ≡ false
+    fresh = elim (cases_Bool (is_among ks y)) [
+      | inl there ↦ absurd (absent ks ys y d (among-member ks y there))
+      | inr fine ↦ fine
+    ]
+
+pub beside_none : (others xs : List Item) → others ≡ [] → HasNoRepeats xs → xs ≡ add_all others xs
+beside_none others xs none d = sym (ap (λ ks. add_all ks xs) none ∙ added_items [] xs d)
+
+-- ---- the receiver of an offer
+
+pub by_offer : (inbound : Pid → List Line) (o : Offer) → receiver_by o.exporter (cond o.hole None (Some o.port)) (inbound o.exporter) ≡ receiver inbound o
+by_offer inbound o = of o.hole
+  where
+    of : (b : Bool) → receiver_by o.exporter (cond b None (Some o.port)) (inbound o.exporter) ≡ (let r : Receiver = record { who = o.exporter; lines = cond b discarding (received_lines o.port (inbound o.exporter)) } in r)
+    of true = refl
+    of false = refl
+
+pub by_whom : (who : Pid) (hop : Option PortNo) (ys : List Line) → (receiver_by who hop ys).who ≡ who
+by_whom who None ys = refl
+by_whom who (Some hop) ys = refl
+
+-- ---- a rule joined with each of a receiver's
+
+abbrev pub row_received : PortNo → Line → List Line → List Line
+row_received hop x ys = row Union x (received_lines hop ys)
+
+cons_line-split : (o : Option Line) (zs : List Line) → cons_line o zs ≡ cons_line o [] ++ zs
+cons_line-split None zs = refl
+cons_line-split (Some x) zs = refl
+
+pub received-first : (hop : PortNo) (x y : Line) (ys : List Line) → row_received hop x (y ∷ ys) ≡ row_received hop x (y ∷ []) ++ row_received hop x ys
+received-first hop x y ys = cons_line-split (option_map (line (joined Union x.results (received_items hop y.results))) (meet_cubes x.cube y.cube)) (row_received hop x ys)
+
+received_lines-append : (hop : PortNo) (ys zs : List Line) → received_lines hop (ys ++ zs) ≡ received_lines hop ys ++ received_lines hop zs
+received_lines-append hop [] zs = refl
+received_lines-append hop (y ∷ ys) zs = ap (λ ws. line (received_items hop y.results) y.cube ∷ ws) (received_lines-append hop ys zs)
+
+pub received-append : (hop : PortNo) (x : Line) (ys zs : List Line) → row_received hop x (ys ++ zs) ≡ row_received hop x ys ++ row_received hop x zs
+received-append hop x ys zs = ap (row Union x) (received_lines-append hop ys zs) ∙ row-append Union x (received_lines hop ys) (received_lines hop zs)
+
+held-received : (hop : PortNo) (hull : Cube) (ys : List Line) → holds_each hull (received_lines hop ys) ≡ holds_each hull ys
+held-received hop hull [] = refl
+held-received hop hull (y ∷ ys) = ap (λ b. lies_within_cube y.cube hull && b) (held-received hop hull ys)
+
+-- a rule joined with those of a run that has no headers in common with it
+pub received_apart : (hop : PortNo) (x : Line) (hull : Cube) (ys : List Line) → holds_each hull ys ≡ true → meet_cubes x.cube hull ≡ None → row_received hop x ys ≡ []
+received_apart hop x hull ys held none = row_apart Union x hull (received_lines hop ys) (held-received hop hull ys ∙ held) none

@@ -1,0 +1,10 @@
+-- A run that has no headers in common with the rule adds nothing.
+use Rattle.std.proofs.Common.{sym, ap, ◌∙◌}
+use Rattle.classifier.specs.Lines.{add_lines}
+use Rattle.block_build.proofs.ExitLemmas.{received_apart}
+use Rattle.block_build.proofs.exits.push_run.Goals as goal
+
+pub returns-in-None-clause-lines : goal.returns-in-None-clause-lines
+returns-in-None-clause-lines c =
+    ap (add_lines c.args.lines.now.items)
+    (sym (received_apart c.args.hop c.args.x.now c.args.run.now.hull c.args.run.now.lines.now c.args.run.now.held (sym c.meet.ensures.value ∙ c.in-None.is)))
