@@ -29,7 +29,7 @@ use Rattle.fast_path.proofs.CommittedMaps.{take-IsRising}
 use Rattle.fast_path.proofs.DeadTags.{untold_are_dead}
 use Rattle.fast_path.proofs.EmptiedTags.{emptied_are_those}
 use Rattle.fast_path.proofs.GonePairs.{gone_pairs_are_those}
-use Rattle.fast_path.proofs.KnownSignatures.{Names, known_kept, known_tag, sender_stays}
+use Rattle.fast_path.proofs.KnownSignatures.{Names, known_kept, sender_stays}
 use Rattle.fast_path.proofs.NewPairs.{HasOwners, kept_place, made, new_pairs_all, new_pairs_each, owners_found}
 use Rattle.fast_path.proofs.PortsAndTags.{tie}
 use Rattle.fast_path.proofs.TagOrder.{rising_tags, tag_tie}
@@ -182,7 +182,7 @@ module _ (s : State) (r : Routing) (is_rebuilt : Pair → Bool) (names : Registe
 
       emptied_are : AreEmptied s s1 es
       emptied_are =
-          subst (AreEmptied s s1) (sym (ap (λ m. emptied m draft.tags) (sym (asked.shown.tag ∙ known_tag p.named classes)) ∙ ap (emptied s.tag) changes_are)) (emptied_are_those s r)
+          subst (AreEmptied s s1) (sym (ap (λ m. emptied m draft.tags) (sym asked.shown.tag) ∙ ap (emptied s.tag) changes_are)) (emptied_are_those s r)
 
       pub dead_are : AreDead s s1 draft.dead.items
       dead_are = subst (AreDead s s1) (sym (is.dead ∙ ap (λ m. untold m es) (sym asked.shown.told))) (untold_are_dead s r es emptied_are)
