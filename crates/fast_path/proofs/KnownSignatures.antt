@@ -1,6 +1,6 @@
 -- Signatures as they are known by whom a policy names.
 use Rattle.std.proofs.Common.{◌≡◌, Bool, true, false, cond, List, [], ◌∷◌, filter, map, nat_eq, sym, ap, ◌∙◌, refl}
-use Rattle.std.specs.Prelude.{Option, Some, None, find}
+use Rattle.std.specs.Prelude.{Option, Some, None}
 use Rattle.std.specs.FinMap.{get}
 use Rattle.std.specs.Option.{option_and_then, option_map}
 use Rattle.events.specs.Sound.{part_of}
@@ -8,7 +8,7 @@ use Rattle.events.specs.State.{first}
 use Rattle.exchange_laws.proofs.Bases.{get_trimmed}
 use Rattle.fast_path.specs.Grouping.{is_kept_sig, known_by, part_by}
 use Rattle.net_types.specs.Attributes.{same_option, same_signature}
-use Rattle.net_types.specs.Signatures.{counts, trimmed_part}
+use Rattle.net_types.specs.Signatures.{counts}
 use Rattle.net_types.specs.declared.address.Pid.{Pid}
 use Rattle.net_types.specs.declared.address.Tag.{Tag}
 use Rattle.net_types.specs.declared.prefix.Prefix.{Prefix}

@@ -8,9 +8,11 @@ use Rattle.std.specs.Ordering.{is_lt, nat_cmp, ordering_then}
 use Rattle.std.specs.declared.cmp.Ordering.{Ordering}
 use Rattle.std.specs.declared.cmp.Ordering.TheVariants.{Less, Equal, Greater}
 use Rattle.std.proofs.lemmas.Bool.{and_from, and_left, and_parts, and_right, cases_lt, eq-eqb, eqb-true, false≢true, false_from_ne_true, le-ltb, lt-ltb, ltb-true, ne_eqb}
-use Rattle.exchange_laws.proofs.Lists.{some_of}
+use Rattle.events.specs.State.{State}
+use Rattle.exchange_laws.proofs.Lists.{numbers_range, some_of}
+use Rattle.exchange_laws.proofs.LivePairs.{live_tag}
 use Rattle.exchange_laws.proofs.OwnHops.{numbered_port}
-use Rattle.exchange_laws.specs.Steady.{PortsDiffer}
+use Rattle.exchange_laws.specs.Steady.{IsSteady, PortsDiffer}
 use Rattle.fast_path.proofs.PortsAndTags.{tie}
 use Rattle.fast_path.proofs.TagOrder.{less_from}
 use Rattle.net_types.proofs.FindLemmas.{find-IsFound, find_none}
@@ -24,6 +26,7 @@ use Rattle.net_types.specs.Maps.{ordered}
 use Rattle.net_types.specs.Sets.{IsRising, Member, SameMembers, union_over}
 use Rattle.net_types.specs.declared.address.Pid.{Pid}
 use Rattle.net_types.specs.declared.address.PortNo.{PortNo}
+use Rattle.net_types.specs.declared.address.Tag.{Tag}
 use Rattle.net_types.specs.declared.route.PortInfo.{PortInfo}
 use Rattle.net_types.specs.declared.rule.Pair.{Pair}
 use Rattle.net_types.specs.declared.rule.Rule.{Rule}
@@ -68,7 +71,7 @@ later_past last pair e = let is = later_is last pair e in comes_first last pair 
 
 -- no pair that comes before another is later than it, and none at another port
 not_later : (last pair : Pair) → (IsLater last pair → ⊥) → is_later last pair ≡ false
-not_later last pair no = false_from_ne_true (is_later last pair) (λ e. no (later_is last pair e))
+not_later last pair isnt = false_from_ne_true (is_later last pair) (λ e. isnt (later_is last pair e))
 
 -- what comes after a later pair is later than both or than none
 alike : (last p y : Pair) → IsLater last p → before pair_cmp p y ≡ true → is_later last y ≡ is_later p y
@@ -166,14 +169,14 @@ other_port last p (x ∷ ks) rises e port =
             | inr both ↦ absurd (port (sym one ∙ sym both.0))
           ] in
           find_none (is_later last) (x ∷ ks) (λ y m. not_later last y (λ l.
-            let at : y.port.0 ≡ last.port.0 = l.port in
-            elim m [
-              | inl this ↦ let this_port : y.port.0 ≡ x.port.0 = ap (λ (z : Pair). z.port.0) this in absurd (omega (arith, at, this_port, past))
-              | inr later ↦ elim (lesser x y (rises.0 y later)) [
-                | inl less ↦ absurd (omega (arith, at, less, past))
-                | inr both ↦ let level : x.port.0 ≡ y.port.0 = both.0 in absurd (omega (arith, at, level, past))
-              ]
-            ]))
+          let at : y.port.0 ≡ last.port.0 = l.port in
+          elim m [
+            | inl this ↦ let this_port : y.port.0 ≡ x.port.0 = ap (λ (z : Pair). z.port.0) this in absurd (omega (arith, at, this_port, past))
+            | inr later ↦ elim (lesser x y (rises.0 y later)) [
+              | inl less ↦ absurd (omega (arith, at, less, past))
+              | inr both ↦ let level : x.port.0 ≡ y.port.0 = both.0 in absurd (omega (arith, at, level, past))
+            ]
+          ]))
       | false ↦ λ here is.
           ap (λ b. cond b (Some x) (find (is_later last) ks)) (not_later last x (λ l. false≢true (sym here ∙ comes_first last x (sym l.port) l.tag)))
           ∙ other_port last p ks rises.1 is port
@@ -188,9 +191,9 @@ module _ (table : FinMap pair_cmp (List Rule)) where
   -- all have a greater tag than none
   pub all_later : (port : PortNo) (last : Pair) → last.port ≡ port → last.tag.0 ≡ 0 → AreTagged table → filter (is_later last) (keys table) ≡ filter (is_at port) (keys table)
   all_later port last at none tagged = filter_on (is_later last) (is_at port) (keys table) (λ y m.
-    let some : 1 ≤ y.tag.0 = tagged y (table_key y m) in
-    ap (λ b. nat_eq y.port.0 last.port.0 && b) (lt-ltb last.tag.0 y.tag.0 (omega (arith, some, none)))
-    ∙ both (nat_eq y.port.0 last.port.0) ∙ ap (λ (n : PortNo). nat_eq y.port.0 n.0) at)
+      let some : 1 ≤ y.tag.0 = tagged y (table_key y m) in
+      ap (λ b. nat_eq y.port.0 last.port.0 && b) (lt-ltb last.tag.0 y.tag.0 (omega (arith, some, none)))
+      ∙ both (nat_eq y.port.0 last.port.0) ∙ ap (λ (n : PortNo). nat_eq y.port.0 n.0) at)
     where
       both : (b : Bool) → (b && true) ≡ b
       both true = refl
@@ -229,3 +232,8 @@ module _ (table : FinMap pair_cmp (List Rule)) where
     -- in order they are those of the table that are the participant's
     pub theirs_are : ordered pair_cmp theirs ≡ filter (is_from names who) (keys table)
     theirs_are = sym (ordered_is pair_cmp pairs_total tie (filter (is_from names who) (keys table)) theirs (filter-IsRising (before pair_cmp) (is_from names who) (keys table) (keys-IsRising pair_cmp table)) (record { onto = onto; back = back }))
+
+-- the pairs of the table of an exchange have tags of the pool
+pub table_tagged : (s : State) → IsSteady s → AreTagged s.table
+table_tagged s steady pair has =
+    (numbers_range (λ n. let t : Tag = record { 0 = n } in t) (λ (t : Tag). t.0) (λ n. refl) 1 s.size pair.tag (steady.pooled pair.tag (live_tag s pair (sym (steady.sound.pairs pair) ∙ has)))).0

@@ -20,7 +20,9 @@ use std::alloc::Global;
 fn next_at(switch: &Switch, last: Pair) -> Option<Pair>
     ensures { result ≡ find (is_later last) (keys switch.now.table) }
 {
-    let pair = switch.next_pair(Some(last))?;
+    let Some(pair) = switch.next_pair(Some(last)) else {
+        return None;
+    };
     if pair.port.0 == last.port.0 {
         Some(pair)
     } else {

@@ -1,6 +1,6 @@
 -- What is found in the classes is what is found in what is known.
 use Rattle.std.proofs.Common.{◌≡◌, List, map, sym, ap, ◌∙◌}
-use Rattle.std.specs.Prelude.{Option, Some, None, option_copied}
+use Rattle.std.specs.Prelude.{Some, option_copied}
 use Rattle.std.specs.FinMap.{get}
 use Rattle.std.specs.Option.{option_and_then, option_map}
 use Rattle.fast_path.specs.Grouping.{Known, is_kept_sig, part_by}
