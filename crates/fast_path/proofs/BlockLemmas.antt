@@ -1,10 +1,9 @@
 -- What is so of the rules for a view is so of them for the policies.
 use Rattle.std.proofs.Common.{◌≡◌, ℕ, ◌+◌, ◌-◌, ◌^◌, ◌<◌, ◌≤◌, List, [], ◌∷◌, ◌++◌, length, map, take, drop, min, sym, ap, subst, ◌∙◌, arith, inl, inr, zero, suc, refl}
-use Rattle.std.specs.Prelude.{Option, Some, slice_index_or, Result, Ok, Err, IfOk, IfErr}
+use Rattle.std.specs.Prelude.{Some, slice_index_or, Result, Ok, Err, IfOk, IfErr}
 use Rattle.std.proofs.lemmas.List.{take-append-drop}
 use Rattle.std.proofs.lemmas.List.Sums.{sum_by-cons}
 use Rattle.net_types.proofs.SetLemmas.{Member-append_cases, map-append}
-use Rattle.net_types.specs.Sets.{Member}
 use Rattle.block_build.specs.Laws.{IsViewOf, NoMoreCells, RightForPolicies}
 use Rattle.block_build.specs.Lent.{AreOf, Lent}
 use Rattle.block_build.specs.Right.{IsRightFor, IsWide, view_cells}
@@ -18,8 +17,6 @@ use Rattle.fast_path.specs.Committing.{Block, block_count}
 use Rattle.fast_path.specs.Plans.{pair_of}
 use Rattle.fast_path.proofs.Loops.{rest_is}
 use Rattle.net_types.specs.Answers.{Policies}
-use Rattle.net_types.specs.Cells.{cell_atoms}
-use Rattle.net_types.specs.Meets.{meets}
 use Rattle.net_types.specs.declared.address.PortNo.{PortNo}
 use Rattle.net_types.specs.declared.route.Part.{Part}
 use Rattle.net_types.specs.declared.rule.Pair.{Pair}

@@ -1,10 +1,9 @@
 -- What a search finds among classes whose tags rise.
-use Rattle.std.proofs.Common.{◌≡◌, ℕ, zero, suc, ◌+◌, ◌<◌, Bool, true, false, List, [], ◌∷◌, length, cond, sym, ap, subst, ◌∙◌, refl, arith, inl, inr}
-use Rattle.std.specs.Prelude.{◌⊎◌, Some, None, find, slice_index_or}
+use Rattle.std.proofs.Common.{◌≡◌, ℕ, zero, suc, ◌+◌, ◌<◌, false, List, [], ◌∷◌, length, cond, sym, ap, subst, ◌∙◌, refl, arith, inl, inr}
+use Rattle.std.specs.Prelude.{Some, None, find, slice_index_or}
 use Rattle.std.specs.List.{HoldsAt}
 use Rattle.std.specs.List.Sorted.{IsNonDecreasingBy, IsPartitionPoint, IsSortedBy}
-use Rattle.std.specs.Ordering.{eq_by_cmp, is_eq, is_lt, ordering_index, ordering_reverse}
-use Rattle.std.specs.declared.cmp.Ordering.{Ordering}
+use Rattle.std.specs.Ordering.{is_eq, is_lt, ordering_index}
 use Rattle.std.specs.declared.cmp.Ordering.TheVariants.{Less, Equal, Greater}
 use Rattle.std.proofs.lemmas.Bool.{cases_lt, false_from_ne_true, false≢true}
 use Rattle.std.proofs.lemmas.Cmp.{tied_itself}
@@ -16,7 +15,7 @@ use Rattle.fast_path.proofs.TagOrder.{tag_tie}
 use Rattle.fast_path.specs.Building.{AreInOrder, is_class_of}
 use Rattle.fast_path.specs.declared.planned.Class.{Class}
 use Rattle.net_types.proofs.FindLemmas.{find_none}
-use Rattle.net_types.proofs.MemberLemmas.{Contains-Member, Member-at}
+use Rattle.net_types.proofs.MemberLemmas.{Member-at}
 use Rattle.net_types.proofs.OrderLemmas.{tags_total}
 use Rattle.net_types.specs.Keys.{tag_cmp}
 use Rattle.net_types.specs.Sets.{Member}

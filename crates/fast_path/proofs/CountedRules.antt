@@ -1,13 +1,13 @@
 -- How many rules a table has without those of some pairs, and how many by pair.
 use Rattle.std.proofs.Common.{◌≡◌, ℕ, ◌+◌, Bool, true, false, cond, List, [], ◌∷◌, length, map, sum_by, sym, ap, subst, ◌∙◌, refl, arith, inl, inr}
 use Rattle.std.specs.Prelude.{Option, Some, None, unwrap_or}
-use Rattle.std.specs.FinMap.{FinMap, empty, get, get-empty, get-insert, get-remove, insert, remove, same_map, values}
+use Rattle.std.specs.FinMap.{empty, get, get-empty, get-insert, get-remove, insert, remove, same_map}
 use Rattle.std.specs.Ordering.{eq_by_cmp}
 use Rattle.std.proofs.lemmas.Bool.{false_from_ne_true}
 use Rattle.std.proofs.lemmas.List.Sums.{sum_by-cons}
 use Rattle.block_build.specs.Installed.{count_at, rule_count}
 use Rattle.events.specs.After.{without_pairs}
-use Rattle.exchange_laws.proofs.Lists.{TableOf, clash}
+use Rattle.exchange_laws.proofs.Lists.{TableOf}
 use Rattle.exchange_laws.specs.Listed.{is_pair_before}
 use Rattle.fast_path.proofs.CommittedRules.{rules_put}
 use Rattle.fast_path.proofs.PortsAndTags.{tie}

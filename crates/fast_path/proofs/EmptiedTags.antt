@@ -189,7 +189,7 @@ module _ (m m1 : FinMap prefix_cmp Tag) where
       let kept = filter-Member differs (ordered prefix_cmp (keys m ++ keys m1)) one.of one.stands in
       subst (λ (d : TagChange). (get m1 d.prefix ≡ d.tag) × (differs d.prefix ≡ true)) (sym {b = change_of one.of} one.is) (refl, kept.passes)
 
--- ---- a change of routes
+-- ---- a line that builds rules
 
 -- a prefix's new tag is one that no prefix had, or the one it had
 new_or_same : (s : State) (r : Routing) (p q : Prefix) (t : Tag) → get (retagged s r).tag p ≡ Some t → get s.tag q ≡ Some t → get s.tag p ≡ Some t

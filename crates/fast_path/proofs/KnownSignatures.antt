@@ -1,17 +1,14 @@
 -- Signatures as they are known by whom a policy names.
 use Rattle.std.proofs.Common.{◌≡◌, Bool, true, false, cond, List, [], ◌∷◌, filter, map, nat_eq, sym, ap, ◌∙◌, refl}
-use Rattle.std.specs.Prelude.{Option, Some, None, find, is_some}
-use Rattle.std.specs.FinMap.{get, keys}
+use Rattle.std.specs.Prelude.{Option, Some, None}
+use Rattle.std.specs.FinMap.{get}
 use Rattle.std.specs.Option.{option_and_then, option_map}
 use Rattle.events.specs.Sound.{part_of}
-use Rattle.exchange_laws.proofs.Lists.{get_tabulated, key_Member}
-use Rattle.fast_path.proofs.TagOrder.{tag_tie}
+use Rattle.events.specs.State.{first}
+use Rattle.exchange_laws.proofs.Bases.{get_trimmed}
 use Rattle.fast_path.specs.Grouping.{is_kept_sig, known_by, part_by}
-use Rattle.net_types.proofs.OrderLemmas.{tags_total}
 use Rattle.net_types.specs.Attributes.{same_option, same_signature}
-use Rattle.net_types.specs.Keys.{tag_cmp}
-use Rattle.net_types.specs.Sets.{Member}
-use Rattle.net_types.specs.Signatures.{counts, trimmed, trimmed_part}
+use Rattle.net_types.specs.Signatures.{counts}
 use Rattle.net_types.specs.declared.address.Pid.{Pid}
 use Rattle.net_types.specs.declared.address.Tag.{Tag}
 use Rattle.net_types.specs.declared.prefix.Prefix.{Prefix}
@@ -22,10 +19,6 @@ use Rattle.prefix_classes.specs.Classes.{Classes}
 -- the names of a line
 abbrev pub Names : Type 0
 Names = Option (Pid × List Pid)
-
-pub known_tag : (named : Names) (c : Classes) → (known_by named c).tag ≡ c.tag
-known_tag None c = refl
-known_tag (Some n) c = refl
 
 pub same_parts : (sig : List Part) → map (part_by None) sig ≡ sig
 same_parts [] = refl
@@ -38,14 +31,7 @@ known_kept None c t = by (get c.kept t)
     by : (o : Option (List Part)) → o ≡ option_map (map (part_by None)) o
     by None = refl
     by (Some sig) = ap Some (sym (same_parts sig))
-known_kept (Some (who, named)) c t = get_tabulated tag_cmp tags_total tag_tie (λ u. option_map (trimmed who named) (get c.kept u)) (keys c.kept) listed t
-  where
-    some_before : (o : Option (List Part)) → is_some (option_map (trimmed who named) o) ≡ true → is_some o ≡ true
-    some_before None e = e
-    some_before (Some sig) e = refl
-
-    listed : (u : Tag) → is_some (option_map (trimmed who named) (get c.kept u)) ≡ true → Member u (keys c.kept)
-    listed u there = key_Member tag_cmp tags_total tag_tie c.kept u (some_before (get c.kept u) there)
+known_kept (Some (who, named)) c t = get_trimmed (record first { kept = c.kept }) who named t
 
 pub sender_stays : (named : Names) (part : Part) → (part_by named part).sender ≡ part.sender
 sender_stays None part = refl
@@ -80,7 +66,7 @@ part_in_known named c t who = ap (option_and_then (λ sig. part_of sig who)) (kn
 -- whether a signature is the one of the prefix's tag
 pub kept_known : (named : Names) (c : Classes) (p : Prefix) (sig : List Part) → is_kept_sig (known_by named c) p sig ≡ same_option same_signature (option_and_then (λ t. option_map (map (part_by named)) (get c.kept t)) (get c.tag p)) (Some sig)
 kept_known named c p sig =
-    ap (λ m. same_option same_signature (option_and_then (get (known_by named c).kept) (get m p)) (Some sig)) (known_tag named c) ∙ ap (λ o. same_option same_signature o (Some sig)) (by (get c.tag p))
+    ap (λ o. same_option same_signature o (Some sig)) (by (get c.tag p))
   where
     by : (o : Option Tag) → option_and_then (get (known_by named c).kept) o ≡ option_and_then (λ t. option_map (map (part_by named)) (get c.kept t)) o
     by None = refl

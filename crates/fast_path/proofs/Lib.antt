@@ -28,6 +28,7 @@ pub mod KnownSignatures
 pub mod ClassSearch
 pub mod BlockLemmas
 pub mod TrimmedKept
+pub mod CountedOffers
 pub mod CommittedPlans
 pub mod CountedRules
 pub mod PlanFound

@@ -1,9 +1,9 @@
 -- The pairs of the fresh tags are those that become live, and the signatures of all tags afterwards.
 use Rattle.std.proofs.Common.{◌≡◌, ℕ, zero, suc, ◌<◌, Bool, true, false, cond, not, List, [], ◌∷◌, length, filter, map, nat_eq, sym, ap, subst, ◌∙◌, refl, inl, inr}
-use Rattle.std.specs.Prelude.{◌⊎◌, Option, Some, None, find, slice_get, is_some}
+use Rattle.std.specs.Prelude.{Option, Some, None, find, slice_get, is_some}
 use Rattle.std.specs.FinMap.{get}
 use Rattle.std.specs.List.{list_any}
-use Rattle.std.specs.Option.{option_and_then, option_map, option_map_or}
+use Rattle.std.specs.Option.{option_and_then, option_map_or}
 use Rattle.std.proofs.lemmas.Bool.{false_from_ne_true, or_cases, or_left, or_right}
 use Rattle.std.proofs.lemmas.Option.{slice_get_within}
 use Rattle.events.specs.Sound.{owners_part, part_of}
@@ -17,7 +17,7 @@ use Rattle.exchange_laws.proofs.OwnHops.{numbered_port}
 use Rattle.exchange_laws.proofs.Parts.{signature_whole}
 use Rattle.exchange_laws.proofs.RulesAfter.{part_kept}
 use Rattle.exchange_laws.proofs.Sames.{signatures_test, tag_itself, tag_same}
-use Rattle.exchange_laws.proofs.TagsAfter.{HasTag, live_cases, live_of, live_tags_stay, signatures_are_kept, tags_are}
+use Rattle.exchange_laws.proofs.TagsAfter.{live_cases, live_of, live_tags_stay, signatures_are_kept, tags_are}
 use Rattle.exchange_laws.specs.Rules.{IsChange}
 use Rattle.exchange_laws.specs.Steady.{PortsDiffer}
 use Rattle.exchange_laws.specs.Whole.{IsWhole, KeptAreWhole}

@@ -1,14 +1,14 @@
 -- What is found by the parts of an exchange is the plan of its state: tags, and the pairs whose rules go and come.
-use Rattle.std.proofs.Common.{◌≡◌, ℕ, suc, ◌+◌, ◌-◌, ◌<◌, ◌≤◌, Bool, true, false, ◌&&◌, ◌||◌, cond, List, [], ◌∷◌, ◌++◌, length, filter, map, take, not, sym, ap, subst, ◌∙◌, refl, arith, inl, inr}
+use Rattle.std.proofs.Common.{◌≡◌, suc, ◌<◌, ◌≤◌, Bool, true, false, ◌&&◌, ◌||◌, cond, List, [], ◌∷◌, ◌++◌, length, filter, map, take, not, sym, ap, subst, ◌∙◌, refl, arith, inl, inr}
 use Rattle.std.specs.Prelude.{Option, Some, None, unwrap_or}
 use Rattle.std.specs.Cmp.{nat_cmp_is}
 use Rattle.std.specs.FinMap.{FinMap, get}
 use Rattle.std.specs.List.{list_any}
 use Rattle.std.specs.Option.{option_map}
-use Rattle.std.specs.Ordering.{eq_by_cmp, is_lt}
+use Rattle.std.specs.Ordering.{is_lt}
 use Rattle.std.specs.declared.cmp.Ordering.TheVariants.{Less}
 use Rattle.std.proofs.lemmas.Bool.{false_from_ne_true, ltb-true}
-use Rattle.block_build.specs.Lent.{AreOf, Lent}
+use Rattle.block_build.specs.Lent.{Lent}
 use Rattle.events.specs.Fits.{tag_changes}
 use Rattle.events.specs.Sound.{owners_part}
 use Rattle.events.specs.State.{State, ArePolicies}
@@ -18,10 +18,10 @@ use Rattle.events.specs.declared.Entry.{Entry}
 use Rattle.events.specs.declared.TagChange.{TagChange}
 use Rattle.exchange_laws.proofs.Counted.{live_Member, live_rise}
 use Rattle.exchange_laws.proofs.FreshTags.{below, tags_rise}
-use Rattle.exchange_laws.proofs.Lists.{clash, some_of}
+use Rattle.exchange_laws.proofs.Lists.{clash}
 use Rattle.exchange_laws.proofs.TagsAfter.{tags_stay_pooled}
 use Rattle.exchange_laws.specs.Fresh.{HasEnoughTags}
-use Rattle.exchange_laws.specs.Listed.{AreLiveOnly, AreThose, comes, goes, is_pair_before}
+use Rattle.exchange_laws.specs.Listed.{AreLiveOnly, AreThose, comes, goes}
 use Rattle.exchange_laws.specs.Rules.{IsChange, IsRightAt, is_new}
 use Rattle.exchange_laws.specs.Touched.{IsTouching}
 use Rattle.exchange_laws.specs.Whole.{IsWhole}
@@ -29,20 +29,20 @@ use Rattle.fast_path.proofs.CommittedMaps.{take-IsRising}
 use Rattle.fast_path.proofs.DeadTags.{untold_are_dead}
 use Rattle.fast_path.proofs.EmptiedTags.{emptied_are_those}
 use Rattle.fast_path.proofs.GonePairs.{gone_pairs_are_those}
-use Rattle.fast_path.proofs.KnownSignatures.{Names, known_kept, known_tag, sender_stays}
+use Rattle.fast_path.proofs.KnownSignatures.{Names, known_kept, sender_stays}
 use Rattle.fast_path.proofs.NewPairs.{HasOwners, kept_place, made, new_pairs_all, new_pairs_each, owners_found}
 use Rattle.fast_path.proofs.PortsAndTags.{tie}
 use Rattle.fast_path.proofs.TagOrder.{rising_tags, tag_tie}
 use Rattle.fast_path.proofs.TagsPlanned.{changes_found, groups_found, known_of}
-use Rattle.fast_path.specs.Building.{AreBlocksFor, AreInOrder, AreRightFor, HasPart, IsBlockFor, part_at, site_of}
-use Rattle.fast_path.specs.Committing.{Block, Kept, class_of, classes_of, kept_of}
+use Rattle.fast_path.specs.Building.{AreInOrder, HasPart, IsBlockFor, part_at, site_of}
+use Rattle.fast_path.specs.Committing.{Block, class_of, classes_of, kept_of}
 use Rattle.fast_path.specs.Drafts.{IsDraft, given_tags}
 use Rattle.fast_path.specs.Emptied.{emptied, is_left, old_tags}
 use Rattle.fast_path.specs.Grouping.{Known, changes_of, groups_of, known_by, more_groups, moved_groups, part_by}
 use Rattle.fast_path.specs.LiveOnly.{AreDead, AreEmptied, group_signatures, group_tags, registered}
-use Rattle.fast_path.specs.Pairs.{dropped_pairs, fresh_pairs, gone_pairs, is_among, pair_at, part_pairs, staying, tag_pairs, untold, was_told}
+use Rattle.fast_path.specs.Pairs.{fresh_pairs, gone_pairs, is_among, pair_at, part_pairs, staying, tag_pairs, untold, was_told}
 use Rattle.fast_path.specs.Planned.{group_kept, is_tag_below}
-use Rattle.fast_path.specs.Plans.{IsAsked, build_count, is_rebuilt_live, pair_of}
+use Rattle.fast_path.specs.Plans.{IsAsked, build_count}
 use Rattle.fast_path.specs.declared.draft.Draft.{Draft}
 use Rattle.fast_path.specs.declared.fresh.Fresh.{Fresh}
 use Rattle.fast_path.specs.declared.planned.Class.{Class}
@@ -51,7 +51,7 @@ use Rattle.net_types.proofs.FindLemmas.{slice_get-Member}
 use Rattle.net_types.proofs.OrderLemmas.{pairs_total, tags_total}
 use Rattle.net_types.proofs.OrderedLemmas.{any_member, member_any, ordered_rises, ordered_same}
 use Rattle.net_types.proofs.RisingLemmas.{Member-filter, before, before_itself, before_trans, filter-IsRising, filter-Member}
-use Rattle.net_types.proofs.SetLemmas.{Member-append_cases, Member-append_left, Member-append_right, Member-map, map-Member, rising_unique, union-map, union_ext}
+use Rattle.net_types.proofs.SetLemmas.{Member-append_cases, Member-append_left, Member-append_right, map-Member, rising_unique, union-map, union_ext}
 use Rattle.net_types.specs.Answers.{Policies}
 use Rattle.net_types.specs.Exports.{Routing}
 use Rattle.net_types.specs.Keys.{pair_cmp, prefix_cmp, tag_cmp}
@@ -182,7 +182,7 @@ module _ (s : State) (r : Routing) (is_rebuilt : Pair → Bool) (names : Registe
 
       emptied_are : AreEmptied s s1 es
       emptied_are =
-          subst (AreEmptied s s1) (sym (ap (λ m. emptied m draft.tags) (sym (asked.shown.tag ∙ known_tag p.named classes)) ∙ ap (emptied s.tag) changes_are)) (emptied_are_those s r)
+          subst (AreEmptied s s1) (sym (ap (λ m. emptied m draft.tags) (sym asked.shown.tag) ∙ ap (emptied s.tag) changes_are)) (emptied_are_those s r)
 
       pub dead_are : AreDead s s1 draft.dead.items
       dead_are = subst (AreDead s s1) (sym (is.dead ∙ ap (λ m. untold m es) (sym asked.shown.told))) (untold_are_dead s r es emptied_are)

@@ -1,6 +1,6 @@
 -- With the rules of its pairs a draft is a plan; and where there are too many, they are no more than the cells.
-use Rattle.std.proofs.Common.{◌≡◌, ℕ, zero, suc, ◌+◌, ◌-◌, ◌<◌, ◌≤◌, ◌⊎◌, Bool, true, false, ◌&&◌, ◌||◌, List, [], ◌∷◌, ◌++◌, cond, length, filter, map, not, replicate, sum_by, sym, ap, subst, ◌∙◌, refl, arith, inl, inr}
-use Rattle.std.specs.Prelude.{Option, Some, None, is_some, unwrap_or}
+use Rattle.std.proofs.Common.{◌≡◌, ℕ, ◌+◌, ◌-◌, ◌<◌, ◌≤◌, ◌⊎◌, Bool, true, false, ◌||◌, List, [], ◌∷◌, ◌++◌, cond, length, filter, map, not, replicate, sum_by, sym, ap, subst, ◌∙◌, refl, arith, inl, inr}
+use Rattle.std.specs.Prelude.{Some, None, unwrap_or}
 use Rattle.std.specs.FinMap.{FinMap, get, get-remove, remove}
 use Rattle.std.specs.Option.{option_map_or}
 use Rattle.std.specs.Ordering.{eq_by_cmp}
@@ -10,16 +10,14 @@ use Rattle.block_build.specs.Installed.{count_at}
 use Rattle.block_build.specs.Lent.{Lent}
 use Rattle.events.specs.After.{without_pairs}
 use Rattle.events.specs.Fits.{cells, flows_of}
-use Rattle.events.specs.Sound.{IsRight, owners_part, rule_count}
 use Rattle.events.specs.State.{State, ArePolicies}
 use Rattle.events.specs.Tags.{is_live_pair, live_pairs, pairs, retagged}
 use Rattle.events.specs.declared.Entry.{Entry}
 use Rattle.exchange_laws.proofs.Counted.{live_Member, live_rise, numbers_fit_cells}
-use Rattle.exchange_laws.proofs.Lists.{TableOf, clash, some_of}
+use Rattle.exchange_laws.proofs.Lists.{TableOf, clash}
 use Rattle.exchange_laws.proofs.ReadPolicies.{policies_are_one}
 use Rattle.exchange_laws.proofs.RulesAfter.{live_pairs_keep_parts, same_policies}
 use Rattle.exchange_laws.proofs.TagsAfter.{tags_stay_pooled}
-use Rattle.exchange_laws.specs.Fitting.{AreWithinCells}
 use Rattle.exchange_laws.specs.Listed.{AreThose, HasLivePairs, comes, goes}
 use Rattle.exchange_laws.specs.Rules.{IsChange, IsRightAt, is_new}
 use Rattle.exchange_laws.specs.Fresh.{HasEnoughTags}

@@ -1,17 +1,18 @@
--- The groups of the prefixes that a change of routes touches, by what is known of each: its tag, the signature kept for
--- that tag, and its signature afterwards.
+-- The groups of the prefixes that a line touches, by what is known of each: its tag, the signature kept for that tag, and its
+-- signature afterwards (this exchange's own rule).
 use Rattle.std.specs.Prelude.{Bool, true, false, ◌&&◌, not, List, [], ◌∷◌, ◌++◌, map, slice_get, Option, Some, None, if◌then◌else◌}
-use Rattle.std.specs.FinMap.{FinMap, get, keys}
+use Rattle.std.specs.FinMap.{FinMap, get}
 use Rattle.std.specs.List.{list_any, position_from}
-use Rattle.std.specs.Option.{option_and_then, option_map}
+use Rattle.std.specs.Option.{option_and_then}
 use Rattle.net_types.specs.Attributes.{same_option, same_signature}
 use Rattle.net_types.specs.Keys.{prefix_cmp, tag_cmp}
-use Rattle.net_types.specs.Maps.{tabulate}
-use Rattle.net_types.specs.Signatures.{trimmed, trimmed_part}
+use Rattle.net_types.specs.Signatures.{trimmed_part}
 use Rattle.net_types.specs.declared.address.Pid.{Pid}
 use Rattle.net_types.specs.declared.address.Tag.{Tag}
 use Rattle.net_types.specs.declared.prefix.Prefix.{Prefix}
 use Rattle.net_types.specs.declared.route.Part.{Part}
+use Rattle.events.specs.After.{trimmed_kept}
+use Rattle.events.specs.State.{first}
 use Rattle.events.specs.Tags.{Group, same_group, same_tag}
 use Rattle.events.specs.declared.TagChange.{TagChange}
 use Rattle.prefix_classes.specs.Classes.{Classes}
@@ -22,14 +23,14 @@ pub record Known : Type 0 where
   pub tag : FinMap prefix_cmp Tag
   pub kept : FinMap tag_cmp (List Part)
 
--- what classes know
-abbrev pub known : Classes → Known
-known c = record { tag = c.tag; kept = c.kept }
+-- the signatures that are kept, trimmed by whom a participant's policy names, where the line is one that says so
+abbrev pub kept_by : Option (Pid × List Pid) → FinMap tag_cmp (List Part) → FinMap tag_cmp (List Part)
+kept_by None kept = kept
+kept_by (Some (who, named)) kept = trimmed_kept (record first { kept = kept }) who named
 
--- what they know once a participant's policy names these, where the line is one that says so: the signatures are trimmed
+-- what classes know, once the signatures are trimmed
 abbrev pub known_by : Option (Pid × List Pid) → Classes → Known
-known_by None c = known c
-known_by (Some (who, named)) c = record { tag = c.tag; kept = tabulate tag_cmp (keys c.kept) (λ t. option_map (trimmed who named) (get c.kept t)) }
+known_by named c = record { tag = c.tag; kept = kept_by named c.kept }
 
 -- a part without the offers that don't count any more, where a participant's policy names these
 abbrev pub part_by : Option (Pid × List Pid) → Part → Part

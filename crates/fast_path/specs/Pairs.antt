@@ -1,5 +1,5 @@
 -- The pairs that go with tags that no prefix has any more, and those whose rules are built (this exchange's own rule).
-use Rattle.std.specs.Prelude.{Bool, not, List, [], ◌∷◌, ◌++◌, map, filter, slice_get, unwrap_or, if◌then◌else◌}
+use Rattle.std.specs.Prelude.{Bool, not, List, [], ◌++◌, map, filter, slice_get, unwrap_or, if◌then◌else◌}
 use Rattle.std.specs.FinMap.{FinMap, empty, get}
 use Rattle.std.specs.List.{list_any}
 use Rattle.std.specs.Ordering.{eq_by_cmp}

@@ -1,4 +1,4 @@
--- What a plan of a change of routes says: the fresh tags with their signatures, and the tags and pairs that come and go.
+-- What a plan says: the fresh tags with their signatures, and the tags and pairs that come and go (this exchange's own rule).
 use Rattle.std.specs.Prelude.{◌≡◌, Bool, nat_lt, List, length}
 use Rattle.events.specs.State.{State}
 use Rattle.events.specs.Tags.{free_tags}

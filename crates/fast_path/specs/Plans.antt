@@ -1,5 +1,5 @@
 -- What a plan says, and why there is none (this exchange's own rule).
-use Rattle.std.specs.Prelude.{◌≡◌, ℕ, ◌+◌, ◌≤◌, ◌<◌, Bool, ◌&&◌, List, length, filter, map, Some}
+use Rattle.std.specs.Prelude.{◌≡◌, ℕ, ◌+◌, ◌≤◌, ◌<◌, Bool, ◌&&◌, List, length, filter, map}
 use Rattle.std.specs.FinMap.{FinMap}
 use Rattle.block_build.specs.Lent.{AreOf, Lent}
 use Rattle.events.specs.After.{without_pairs}

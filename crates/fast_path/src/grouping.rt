@@ -30,14 +30,13 @@ pub fn same_tags(one: Option<Tag>, other: Option<Tag>) -> bool
 }
 
 /// Whether a carried prefix gets another tag: its signature isn't the one kept for its tag.
-fn is_moved(known: &KnownClasses<'_>, prefix: Prefix, sig: &Sig) -> Result<bool, Memory>
-    ensures { IfOk result (λ moved. moved ≡ is_moved known.now prefix sig.now) }
+fn is_moved(known: &KnownClasses<'_>, prefix: Prefix, sig: &Sig) -> bool
+    ensures { result ≡ is_moved known.now prefix sig.now }
 {
     if sig.is_empty() {
-        return Ok(false);
+        return false;
     }
-    let kept = known.is_kept(prefix, sig)?;
-    Ok(!kept)
+    !known.is_kept(prefix, sig)
 }
 
 /// Whether a group has this tag before and this signature after.
@@ -81,7 +80,7 @@ fn consider(
 ) -> Result<(), Memory>
     ensures { OnOk result (groups_of groups.new.items ≡ more_groups (groups_of groups.old.items) (moved_groups known.now (prefix ∷ []) (sig.now ∷ []))) }
 {
-    if is_moved(known, prefix, sig)? {
+    if is_moved(known, prefix, sig) {
         add(groups, known.tag_of(prefix), sig)?;
     }
     Ok(())

@@ -1,19 +1,20 @@
 //! The tags of prefixes and the signatures of tags, as a line finds them.
 
-ghost use Rattle.std.specs.Prelude.{◌≡◌, List, IfOk, map, nat_eq, option_copied};
+ghost use Rattle.std.specs.Prelude.{◌≡◌, false, List, IfOk, filter, map, nat_eq, option_copied, slice_get};
+ghost use Rattle.std.specs.Cmp.Lexicographic.{pointwise};
 ghost use Rattle.std.specs.FinMap.{get};
 ghost use Rattle.std.specs.List.{list_any};
-ghost use Rattle.std.specs.Option.{option_and_then, option_map};
-ghost use Rattle.net_types.specs.Attributes.{same_signature};
+ghost use Rattle.std.specs.Option.{option_and_then, option_map, option_map_or};
+ghost use Rattle.net_types.specs.Attributes.{same_offer, same_part, same_signature};
 ghost use Rattle.net_types.specs.declared.address.Pid.{Pid as AnyPid};
-ghost use Rattle.net_types.specs.Signatures.{counts, trimmed, trimmed_part};
+ghost use Rattle.net_types.specs.declared.route.Offer.{Offer as AnyOffer};
+ghost use Rattle.net_types.specs.Signatures.{counts, trimmed_part};
 ghost use Rattle.events.specs.Sound.{part_of};
 ghost use Rattle.fast_path.specs.Grouping.{is_kept_sig, known_by, part_by};
 
-use net_types::{Items, Memory, Part, Pid, Prefix, Sig, Tag, TryCopy, same_items};
+use net_types::{Memory, Offer, Part, Pid, Prefix, Same, Sig, Tag, TryCopy};
 use prefix_classes::ClassMap;
 use route_server::Proposal;
-use std::alloc::Global;
 use std::marker::Model;
 
 /// The classes, with the signatures trimmed by whom a participant's policy names from now on, where the line is one that
@@ -22,7 +23,6 @@ use std::marker::Model;
 pub struct KnownClasses<'a> {
     classes: &'a ClassMap,
     named: Option<(Pid, &'a [Pid])>,
-    alloc: Global,
 }
 
 impl<'a> Model for KnownClasses<'a> {
@@ -76,33 +76,70 @@ fn part_by(named: Option<(Pid, &[Pid])>, part: &Part) -> Result<Part, Memory>
     }
 }
 
-/// The signature without the offers that don't count any more.
-fn sig_by(alloc: Global, who: Pid, pids: &[Pid], sig: &[Part]) -> Result<Vec<Part>, Memory>
-    ensures { IfOk result (λ copy. copy.items ≡ trimmed who pids.now sig.now) }
+/// Whether offers are others without those that don't count any more, in order. It makes no copy.
+fn are_counted(pids: &[Pid], best: Pid, kept: &[Offer], offers: &[Offer]) -> bool
+    ensures { result ≡ pointwise same_offer (filter (λ (o : AnyOffer). counts pids.now best o.exporter) kept.now) offers.now }
 {
-    let mut copy = Vec::new(alloc);
-    for part in sig {
-        copy.push(part_by(Some((who, pids)), part)?)?;
-    }
-    Ok(copy)
-}
-
-/// Whether a signature is another one without the offers that don't count any more, where there are new names.
-fn is_same(
-    alloc: Global,
-    named: Option<(Pid, &[Pid])>,
-    kept: &[Part],
-    sig: &[Part],
-) -> Result<bool, Memory>
-    ensures { IfOk result (λ same. same ≡ same_signature (map (part_by (option_map (λ e. let names : AnyPid × List AnyPid = (e.0, e.1.now) in names) named.entry)) kept.now) sig.now) }
-{
-    match named {
-        None => Ok(same_items(kept, sig)),
-        Some((who, pids)) => {
-            let trimmed = sig_by(alloc, who, pids, kept)?;
-            Ok(same_items(&trimmed, sig))
+    let mut at = 0;
+    for offer in kept {
+        if counts(pids, best, offer.exporter) {
+            if !stands_at(offers, at, offer) {
+                return false;
+            }
+            at += 1;
         }
     }
+    at == offers.len()
+}
+
+/// Whether the offer at a place is this one.
+fn stands_at(offers: &[Offer], at: usize, offer: &Offer) -> bool
+    ensures { result ≡ option_map_or (same_offer offer.now) (slice_get offers.now at) false }
+{
+    match offers.get(at) {
+        Some(other) => offer.same(other),
+        None => false,
+    }
+}
+
+/// Whether a part of the sender's is another one without the offers that don't count any more.
+fn is_trimmed(pids: &[Pid], kept: &Part, part: &Part) -> bool
+    ensures { result ≡ same_part (record kept.now { offers = filter (λ (o : AnyOffer). counts pids.now kept.now.best o.exporter) kept.now.offers }) part.now }
+{
+    let offers = are_counted(pids, kept.best, kept.offers.items(), part.offers.items());
+    kept.sender.0 == part.sender.0 && (kept.best.0 == part.best.0 && offers)
+}
+
+/// Whether a part is another one without the offers that don't count any more, where there are new names.
+fn is_same_part(named: Option<(Pid, &[Pid])>, kept: &Part, part: &Part) -> bool
+    ensures { result ≡ same_part (part_by (option_map (λ e. let names : AnyPid × List AnyPid = (e.0, e.1.now) in names) named.entry) kept.now) part.now }
+{
+    match named {
+        None => kept.same(part),
+        Some((who, pids)) => {
+            if kept.sender.0 == who.0 {
+                is_trimmed(pids, kept, part)
+            } else {
+                kept.same(part)
+            }
+        }
+    }
+}
+
+/// Whether a signature is another one without the offers that don't count any more, where there are new names. It makes no
+/// copy.
+fn is_same(named: Option<(Pid, &[Pid])>, kept: &[Part], sig: &[Part]) -> bool
+    ensures { result ≡ same_signature (map (part_by (option_map (λ e. let names : AnyPid × List AnyPid = (e.0, e.1.now) in names) named.entry)) kept.now) sig.now }
+{
+    if kept.len() != sig.len() {
+        return false;
+    }
+    for i in 0..kept.len() {
+        if !is_same_part(named, &kept[i], &sig[i]) {
+            return false;
+        }
+    }
+    true
 }
 
 /// The part of a participant in a signature.
@@ -114,15 +151,11 @@ pub fn part_in(sig: &[Part], who: Pid) -> Option<&Part>
 
 impl<'a> KnownClasses<'a> {
     /// What a proposal finds.
-    pub fn of(alloc: Global, classes: &'a ClassMap, proposal: &'a Proposal) -> KnownClasses<'a>
+    pub fn of(classes: &'a ClassMap, proposal: &'a Proposal) -> KnownClasses<'a>
         ensures { result ≡ known_by proposal.now.named classes.now }
     {
         let named = proposal.named();
-        KnownClasses {
-            classes,
-            named,
-            alloc,
-        }
+        KnownClasses { classes, named }
     }
 
     /// The tag of a prefix.
@@ -132,18 +165,17 @@ impl<'a> KnownClasses<'a> {
         self.classes.tag_of(prefix)
     }
 
-    /// Whether a signature is the one of the prefix's tag. Memory is the only refusal.
-    pub fn is_kept(&self, prefix: Prefix, sig: &Sig) -> Result<bool, Memory>
-        ensures { IfOk result (λ kept. kept ≡ is_kept_sig self.now prefix sig.now) }
+    /// Whether a signature is the one of the prefix's tag.
+    pub fn is_kept(&self, prefix: Prefix, sig: &Sig) -> bool
+        ensures { result ≡ is_kept_sig self.now prefix sig.now }
     {
         let Some(tag) = self.classes.tag_of(prefix) else {
-            return Ok(false);
+            return false;
         };
         let Some(kept) = self.classes.sig_of(tag) else {
-            return Ok(false);
+            return false;
         };
-        let same = is_same(self.alloc, self.named, kept.items(), sig.items())?;
-        Ok(same)
+        is_same(self.named, kept.items(), sig.items())
     }
 
     /// The part of a participant in the signature of a tag. Memory is the only refusal.

@@ -1,5 +1,5 @@
-//! The fast path: what a change of routes does to tags and rules, planned before anything changes, and committed without
-//! taking memory.
+//! The fast path: what a line that builds rules does to tags and rules, planned before anything changes, and committed
+//! without taking memory.
 #![tactic(auto)]
 
 mod ascending;
@@ -20,7 +20,8 @@ mod tagging;
 pub use ascending::ascending_pairs;
 pub use carried::plans_are_committed;
 pub use committing::{commit, reserve};
-pub use pairs::{gone_pairs, push_pairs, untold};
+pub use known::part_in;
+pub use pairs::{push_pairs, untold};
 pub use parts::{forget_all, give_all, remove_all};
 pub use planned::{Changes, Class, FastFault, Plan};
 pub use planning::plan;

@@ -7,7 +7,7 @@ use block_build::Block;
 use events::{Flows, TagChanges};
 use net_types::{Memory, Pair, Pairs, Pid, Pids, Prefixes, Sig, Tag};
 
-/// What a change of routes does to tags and rules. It changes nothing until it is committed.
+/// What a line that builds rules does to tags and rules. It changes nothing until it is committed.
 #[derive(Drop)]
 pub struct Plan {
     /// The prefixes whose tag becomes another, with that tag.
@@ -35,7 +35,7 @@ pub struct Class {
     pub members: Prefixes,
 }
 
-/// What a reply says of a change of routes that was committed.
+/// What a reply says of a plan that was committed.
 #[derive(Drop)]
 pub struct Changes {
     pub tags: TagChanges,

@@ -1,5 +1,5 @@
-//! Planning a change of routes: the tags that touched prefixes get, the pairs of the table that go, and the rules of those
-//! that come.
+//! Planning a line that builds rules: the tags that touched prefixes get, the pairs of the table that go, and the rules of
+//! those that come.
 
 ghost use Rattle.std.specs.Prelude.{◌≡◌, ◌≤◌, ◌<◌, Bool, length, map, IfOk, IfNone, IfSome, MatchResult};
 ghost use Rattle.net_types.specs.Exports.{Routing};
@@ -86,7 +86,7 @@ fn drafted(
     requires { length groups.now ≤ length (free_tags pool.now) }
     ensures { IfOk result (IsDraft names.now classes.now pool.now told.now proposal.now groups.now rebuild.now) }
 {
-    let known = KnownClasses::of(alloc, classes, proposal);
+    let known = KnownClasses::of(classes, proposal);
     let given = fresh_tags(alloc, pool, groups.len())?;
     let tags = tag_changes(alloc, &known, proposal, groups, &given)?;
     let left = emptied(alloc, classes, tags.items())?;
@@ -173,7 +173,7 @@ pub fn plan<L: Ledger>(
     ensures steps { (s : State) (r : Routing) (is_rebuilt : AnyPair → Bool) → IsAsked s r is_rebuilt names.now classes.now pool.now told.now switch.now views.now proposal.now rebuild.now → IsWithinSteps s r is_rebuilt steps.old steps.new }
 {
     right_rules_are_few();
-    let known = KnownClasses::of(alloc, classes, proposal);
+    let known = KnownClasses::of(classes, proposal);
     let groups = groups(alloc, &known, proposal)?;
     if let Some((need, free)) = shortage(pool, &groups) {
         return Err(FastFault::NoNextHop { need, free });

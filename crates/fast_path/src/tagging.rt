@@ -38,20 +38,18 @@ fn tag_after(
     tags: &[Tag],
     prefix: Prefix,
     sig: &Sig,
-) -> Result<Option<Tag>, Memory>
-    ensures { IfOk result (λ tag. tag ≡ tag_after known.now groups.now tags.now prefix sig.now) }
+) -> Option<Tag>
+    ensures { result ≡ tag_after known.now groups.now tags.now prefix sig.now }
 {
     if sig.is_empty() {
-        return Ok(None);
+        return None;
     }
     let before = known.tag_of(prefix);
-    if known.is_kept(prefix, sig)? {
-        return Ok(before);
+    if known.is_kept(prefix, sig) {
+        return before;
     }
-    match group_place(groups, before, sig) {
-        None => Ok(None),
-        Some(place) => Ok(tags.get(place).copied()),
-    }
+    let place = group_place(groups, before, sig)?;
+    tags.get(place).copied()
 }
 
 /// A change more, where the tag is another.
@@ -81,7 +79,7 @@ pub fn tag_changes(
 {
     let mut changes = Items::new(alloc);
     for (at, prefix) in proposal.touched().iter().enumerate() {
-        let after = tag_after(known, groups, tags, *prefix, proposal.sig(at))?;
+        let after = tag_after(known, groups, tags, *prefix, proposal.sig(at));
         note(&mut changes, *prefix, known.tag_of(*prefix), after)?;
     }
     Ok(changes)

@@ -27,7 +27,7 @@ use Rattle.exchange_laws.specs.Listed.{AreThose}
 use Rattle.exchange_laws.specs.Rules.{IsDeclaredAlike}
 use Rattle.fast_path.specs.Carried.{ArePartsOf, IsPlanned, LeadsTo, PlansFitLines, plan_reply}
 use Rattle.fast_path.specs.Committing.{marked_all, signed, tags_of}
-use Rattle.fast_path.specs.Grouping.{known_by}
+use Rattle.fast_path.specs.Grouping.{kept_by, known_by}
 use Rattle.fast_path.specs.Planned.{IsPoolOf}
 use Rattle.fast_path.specs.Plans.{IsAsked, IsPlan, IsWithinSteps, is_rebuilt_live, planned}
 use Rattle.fast_path.specs.declared.planned.Changes.{Changes}
@@ -47,7 +47,7 @@ use Rattle.route_server.specs.Served.{Served}
 use Rattle.sdx_core.proofs.Compiled.{changed_compiled, inbound_changed, lent_are_of, lent_length, outbound_changed}
 use Rattle.sdx_core.proofs.Requests.{enough_pass}
 use Rattle.sdx_core.proofs.Steps.{refused_step, steady_after}
-use Rattle.sdx_core.specs.Building.{Asks, Leads, base_of, kept_before}
+use Rattle.sdx_core.specs.Building.{Asks, Leads, base_of}
 use Rattle.sdx_core.specs.Programs.{AreCompiled, IsChangeOf, all_lent, changed, inbound_after, inbound_texts, outbound_after, outbound_texts}
 use Rattle.sdx_core.specs.Steps.{bound_by, built_count, step_bound}
 use Rattle.sdx_core.specs.View.{IsKept, state_of}
@@ -56,22 +56,13 @@ use Rattle.sdx_core.specs.declared.request.Request.{Request}
 
 -- ---- what is asked
 
--- the signatures that are kept, trimmed as a plan trims them
-pub kept_is : (named : Option (Pid × List Pid)) (classes : Classes) → kept_before named classes.kept ≡ (known_by named classes).kept
-kept_is None classes = refl
-kept_is (Some (who, pids)) classes = refl
-
-tag_is : (named : Option (Pid × List Pid)) (classes : Classes) → classes.tag ≡ (known_by named classes).tag
-tag_is None classes = refl
-tag_is (Some (who, pids)) classes = refl
-
 -- the parts show the state on which the request builds
 pub asked_of : (s : State) (e : Event) (r : Routing) (is_rebuilt : Pair → Bool) (q : Request) (names : Registered) (classes : Classes) (pool : Tags) (was_told : List (FinMap prefix_cmp Entry)) (switch : Installed) (all : List Programs) (views : List Lent) (rebuild : List Pair)
     → s.routing.participants ≡ names.participants → s.routing.ports ≡ names.ports → s.tag ≡ classes.tag → s.kept ≡ classes.kept → s.told ≡ was_told → s.table ≡ switch.table → s.capacity ≡ switch.capacity
     → s.outbound ≡ outbound_texts all → s.inbound ≡ inbound_texts all → IsKept s pool all → views ≡ all_lent (changed all q.change) → rebuild ≡ q.rebuild.items → Leads s e r is_rebuilt q
     → IsAsked (base_of s q) r is_rebuilt names classes pool was_told switch views q.proposal rebuild
 asked_of s e r is_rebuilt q names classes pool was_told switch all views rebuild participants ports tag kept told table capacity outbound inbound is lends rebuilds leads = record {
-  shown = record { participants = participants; ports = ports; tag = tag ∙ tag_is q.proposal.named classes; kept = ap (kept_before q.proposal.named) kept ∙ kept_is q.proposal.named classes; told = told; free = is.free };
+  shown = record { participants = participants; ports = ports; tag = tag; kept = ap (kept_by q.proposal.named) kept; told = told; free = is.free };
   table = table;
   capacity = capacity;
   base = leads.base;
@@ -180,7 +171,7 @@ pub parts_of : (s : State) (q : Request) (plan : Plan) (classes : Classes) (pool
     → ArePartsOf (base_of s q) plan classes pool switch
 parts_of s q plan classes pool switch all is named tag kept table capacity = record {
   tag = tag;
-  kept = ap (kept_before q.proposal.named) kept ∙ kept_is q.proposal.named classes ∙ ap (λ o. (known_by o classes).kept) (sym named);
+  kept = ap (kept_by q.proposal.named) kept ∙ ap (λ o. (known_by o classes).kept) (sym named);
   pool = pool_is s pool all q is;
   table = table;
   capacity = capacity;

@@ -1,7 +1,6 @@
 -- Lines that build rules: what they ask for (this exchange's own rule).
 use Rattle.std.specs.Prelude.{◌≡◌, ℕ, ◌≤◌, Bool, true, List, filter, length, slice_set, Option, Some, None, Result, Ok, Err}
-use Rattle.std.specs.FinMap.{FinMap, get, keys}
-use Rattle.std.specs.Option.{option_map}
+use Rattle.std.specs.FinMap.{keys}
 use Rattle.events.specs.After.{with_named}
 use Rattle.events.specs.Fits.{is_building, is_receivers, is_senders}
 use Rattle.events.specs.Refusals.{refusal, tags_refusal}
@@ -11,15 +10,12 @@ use Rattle.events.specs.declared.Refusal.{Refusal}
 use Rattle.exchange_laws.specs.Editing.{IsBase, IsEdit, both}
 use Rattle.exchange_laws.specs.Listed.{AreThose}
 use Rattle.exchange_laws.specs.Rules.{IsDeclaredAlike}
+use Rattle.fast_path.specs.Grouping.{kept_by}
 use Rattle.fast_path.specs.Plans.{build_count, is_rebuilt_live}
 use Rattle.net_types.specs.Exports.{Routing, named_by, pid_of}
-use Rattle.net_types.specs.Keys.{tag_cmp}
-use Rattle.net_types.specs.Maps.{tabulate}
 use Rattle.net_types.specs.Naming.{named_in}
 use Rattle.net_types.specs.Policies.{Policy}
-use Rattle.net_types.specs.Signatures.{trimmed}
 use Rattle.net_types.specs.declared.address.Pid.{Pid}
-use Rattle.net_types.specs.declared.route.Part.{Part}
 use Rattle.net_types.specs.declared.rule.Pair.{Pair}
 use Rattle.route_server.specs.Proposed.{IsProposal, named_with}
 use Rattle.sdx_core.specs.Programs.{IsChangeCompiled, IsChangeOf, IsCompiled, inbound_after, outbound_after}
@@ -35,18 +31,13 @@ abbrev pub names_before : Option (Pid × List Pid) → Routing → List (List Pi
 names_before None r = r.named
 names_before (Some (who, named)) r = slice_set r.named who.0 (both (named_by r who) named)
 
--- the signatures that are kept, trimmed so
-abbrev pub kept_before : Option (Pid × List Pid) → FinMap tag_cmp (List Part) → FinMap tag_cmp (List Part)
-kept_before None kept = kept
-kept_before (Some (who, named)) kept = tabulate tag_cmp (keys kept) (λ t. option_map (trimmed who named) (get kept t))
-
 -- the state on which a line builds that makes a policy another, which comes to name others
 abbrev pub base_by : State → Option (Pid × List Pid) → PolicyChange → State
 base_by s named change = record s {
   routing = record s.routing { named = names_before named s.routing };
   outbound = outbound_after s.outbound change;
   inbound = inbound_after s.inbound change;
-  kept = kept_before named s.kept;
+  kept = kept_by named s.kept;
 }
 
 -- the state on which a request builds

@@ -17,7 +17,7 @@ use Rattle.net_types.specs.PolicyReading.{policy_of_text}
 use Rattle.net_types.specs.declared.address.Pid.{Pid}
 use Rattle.net_types.specs.declared.rule.Pair.{Pair}
 
--- the fresh tags of a change of routes, each at each port
+-- the fresh tags of a line that leads to a routing, each at each port
 abbrev pub fresh_count : State → Routing → ℕ
 fresh_count s r = length s.routing.ports * length (groups s r)
 

@@ -1,6 +1,6 @@
 //! Addresses, ascending, each once.
 
-ghost use Rattle.std.specs.Prelude.{◌≡◌, ◌++◌, ◌∷◌, [], OnOk, IfOk};
+ghost use Rattle.std.specs.Prelude.{◌≡◌, ◌++◌, ◌∷◌, [], OnErr, OnOk, IfOk};
 ghost use Rattle.std.specs.List.{list_any};
 ghost use Rattle.net_types.specs.Attributes.{same_ip};
 ghost use Rattle.net_types.specs.Keys.{ip_cmp};
@@ -48,7 +48,8 @@ impl AddressSet {
 
     /// Puts the address in. After want of memory the set is unchanged.
     fn insert(&mut self, ip: Ip) -> Result<(), Memory>
-        ensures { OnOk result (self.new ≡ ordered ip_cmp (self.old ++ ip ∷ [])) }
+        ensures ok { OnOk result (self.new ≡ ordered ip_cmp (self.old ++ ip ∷ [])) }
+        ensures unchanged { OnErr result (self.new ≡ self.old) }
     {
         if let Err(place) = self.addresses.binary_search(&ip) {
             self.addresses.insert(place, ip)?;

@@ -1,6 +1,6 @@
 //! What a line that builds rules asks for is carried out where there are tags and room enough.
 
-ghost use Rattle.std.specs.Prelude.{◌≡◌, ◌≤◌, ◌+◌, Bool, IfOk, MatchResult};
+ghost use Rattle.std.specs.Prelude.{◌≡◌, ◌≤◌, ◌+◌, Bool, IfOk, OnErr, MatchResult};
 ghost use Rattle.net_types.specs.Exports.{Routing};
 ghost use Rattle.net_types.specs.declared.rule.Pair.{Pair};
 ghost use Rattle.events.specs.Forms.{IsWellFormed};
@@ -43,6 +43,7 @@ impl Sdx {
     ) -> Result<Reply, Memory>
         requires { (e : Event) × IsWellFormed e × Asks self.old e asked }
         ensures step { IfOk result (λ reply. (e : Event) → IsWellFormed e → Asks self.old e asked → IsStep self.old e reply self.new) }
+        ensures unchanged { OnErr result (self.new ≡ self.old) }
         ensures steps { (e : Event) → IsWellFormed e → Asks self.old e asked → steps.new ≤ steps.old + step_bound self.old e }
     {
         match asked {
@@ -55,6 +56,7 @@ impl Sdx {
     fn build<L: Ledger>(&mut self, request: Request, steps: &mut Steps<L>) -> Result<Reply, Memory>
         requires { (e : Event) × IsWellFormed e × (r : Routing) × (is_rebuilt : Pair → Bool) × Leads self.old e r is_rebuilt request }
         ensures step { IfOk result (λ reply. (e : Event) (r : Routing) (is_rebuilt : Pair → Bool) → IsWellFormed e → Leads self.old e r is_rebuilt request → IsStep self.old e reply self.new) }
+        ensures unchanged { OnErr result (self.new ≡ self.old) }
         ensures steps { (e : Event) (r : Routing) (is_rebuilt : Pair → Bool) → Leads self.old e r is_rebuilt request → IsWithinSteps (base_of self.old request) r is_rebuilt steps.old steps.new }
     {
         let plan = match self.planned(&request, steps) {

@@ -1,6 +1,6 @@
 //! The lines that change the routes.
 
-ghost use Rattle.std.specs.Prelude.{◌≡◌, ◌≤◌, ◌+◌, IfOk, IsTrue};
+ghost use Rattle.std.specs.Prelude.{◌≡◌, ◌≤◌, ◌+◌, IfOk, OnErr, IsTrue};
 ghost use Rattle.events.specs.Forms.{IsWellFormed};
 ghost use Rattle.events.specs.Fits.{IsStep};
 ghost use Rattle.events.specs.Lines.{is_utf8};
@@ -27,6 +27,7 @@ impl Sdx {
     ) -> Result<Reply, Memory>
         requires { IsWellFormed (lines.Update name.now bytes.now) }
         ensures step { IfOk result (λ reply. IsStep self.old (lines.Update name.now bytes.now) reply self.new) }
+        ensures unchanged { OnErr result (self.new ≡ self.old) }
         ensures steps { steps.new ≤ steps.old + step_bound self.old (lines.Update name.now bytes.now) }
     {
         let proposed = self.update_asked(name, bytes)?;
@@ -42,6 +43,7 @@ impl Sdx {
     ) -> Result<Reply, Memory>
         requires { IsWellFormed (lines.Down name.now) }
         ensures step { IfOk result (λ reply. IsStep self.old (lines.Down name.now) reply self.new) }
+        ensures unchanged { OnErr result (self.new ≡ self.old) }
         ensures steps { steps.new ≤ steps.old + step_bound self.old (lines.Down name.now) }
     {
         let proposed = self.down_asked(name)?;
@@ -58,6 +60,7 @@ impl Sdx {
     ) -> Result<Reply, Memory>
         requires { IsWellFormed (lines.Export name.now text.now) }
         ensures step { IfOk result (λ reply. IsStep self.old (lines.Export name.now text.now) reply self.new) }
+        ensures unchanged { OnErr result (self.new ≡ self.old) }
         ensures steps { steps.new ≤ steps.old + step_bound self.old (lines.Export name.now text.now) }
     {
         let proposed = self.export_asked(name, text)?;

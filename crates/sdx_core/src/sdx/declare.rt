@@ -1,6 +1,6 @@
 //! The lines that declare: the pool and the table, participants and their ports.
 
-ghost use Rattle.std.specs.Prelude.{◌≡◌, ◌||◌, ◌∷◌, [], take, IfOk};
+ghost use Rattle.std.specs.Prelude.{◌≡◌, ◌||◌, ◌∷◌, [], take, IfOk, OnErr};
 ghost use Rattle.events.specs.Forms.{IsWellFormed};
 ghost use Rattle.events.specs.Fits.{IsStep};
 ghost use Rattle.events.specs.declared.Event.TheVariants as lines;
@@ -20,7 +20,8 @@ use next_hop_pool::Pool;
 impl Sdx {
     pub(super) fn exchange(&mut self, base: Ip, size: u32, capacity: u32) -> Result<Reply, Memory>
         requires { IsWellFormed (lines.Exchange base size capacity) }
-        ensures { IfOk result (λ reply. IsStep self.old (lines.Exchange base size capacity) reply self.new) }
+        ensures step { IfOk result (λ reply. IsStep self.old (lines.Exchange base size capacity) reply self.new) }
+        ensures unchanged { OnErr result (self.new ≡ self.old) }
     {
         match self.phase {
             Phase::Start => {}
@@ -38,7 +39,8 @@ impl Sdx {
 
     pub(super) fn participant(&mut self, name: &Name, asn: u32, id: Ip) -> Result<Reply, Memory>
         requires { IsWellFormed (lines.Participant name.now asn id) }
-        ensures { IfOk result (λ reply. IsStep self.old (lines.Participant name.now asn id) reply self.new) }
+        ensures step { IfOk result (λ reply. IsStep self.old (lines.Participant name.now asn id) reply self.new) }
+        ensures unchanged { OnErr result (self.new ≡ self.old) }
     {
         match self.phase {
             Phase::Declaring => {}
@@ -81,7 +83,8 @@ impl Sdx {
         mac: Mac,
     ) -> Result<Reply, Memory>
         requires { IsWellFormed (lines.Port name.now number ip mac) }
-        ensures { IfOk result (λ reply. IsStep self.old (lines.Port name.now number ip mac) reply self.new) }
+        ensures step { IfOk result (λ reply. IsStep self.old (lines.Port name.now number ip mac) reply self.new) }
+        ensures unchanged { OnErr result (self.new ≡ self.old) }
     {
         match self.phase {
             Phase::Declaring => {}

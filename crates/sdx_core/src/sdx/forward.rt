@@ -1,6 +1,6 @@
 //! The lines that send a datagram from the router at a port, or a frame as it is.
 
-ghost use Rattle.std.specs.Prelude.{◌≡◌, ◌≤◌, IfOk, Some, length};
+ghost use Rattle.std.specs.Prelude.{◌≡◌, ◌≤◌, IfOk, OnErr, Some, length};
 ghost use Rattle.events.specs.Forms.{IsWellFormed};
 ghost use Rattle.events.specs.Fits.{IsStep};
 ghost use Rattle.events.specs.Resolving.{is_resolved};
@@ -20,7 +20,8 @@ impl Sdx {
     /// A datagram comes from the router at the port; it leaves by what the router was told.
     pub(super) fn packet(&mut self, port: PortNo, bytes: &Bytes) -> Result<Reply, Memory>
         requires { IsWellFormed (lines.Packet port bytes.now) }
-        ensures { IfOk result (λ reply. IsStep self.old (lines.Packet port bytes.now) reply self.new) }
+        ensures step { IfOk result (λ reply. IsStep self.old (lines.Packet port bytes.now) reply self.new) }
+        ensures unchanged { OnErr result (self.new ≡ self.old) }
     {
         if !is_declared(self.phase) {
             return Ok(refused(self.alloc, Refusal::Misplaced));
@@ -47,7 +48,8 @@ impl Sdx {
     /// A frame comes in at the port as it is.
     pub(super) fn frame(&mut self, port: PortNo, bytes: &Bytes) -> Result<Reply, Memory>
         requires { IsWellFormed (lines.Frame port bytes.now) }
-        ensures { IfOk result (λ reply. IsStep self.old (lines.Frame port bytes.now) reply self.new) }
+        ensures step { IfOk result (λ reply. IsStep self.old (lines.Frame port bytes.now) reply self.new) }
+        ensures unchanged { OnErr result (self.new ≡ self.old) }
     {
         if !is_declared(self.phase) {
             return Ok(refused(self.alloc, Refusal::Misplaced));

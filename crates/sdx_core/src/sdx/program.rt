@@ -1,6 +1,6 @@
 //! The lines that say a participant's policies.
 
-ghost use Rattle.std.specs.Prelude.{◌≡◌, ◌≤◌, ◌<◌, ◌+◌, Ok, IfOk, IsTrue, length};
+ghost use Rattle.std.specs.Prelude.{◌≡◌, ◌≤◌, ◌<◌, ◌+◌, Ok, IfOk, OnErr, IsTrue, length};
 ghost use Rattle.events.specs.Forms.{IsWellFormed};
 ghost use Rattle.events.specs.Fits.{IsStep};
 ghost use Rattle.events.specs.Lines.{is_utf8};
@@ -38,6 +38,7 @@ impl Sdx {
     ) -> Result<Reply, Memory>
         requires { IsWellFormed (lines.Outbound name.now text.now) }
         ensures step { IfOk result (λ reply. IsStep self.old (lines.Outbound name.now text.now) reply self.new) }
+        ensures unchanged { OnErr result (self.new ≡ self.old) }
         ensures steps { steps.new ≤ steps.old + step_bound self.old (lines.Outbound name.now text.now) }
     {
         let asked = self.outbound_asked(name, text)?;
@@ -53,6 +54,7 @@ impl Sdx {
     ) -> Result<Reply, Memory>
         requires { IsWellFormed (lines.Inbound name.now text.now) }
         ensures step { IfOk result (λ reply. IsStep self.old (lines.Inbound name.now text.now) reply self.new) }
+        ensures unchanged { OnErr result (self.new ≡ self.old) }
         ensures steps { steps.new ≤ steps.old + step_bound self.old (lines.Inbound name.now text.now) }
     {
         let asked = self.inbound_asked(name, text)?;

@@ -1,6 +1,6 @@
 //! The lines by which routers learn the MACs of next hops (RFC 826).
 
-ghost use Rattle.std.specs.Prelude.{◌≡◌, IfOk};
+ghost use Rattle.std.specs.Prelude.{◌≡◌, IfOk, OnErr};
 ghost use Rattle.events.specs.Forms.{IsWellFormed};
 ghost use Rattle.events.specs.Fits.{IsStep};
 ghost use Rattle.net_types.specs.Octets.{same_octets};
@@ -19,7 +19,8 @@ impl Sdx {
     /// The router at the port sends a frame to the responder.
     pub(super) fn arp(&mut self, port: PortNo, bytes: &Bytes) -> Result<Reply, Memory>
         requires { IsWellFormed (lines.Arp port bytes.now) }
-        ensures { IfOk result (λ reply. IsStep self.old (lines.Arp port bytes.now) reply self.new) }
+        ensures step { IfOk result (λ reply. IsStep self.old (lines.Arp port bytes.now) reply self.new) }
+        ensures unchanged { OnErr result (self.new ≡ self.old) }
     {
         if !is_declared(self.phase) {
             return Ok(refused(self.alloc, Refusal::Misplaced));
@@ -50,7 +51,8 @@ impl Sdx {
     /// The router at the port asks for each next hop that it was told and hasn't resolved.
     pub(super) fn resolve(&mut self, port: PortNo) -> Result<Reply, Memory>
         requires { IsWellFormed (lines.Resolve port) }
-        ensures { IfOk result (λ reply. IsStep self.old (lines.Resolve port) reply self.new) }
+        ensures step { IfOk result (λ reply. IsStep self.old (lines.Resolve port) reply self.new) }
+        ensures unchanged { OnErr result (self.new ≡ self.old) }
     {
         if !is_declared(self.phase) {
             return Ok(refused(self.alloc, Refusal::Misplaced));

@@ -1,6 +1,6 @@
 //! The line that shows the table.
 
-ghost use Rattle.std.specs.Prelude.{◌≡◌, IfOk};
+ghost use Rattle.std.specs.Prelude.{◌≡◌, IfOk, OnErr};
 ghost use Rattle.events.specs.Fits.{IsStep};
 ghost use Rattle.events.specs.declared.Event.TheVariants as lines;
 
@@ -13,7 +13,8 @@ use net_types::Memory;
 impl Sdx {
     /// All rules of the table.
     pub(super) fn table(&mut self) -> Result<Reply, Memory>
-        ensures { IfOk result (λ reply. IsStep self.old lines.Table reply self.new) }
+        ensures step { IfOk result (λ reply. IsStep self.old lines.Table reply self.new) }
+        ensures unchanged { OnErr result (self.new ≡ self.old) }
     {
         if !is_declared(self.phase) {
             return Ok(refused(self.alloc, Refusal::Misplaced));

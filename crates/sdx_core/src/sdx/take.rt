@@ -1,6 +1,6 @@
 //! The lines by which a participant takes what is pending for it.
 
-ghost use Rattle.std.specs.Prelude.{◌≡◌, ◌<◌, IfOk, length};
+ghost use Rattle.std.specs.Prelude.{◌≡◌, ◌<◌, IfOk, OnErr, length};
 ghost use Rattle.events.specs.Forms.{IsWellFormed};
 ghost use Rattle.events.specs.Fits.{IsStep, bare};
 ghost use Rattle.events.specs.State.{present};
@@ -33,7 +33,8 @@ impl Sdx {
     /// taken before anything changes.
     pub(super) fn take(&mut self, name: &Name, limit: Option<u32>) -> Result<Reply, Memory>
         requires { IsWellFormed (line_of name.now limit) }
-        ensures { IfOk result (λ reply. IsStep self.old (line_of name.now limit) reply self.new) }
+        ensures step { IfOk result (λ reply. IsStep self.old (line_of name.now limit) reply self.new) }
+        ensures unchanged { OnErr result (self.new ≡ self.old) }
     {
         let who = match self.session(name) {
             Ok(who) => who,

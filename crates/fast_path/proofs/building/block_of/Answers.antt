@@ -1,9 +1,4 @@
 -- What is right for the view is right for the policies, and what is within its cells is within theirs.
-use Rattle.std.proofs.Common.{◌≡◌, ◌<◌, ◌≤◌, length, arith}
-use Rattle.std.specs.Prelude.{Result, Ok, Err, IfOk, IfErr}
-use Rattle.block_build.specs.Laws.{IsViewOf}
-use Rattle.block_build.specs.Lent.{AreOf}
-use Rattle.net_types.specs.Answers.{Policies}
 use Rattle.fast_path.proofs.BlockLemmas.{right_by, wide_by}
 use Rattle.fast_path.proofs.building.block_of.Goals as goal
 

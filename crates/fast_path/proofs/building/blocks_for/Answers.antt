@@ -1,11 +1,11 @@
 -- The blocks so far and that of the next pair.
-use Rattle.std.proofs.Common.{◌≡◌, ◌+◌, length, ◌++◌, ◌∷◌, [], map, take, sym, ap, subst, ◌∙◌, refl, arith}
+use Rattle.std.proofs.Common.{◌≡◌, ◌+◌, length, ◌++◌, ◌∷◌, [], map, sym, ap, subst, ◌∙◌, refl, arith}
 use Rattle.std.specs.Prelude.{slice_index_or}
 use Rattle.net_types.proofs.MemberLemmas.{Member-at}
 use Rattle.net_types.specs.declared.rule.Pair.{Pair}
 use Rattle.fast_path.proofs.BlockLemmas.{fault_for, index_same, more_right, more_rules, pairs_more}
-use Rattle.fast_path.specs.Building.{AreRightFor, IsBlockFor, site_of}
-use Rattle.fast_path.specs.Committing.{Block, block_count}
+use Rattle.fast_path.specs.Building.{AreRightFor, site_of}
+use Rattle.fast_path.specs.Committing.{block_count}
 use Rattle.fast_path.specs.Plans.{pair_of}
 use Rattle.fast_path.proofs.building.blocks_for.Goals as goal
 

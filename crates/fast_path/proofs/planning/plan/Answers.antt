@@ -1,5 +1,5 @@
 -- The plan of the draft, or why there is none.
-use Rattle.std.proofs.Common.{◌≤◌, [], length, sym, ap, subst, ◌∙◌, arith}
+use Rattle.std.proofs.Common.{◌≤◌, [], length, ap, subst, ◌∙◌, arith}
 use Rattle.next_hop_pool.specs.Free.{free_tags}
 use Rattle.fast_path.specs.Drafts.{IsDraft}
 use Rattle.fast_path.specs.Grouping.{more_groups, moved_groups}

@@ -1,10 +1,10 @@
-use Rattle.std.proofs.Common.{◌≡◌, ◌++◌, List, filter, map}
+use Rattle.std.proofs.Common.{◌≡◌, ◌++◌, drop, filter}
 use Rattle.std.specs.FinMap.{keys}
-use Rattle.net_types.specs.declared.rule.Pair.{Pair}
-use Rattle.net_types.specs.declared.rule.Rule.{Rule}
-use Rattle.sdx_core.specs.Rebuilt.{is_from}
+use Rattle.net_types.specs.Sets.{union_over}
+use Rattle.sdx_core.specs.Rebuilt.{is_at}
 use Rattle.sdx_core.proofs.rebuilt.pairs_from.Given as goal
 
--- those so far and those among what is left are all
-abbrev pub invariant-loop-pair : goal.invariant-loop-pair
-invariant-loop-pair l = l.pairs.items ++ filter (is_from l.names l.who) (map (λ (e : Pair × List Rule). e.0) l.pair-iterator) ≡ filter (is_from l.names l.who) (keys l.switch.table)
+-- with those of the other ports they are all
+abbrev pub invariant-loop-port : goal.invariant-loop-port
+invariant-loop-port l =
+    l.pairs.items ++ union_over (λ port. filter (is_at port) (keys l.switch.table)) (drop l.port-index l.ports) ≡ union_over (λ port. filter (is_at port) (keys l.switch.table)) l.ports

@@ -1,6 +1,6 @@
 -- What is found in the classes is what is found in what is known.
 use Rattle.std.proofs.Common.{◌≡◌, List, map, sym, ap, ◌∙◌}
-use Rattle.std.specs.Prelude.{Option, Some, None, option_copied}
+use Rattle.std.specs.Prelude.{Some, option_copied}
 use Rattle.std.specs.FinMap.{get}
 use Rattle.std.specs.Option.{option_and_then, option_map}
 use Rattle.fast_path.specs.Grouping.{Known, is_kept_sig, part_by}
@@ -17,7 +17,7 @@ returns c =
     let sig : List Part = c.args.sig.now in
     let tag : get classes.tag c.args.prefix ≡ Some c.in-Some.tag = sym c.tag_of.ensures.value ∙ c.in-Some.is in
     let kept : get classes.kept c.in-Some.tag ≡ Some c.in-Some-sig_of.kept.now = sym c.sig_of.ensures ∙ ap option_copied c.in-Some-sig_of.is in
-    c.in_ok-same.ensures
+    c.is_same.ensures
     ∙ ap (λ parts. same_signature (map (part_by names) parts) c.items-2.result.now) c.items.ensures
     ∙ ap (same_signature (map (part_by names) c.in-Some-sig_of.kept.now)) c.items-2.ensures
     ∙ sym (ap (λ (k : Known). is_kept_sig k c.args.prefix sig) (sym c.self.view_is) ∙ kept_known names classes c.args.prefix sig

@@ -1,12 +1,11 @@
 -- What is found in the classes is what is found in what is known.
 use Rattle.std.proofs.Common.{◌≡◌, List, sym, ap, ◌∙◌}
-use Rattle.std.specs.Prelude.{Option, Some, None, option_copied}
+use Rattle.std.specs.Prelude.{Some, None, option_copied}
 use Rattle.std.specs.FinMap.{get}
 use Rattle.std.specs.Option.{option_and_then, option_map}
 use Rattle.events.specs.Sound.{part_of}
 use Rattle.fast_path.specs.Grouping.{Known, part_by}
 use Rattle.net_types.specs.declared.address.Pid.{Pid}
-use Rattle.net_types.specs.declared.route.Part.{Part}
 use Rattle.fast_path.proofs.KnownSignatures.{Names, part_in_known}
 use Rattle.fast_path.proofs.known.KnownClasses.part_of.Goals as goal
 

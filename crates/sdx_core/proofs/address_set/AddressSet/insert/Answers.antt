@@ -11,13 +11,13 @@ invariant_of-self c =
     subst (IsRising is_ip_before) (sym c.in_ok-insert.ensures.items)
     (placed_rises c.self.inside.addresses.items c.in-Err.place c.args.ip c.self.invariant (rw c.deref.ensures.value at c.in-Err.ensures.bound) (rw c.deref.ensures.value at c.in-Err.ensures.position))
 
-pub returns-in_ok-insert : goal.returns-in_ok-insert
-returns-in_ok-insert c =
+pub returns-in_ok-insert-clause-ok : goal.returns-in_ok-insert-clause-ok
+returns-in_ok-insert-clause-ok c =
     c.in_ok-insert.ensures.items
     ∙ placed_is c.self.inside.addresses.items c.in-Err.place c.args.ip c.self.invariant (rw c.deref.ensures.value at c.in-Err.ensures.bound) (rw c.deref.ensures.value at c.in-Err.ensures.position)
     ∙ ap (λ xs. ordered ip_cmp (xs ++ c.args.ip ∷ [])) c.self.view_is
 
-pub returns-in_default : goal.returns-in_default
-returns-in_default c =
+pub returns-in_default-clause-ok : goal.returns-in_default-clause-ok
+returns-in_default-clause-ok c =
     subst (λ xs. xs ≡ ordered ip_cmp (xs ++ c.args.ip ∷ [])) (c.deref.ensures.value ∙ c.self.view_is)
     (present_is c.deref.result.now c.args.ip (subst (IsRising is_ip_before) (sym c.deref.ensures.value) c.self.invariant) (found_member c.deref.result.now c.args.ip c.in_default.field-0 c.in_default.ensures.bound c.in_default.ensures.position))

@@ -15,5 +15,5 @@ loop-ip-preserved c =
     let ips = c.args.ips.now in
     let i = c.loop-ip.ip-index in
     let ip : Ip = get_or ips i (record { 0 = 0 }) in
-    c.in_ok-insert.ensures ∙ ap (λ xs. ordered ip_cmp (xs ++ ip ∷ [])) c.loop-ip.invariant
+    c.in_ok-insert.ensures.ok ∙ ap (λ xs. ordered ip_cmp (xs ++ ip ∷ [])) c.loop-ip.invariant
     ∙ more_after c.args.self.now (take i ips) (take (i + 1) ips) ip (take_more ips i (record { 0 = 0 }) c.loop-ip-test.true)

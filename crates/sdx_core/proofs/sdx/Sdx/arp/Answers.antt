@@ -12,13 +12,13 @@ use Rattle.sdx_core.proofs.Steps.{step_from}
 use Rattle.sdx_core.specs.View.{state_of}
 use Rattle.sdx_core.proofs.sdx.Sdx.arp.Goals as goal
 
-pub returns-in_default : goal.returns-in_default
-returns-in_default c =
+pub returns-in_default-clause-step : goal.returns-in_default-clause-step
+returns-in_default-clause-step c =
     arp_refused c.self.invariant (sym c.is_declared.ensures ∙ c.if-not-is_declared.false) c.args.self.now c.self.view_is c.args.port c.args.bytes.now
     (sym c.port_place.ensures.place ∙ c.in_default.is) c.refused-in_default.result c.refused-in_default.ensures
 
-pub returns-in_default-pool_request : goal.returns-in_default-pool_request
-returns-in_default-pool_request c =
+pub returns-in_default-pool_request-clause-step : goal.returns-in_default-pool_request-clause-step
+returns-in_default-pool_request-clause-step c =
     let a = c.self.inside in
     let s : State = state_of a.phase a.base a.size a.registry a.server a.resolved.items a.classes a.told.items a.switch a.programs.items in
     let q : PortInfo = get_or a.registry.ports c.in-Some.place no_port in
@@ -29,8 +29,8 @@ returns-in_default-pool_request c =
     (arp_step c.self.invariant (sym c.is_declared.ensures ∙ c.if-not-is_declared.false) c.args.port c.args.bytes.now q c.requires (port_at s c.args.port c.in-Some.place q place here)
     c.bare_reply.result (silent_reply s c.args.bytes.now none c.bare_reply.result c.bare_reply.ensures) a.resolved.items (silent_state s c.args.bytes.now none q))
 
-pub returns-then-not-asks_as : goal.returns-then-not-asks_as
-returns-then-not-asks_as c =
+pub returns-then-not-asks_as-clause-step : goal.returns-then-not-asks_as-clause-step
+returns-then-not-asks_as-clause-step c =
     let a = c.self.inside in
     let s : State = state_of a.phase a.base a.size a.registry a.server a.resolved.items a.classes a.told.items a.switch a.programs.items in
     let q : PortInfo = get_or a.registry.ports c.in-Some.place no_port in
@@ -74,8 +74,8 @@ invariant_of-self-2 c =
     set (slice_get-get_or a.resolved.items c.in-Some.place set (omega arith) ∙ ap Some (sym set_is)) lists (ap (slice_set a.resolved.items c.in-Some.place) c.in_ok-more.ensures) in
     arp_kept c.self.invariant (sym c.is_declared.ensures ∙ c.if-not-is_declared.false) c.args.port c.args.bytes.now q c.requires (port_at s c.args.port c.in-Some.place q place here) lists then
 
-pub returns : goal.returns
-returns c =
+pub returns-clause-step : goal.returns-clause-step
+returns-clause-step c =
     let a = c.self.inside in
     let s : State = state_of a.phase a.base a.size a.registry a.server a.resolved.items a.classes a.told.items a.switch a.programs.items in
     let q : PortInfo = get_or a.registry.ports c.in-Some.place no_port in

@@ -4,8 +4,8 @@ use Rattle.sdx_core.proofs.Lists.{frame_kept, frame_refused, frame_step}
 use Rattle.sdx_core.proofs.Steps.{step_from}
 use Rattle.sdx_core.proofs.sdx.Sdx.frame.Goals as goal
 
-pub returns-in_default : goal.returns-in_default
-returns-in_default c =
+pub returns-in_default-clause-step : goal.returns-in_default-clause-step
+returns-in_default-clause-step c =
     frame_refused c.self.invariant (sym c.is_declared.ensures ∙ c.if-not-is_declared.false) c.args.self.now c.self.view_is c.args.port c.args.bytes.now
     (sym c.port.ensures ∙ sym c.copied.ensures ∙ c.in_default.is) c.refused-in_default.result c.refused-in_default.ensures
 
@@ -13,8 +13,8 @@ pub invariant_of-self : goal.invariant_of-self
 invariant_of-self c =
     frame_kept c.self.invariant (sym c.is_declared.ensures ∙ c.if-not-is_declared.false) c.args.port c.args.bytes.now c.in-Some.source c.requires (sym c.port.ensures ∙ sym c.copied.ensures ∙ c.in-Some.is)
 
-pub returns : goal.returns
-returns c =
+pub returns-clause-step : goal.returns-clause-step
+returns-clause-step c =
     let plain = c.bare_reply-reply.ensures in
     step_from _ c.args.self.now (Frame c.args.port c.args.bytes.now) _ _ c.self.view_is
     (frame_step c.self.invariant (sym c.is_declared.ensures ∙ c.if-not-is_declared.false) c.args.port c.args.bytes.now c.in-Some.source c.requires (sym c.port.ensures ∙ sym c.copied.ensures ∙ c.in-Some.is)

@@ -17,13 +17,13 @@ use Rattle.sdx_core.proofs.Steps.{step_from}
 use Rattle.sdx_core.proofs.sdx.Sdx.packet.Goals as goal
 use Rattle.sdx_core.proofs.sdx.Sdx.packet.Goals.{in-Some-longest+in_ok-reply-in-Some-longest, in-None}
 
-pub returns-in_default : goal.returns-in_default
-returns-in_default c =
+pub returns-in_default-clause-step : goal.returns-in_default-clause-step
+returns-in_default-clause-step c =
     packet_refused c.self.invariant (sym c.is_declared.ensures ∙ c.if-not-is_declared.false) c.args.self.now c.self.view_is c.args.port c.args.bytes.now
     (sym c.port.ensures ∙ sym c.copied.ensures ∙ c.in_default.is) c.refused-in_default.result c.refused-in_default.ensures
 
-pub returns-in_default-headers : goal.returns-in_default-headers
-returns-in_default-headers c =
+pub returns-in_default-headers-clause-step : goal.returns-in_default-headers-clause-step
+returns-in_default-headers-clause-step c =
     no_packet c.self.invariant (sym c.is_declared.ensures ∙ c.if-not-is_declared.false) c.args.self.now c.self.view_is c.args.port c.args.bytes.now c.in-Some.source
     (sym c.port.ensures ∙ sym c.copied.ensures ∙ c.in-Some.is) no_mac refl c.known.ensures c.in_ok-frame.frame.items
     (rw c.items.ensures at c.in_ok-frame.ensures) (rw c.as_slice-2.ensures.value at (sym c.headers.ensures ∙ c.in_default-headers.is)) c.refused-in_default-headers.result c.refused-in_default-headers.ensures
@@ -59,8 +59,8 @@ invariant_of-self c =
     (rw c.items.ensures at c.in_ok-frame.ensures) (rw c.as_slice.ensures.value at c.are_octets.ensures) (rw c.as_slice-2.ensures.value at (sym c.headers.ensures ∙ c.in-Some-headers.is))
     (sym c.is_declared.ensures ∙ c.if-not-is_declared.false) c.requires c.longest.result c.longest.ensures.key c.longest.ensures.value
 
-pub returns : goal.returns
-returns c =
+pub returns-clause-step : goal.returns-clause-step
+returns-clause-step c =
     let a = c.self.inside in
     let source = c.in-Some.source in
     let owner = source.owner.0 in

@@ -12,8 +12,8 @@ use Rattle.sdx_core.proofs.Steps.{step_from}
 use Rattle.sdx_core.specs.View.{state_of}
 use Rattle.sdx_core.proofs.sdx.Sdx.resolve.Goals as goal
 
-pub returns-in_default : goal.returns-in_default
-returns-in_default c =
+pub returns-in_default-clause-step : goal.returns-in_default-clause-step
+returns-in_default-clause-step c =
     resolve_refused c.self.invariant (sym c.is_declared.ensures ∙ c.if-not-is_declared.false) c.args.self.now c.self.view_is c.args.port
     (sym c.port_place.ensures.place ∙ c.in_default.is) c.refused-in_default.result c.refused-in_default.ensures
 
@@ -108,8 +108,8 @@ invariant_of-self c =
     (ap (slice_set a.resolved.items c.in-Some.place) (rw c.as_slice-4.ensures.value at c.in_ok-more.ensures)) in
     resolve_kept c.self.invariant (sym c.is_declared.ensures ∙ c.if-not-is_declared.false) c.args.port q c.requires found lists then
 
-pub returns : goal.returns
-returns c =
+pub returns-clause-step : goal.returns-clause-step
+returns-clause-step c =
     let a = c.self.inside in
     let s : State = state_of a.phase a.base a.size a.registry a.server a.resolved.items a.classes a.told.items a.switch a.programs.items in
     let q : PortInfo = get_or a.registry.ports c.in-Some.place no_port in

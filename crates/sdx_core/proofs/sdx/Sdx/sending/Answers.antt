@@ -11,8 +11,18 @@ use Rattle.sdx_core.specs.Building.{IsSending}
 use Rattle.sdx_core.specs.View.{state_of}
 use Rattle.sdx_core.specs.declared.programs.PolicyChange.TheVariants.{Outbound}
 use Rattle.sdx_core.specs.declared.request.Request.{Request}
+use Rattle.sdx_core.proofs.PortPairs.{table_tagged}
 use Rattle.sdx_core.proofs.Senders.{routes_declared}
 use Rattle.sdx_core.proofs.sdx.Sdx.sending.Goals as goal
+
+pub pairs_from-rebuild-requires-clause-apart : goal.pairs_from-rebuild-requires-clause-apart
+pairs_from-rebuild-requires-clause-apart c = c.self.invariant.steady.apart
+
+pub pairs_from-rebuild-requires-clause-tagged : goal.pairs_from-rebuild-requires-clause-tagged
+pairs_from-rebuild-requires-clause-tagged c =
+    let a = c.self.inside in
+    let s : State = state_of a.phase a.base a.size a.registry a.server a.resolved.items a.classes a.told.items a.switch a.programs.items in
+    table_tagged s c.self.invariant.steady
 
 pub propose_named-requires-clause-declared : goal.propose_named-requires-clause-declared
 propose_named-requires-clause-declared c =

@@ -32,8 +32,8 @@ tell-requires c = record {
   goes = c.in_ok-taking.ensures.goes;
 }
 
-pub returns : goal.returns
-returns c =
+pub returns-clause-step : goal.returns-clause-step
+returns-clause-step c =
     let pool = c.self.inside.pool in
     let s : State = c.args.self.now in
     let who = c.in-Ok.who in
