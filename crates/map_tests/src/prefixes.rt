@@ -32,12 +32,12 @@ impl SlowMap {
     }
 
     fn remove(&mut self, key: Prefix) -> Option<u32> {
-        let mut at = 0;
+        let mut at = 0usize;
         for entry in &self.entries {
             if entry.0 == key {
                 break;
             }
-            at += 1;
+            at = at.saturating_add(1);
         }
         if at < self.entries.len() {
             return Some(self.entries.swap_remove(at).1);
@@ -88,8 +88,16 @@ fn next(seed: u32) -> u32 {
 // Addresses that share their first bits, and lengths of every kind.
 fn some_prefix(seed: u32) -> Prefix {
     let near = (seed >> 8) % 4 * 0x4000_0000 + (seed >> 10) % 8;
-    let ip = if seed >> 31 == 0 { Ip(near) } else { Ip(0xffff_fff8 | (seed >> 10) % 8) };
-    let len = if (seed >> 20) % 2 == 0 { (seed >> 13) % 33 } else { 28 + (seed >> 13) % 5 };
+    let ip = if seed >> 31 == 0 {
+        Ip(near)
+    } else {
+        Ip(0xffff_fff8 | (seed >> 10) % 8)
+    };
+    let len = if (seed >> 20) % 2 == 0 {
+        (seed >> 13) % 33
+    } else {
+        28 + (seed >> 13) % 5
+    };
     match u8::try_from(len) {
         Ok(len) => match Prefix::new(ip, len) {
             Ok(prefix) => prefix,
@@ -117,6 +125,58 @@ fn same_entries(map: &PrefixMap<u32>, slow: &SlowMap) -> bool {
     count == slow.entries.len()
 }
 
+// The first bits of an address, as many as there are.
+fn first_bits(address: u32, len: u8) -> Prefix {
+    match Prefix::new(Ip(address), len) {
+        Ok(prefix) => prefix,
+        Err(_) => Prefix::any(),
+    }
+}
+
+#[test]
+fn every_length_along_one_path(rt: HostRuntime) -> Result<(), Fail> {
+    let mut map: PrefixMap<u8> = PrefixMap::new(rt.alloc());
+    let address = 0xffff_ffff;
+    for _ in 0..2 {
+        for step in 0..33u8 {
+            // short and long ones in turn
+            let len = if step % 2 == 0 { step } else { 32 - step };
+            assert!(rt; map.insert(first_bits(address, len), len) == Ok(None));
+        }
+        assert!(rt; map.len() == 33);
+        assert!(rt; map.iter().map(|entry| *entry.1).eq(0..33u8));
+        assert!(rt; map.longest(Ip(0x7fff_ffff)).map(|entry| *entry.1) == Some(0));
+        for gone in 0..33u8 {
+            let len = 32 - gone;
+            assert!(rt; map.longest(Ip(address)).map(|entry| *entry.1) == Some(len));
+            assert!(rt; map.remove(first_bits(address, len)) == Some(len));
+            assert!(rt; map.get(first_bits(address, len)).is_none());
+        }
+        assert!(rt; map.len() == 0);
+        assert!(rt; map.longest(Ip(address)).is_none());
+    }
+    Ok(())
+}
+
+#[test]
+fn a_fork_without_a_value_goes(rt: HostRuntime) -> Result<(), Fail> {
+    let mut map: PrefixMap<u8> = PrefixMap::new(rt.alloc());
+    assert!(rt; map.insert(first_bits(6, 32), 1) == Ok(None));
+    assert!(rt; map.insert(first_bits(7, 32), 2) == Ok(None));
+    assert!(rt; map.insert(first_bits(0, 8), 3) == Ok(None));
+    assert!(rt; map.get(first_bits(6, 31)).is_none());
+    assert!(rt; map.remove(first_bits(6, 31)).is_none());
+    assert!(rt; map.insert(first_bits(6, 31), 4) == Ok(None));
+    assert!(rt; map.remove(first_bits(6, 31)) == Some(4));
+    assert!(rt; map.remove(first_bits(7, 32)) == Some(2));
+    assert!(rt; map.longest(Ip(7)).map(|entry| *entry.1) == Some(3));
+    assert!(rt; map.longest(Ip(6)).map(|entry| *entry.1) == Some(1));
+    assert!(rt; map.remove(first_bits(0, 8)) == Some(3));
+    assert!(rt; map.longest(Ip(7)).is_none());
+    assert!(rt; map.iter().map(|entry| *entry.1).eq(1..2u8));
+    Ok(())
+}
+
 #[test]
 fn prefixes_answer_as_a_list(rt: HostRuntime) -> Result<(), Fail> {
     let mut map: PrefixMap<u32> = PrefixMap::new(rt.alloc());
@@ -132,7 +192,11 @@ fn prefixes_answer_as_a_list(rt: HostRuntime) -> Result<(), Fail> {
         if (seed >> 8) % 10 < removing {
             assert!(rt; map.remove(key) == slow.remove(key));
         } else {
-            assert!(rt; map.insert(key, round).is_ok_and(|before| slow.insert(key, round).is_ok_and(|other| before == other)));
+            assert!(rt;
+                map.insert(key, round).is_ok_and(|before| slow
+                    .insert(key, round)
+                    .is_ok_and(|other| before == other))
+            );
         }
         assert!(rt; map.get(key).copied() == slow.get(key));
         assert!(rt; map.len() == slow.entries.len());
