@@ -1,9 +1,16 @@
 //! Runs over sources and sinks in memory.
 ghost use Rattle.std.specs.Prelude.{◌≡◌, Some};
 
+mod ended;
+mod faults;
 mod inputs;
+mod policies;
+mod realistic;
 mod routes;
+mod setup;
+mod updates;
 mod wide;
+mod with_policies;
 
 use inputs::{
     ARP_INPUT, ARP_OUTPUT, FIRST_INPUT, FIRST_OUTPUT, NOT_DRAINED_INPUT, NOT_DRAINED_OUTPUT,
@@ -15,7 +22,8 @@ use replay_run::{
 };
 use routes::{
     DISCARDED_INPUT, DISCARDED_OUTPUT, EXPORT_RULES_INPUT, EXPORT_RULES_OUTPUT, SAME_AS_INPUT,
-    SAME_AS_OUTPUT, SMALL_POOL_INPUT, SMALL_POOL_OUTPUT, TAKEN_INPUT, TAKEN_OUTPUT,
+    SAME_AS_OUTPUT, SMALL_POOL_INPUT, SMALL_POOL_OUTPUT, STRAY_INPUT, STRAY_OUTPUT, TAKEN_INPUT,
+    TAKEN_OUTPUT, TAKES_INPUT, TAKES_OUTPUT,
 };
 use sdx_core::Sdx;
 use std::alloc::Global;
@@ -340,7 +348,7 @@ fn exchange_cases<'c>() -> [Case<'c>; 5] {
     ]
 }
 
-fn route_cases<'c>() -> [Case<'c>; 7] {
+fn route_cases<'c>() -> [Case<'c>; 9] {
     [
         replays(
             "MULTI_EXIT_DISC among routes of one AS",
@@ -383,6 +391,18 @@ fn route_cases<'c>() -> [Case<'c>; 7] {
             FULL_POOL_INPUT.as_bytes(),
             Status::Refused,
             FULL_POOL_OUTPUT,
+        ),
+        replays(
+            "one take after another",
+            TAKES_INPUT.as_bytes(),
+            Status::Done,
+            TAKES_OUTPUT,
+        ),
+        replays(
+            "frames and datagrams that go nowhere",
+            STRAY_INPUT.as_bytes(),
+            Status::Refused,
+            STRAY_OUTPUT,
         ),
     ]
 }

@@ -298,3 +298,83 @@ pub const DISCARDED_OUTPUT: &str = "\
 26 ok
   out 2 02000000000202000000000108004500001c000000004011acccc00002010a01020303e8005000080000
 ";
+
+/// Two prefixes of one tag, which A takes one by one.
+pub const TAKES_INPUT: &str = "\
+exchange 172.16.0.0 8 64
+participant A 65001 1.0.0.1
+participant B 65002 1.0.0.2
+participant C 65003 1.0.0.3
+port A 1 172.16.1.1 02:00:00:00:00:01
+port B 2 172.16.1.2 02:00:00:00:00:02
+port B 3 172.16.1.3 02:00:00:00:00:03
+port C 4 172.16.1.4 02:00:00:00:00:04
+update B ffffffffffffffffffffffffffffffff002d0200000012400101004002040201fdea400304ac100102080a0814
+take A 1
+take A 1
+take A 1
+";
+
+pub const TAKES_OUTPUT: &str = "\
+1 ok
+2 ok
+3 ok
+4 ok
+5 ok
+6 ok
+7 ok
+8 ok
+9 ok
+  tag 10.0.0.0/8 1
+  tag 20.0.0.0/8 1
+  add 1 1 * -> 2
+  add 4 1 * -> 2
+10 ok
+  advert ffffffffffffffffffffffffffffffff002b0200000012400101004002040201fdea400304ac100001080a
+11 ok
+  advert ffffffffffffffffffffffffffffffff002b0200000012400101004002040201fdea400304ac1000010814
+12 ok
+";
+
+/// Frames to no tag's MAC, octets that are no datagram, and a datagram for which there is no route.
+pub const STRAY_INPUT: &str = "\
+exchange 172.16.0.0 8 64
+participant A 65001 1.0.0.1
+participant B 65002 1.0.0.2
+participant C 65003 1.0.0.3
+port A 1 172.16.1.1 02:00:00:00:00:01
+port B 2 172.16.1.2 02:00:00:00:00:02
+port B 3 172.16.1.3 02:00:00:00:00:03
+port C 4 172.16.1.4 02:00:00:00:00:04
+update B ffffffffffffffffffffffffffffffff002b0200000012400101004002040201fdea400304ac100102080a
+drain A
+resolve 1
+frame 1 02000000000202000000000108004500001c000000004011acccc00002010a01020303e8005000080000
+frame 1 00
+packet 1 45
+packet 1 4500001c000000004011abccc00002010b01020303e8005000080000
+";
+
+pub const STRAY_OUTPUT: &str = "\
+1 ok
+2 ok
+3 ok
+4 ok
+5 ok
+6 ok
+7 ok
+8 ok
+9 ok
+  tag 10.0.0.0/8 1
+  add 1 1 * -> 2
+  add 4 1 * -> 2
+10 ok
+  advert ffffffffffffffffffffffffffffffff002b0200000012400101004002040201fdea400304ac100001080a
+11 ok
+  ask ffffffffffff02000000000108060001080006040001020000000001ac100101000000000000ac100001
+  reply 02000000000102534400000108060001080006040002025344000001ac100001020000000001ac100101
+12 ok
+13 ok
+14 refused packet
+15 unrouted
+";
