@@ -1,5 +1,5 @@
 -- The pairs of a table that are of a port are found one after another, by the least pair past another one.
-use Rattle.std.proofs.Common.{◌≡◌, ◌<◌, ◌≤◌, Bool, true, false, cond, ◌&&◌, nat_eq, List, [], ◌∷◌, filter, sym, ap, subst, ◌∙◌, refl, inl, inr, arith}
+use Rattle.std.proofs.Common.{◌≡◌, ◌<◌, ◌≤◌, Bool, true, false, cond, ◌&&◌, nat_eq, List, [], ◌∷◌, filter, sym, ap, ◌∙◌, refl, inl, inr, arith}
 use Rattle.std.specs.Prelude.{◌⊎◌, nat_lt, Option, Some, None, find, is_some}
 use Rattle.std.specs.FinMap.{FinMap, contains_key-keys, get, keys, nat_cmp-IsAntisymmetric}
 use Rattle.std.specs.Cmp.{nat_cmp_is}
@@ -7,7 +7,7 @@ use Rattle.std.specs.Option.{option_map_or}
 use Rattle.std.specs.Ordering.{is_lt, nat_cmp, ordering_then}
 use Rattle.std.specs.declared.cmp.Ordering.{Ordering}
 use Rattle.std.specs.declared.cmp.Ordering.TheVariants.{Less, Equal, Greater}
-use Rattle.std.proofs.lemmas.Bool.{and_from, and_left, and_parts, and_right, cases_lt, eq-eqb, eqb-true, false≢true, false_from_ne_true, le-ltb, lt-ltb, ltb-true, ne_eqb}
+use Rattle.std.proofs.lemmas.Bool.{and_from, and_parts, eq-eqb, eqb-true, false≢true, false_from_ne_true, lt-ltb, ltb-true}
 use Rattle.events.specs.State.{State}
 use Rattle.exchange_laws.proofs.Lists.{numbers_range, some_of}
 use Rattle.exchange_laws.proofs.LivePairs.{live_tag}
@@ -18,12 +18,11 @@ use Rattle.fast_path.proofs.TagOrder.{less_from}
 use Rattle.net_types.proofs.FindLemmas.{find-IsFound, find_none}
 use Rattle.net_types.proofs.OrderLemmas.{pairs_total}
 use Rattle.net_types.proofs.OrderedLemmas.{member_any, ordered_is}
-use Rattle.net_types.proofs.PassLemmas.{some_there}
 use Rattle.net_types.proofs.RisingLemmas.{Member-filter, before, filter-IsRising, filter-Member, keys-IsRising}
 use Rattle.net_types.proofs.SetLemmas.{Member-map, Member-union, map-Member, union-Member}
 use Rattle.net_types.specs.Keys.{pair_cmp}
 use Rattle.net_types.specs.Maps.{ordered}
-use Rattle.net_types.specs.Sets.{IsRising, Member, SameMembers, union_over}
+use Rattle.net_types.specs.Sets.{IsRising, Member, union_over}
 use Rattle.net_types.specs.declared.address.Pid.{Pid}
 use Rattle.net_types.specs.declared.address.PortNo.{PortNo}
 use Rattle.net_types.specs.declared.address.Tag.{Tag}

@@ -1,4 +1,4 @@
-use Rattle.std.proofs.Common.{sym, ap, ◌∙◌}
+use Rattle.std.proofs.Common.{sym, ◌∙◌}
 use Rattle.std.specs.FinMap.{keys}
 use Rattle.net_types.proofs.RisingLemmas.{keys-IsRising}
 use Rattle.net_types.specs.Keys.{pair_cmp}

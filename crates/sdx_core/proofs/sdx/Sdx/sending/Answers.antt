@@ -15,11 +15,11 @@ use Rattle.sdx_core.proofs.PortPairs.{table_tagged}
 use Rattle.sdx_core.proofs.Senders.{routes_declared}
 use Rattle.sdx_core.proofs.sdx.Sdx.sending.Goals as goal
 
-pub pairs_from-rebuild-requires-clause-apart : goal.pairs_from-rebuild-requires-clause-apart
-pairs_from-rebuild-requires-clause-apart c = c.self.invariant.steady.apart
+pub pairs_from-requires-clause-apart : goal.pairs_from-requires-clause-apart
+pairs_from-requires-clause-apart c = c.self.invariant.steady.apart
 
-pub pairs_from-rebuild-requires-clause-tagged : goal.pairs_from-rebuild-requires-clause-tagged
-pairs_from-rebuild-requires-clause-tagged c =
+pub pairs_from-requires-clause-tagged : goal.pairs_from-requires-clause-tagged
+pairs_from-requires-clause-tagged c =
     let a = c.self.inside in
     let s : State = state_of a.phase a.base a.size a.registry a.server a.resolved.items a.classes a.told.items a.switch a.programs.items in
     table_tagged s c.self.invariant.steady
