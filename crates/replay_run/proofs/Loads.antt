@@ -31,7 +31,7 @@ use Rattle.replay_run.specs.declared.words.Command.TheVariants.{Load, Replay}
 use Rattle.replay_run.proofs.Begun.{within_all}
 use Rattle.replay_run.proofs.Bytes.{Appends_none}
 use Rattle.replay_run.proofs.LineSplits.{numbered-append}
-use Rattle.replay_run.proofs.Octets.{lines_written}
+use Rattle.replay_run.proofs.Octets.{IsWritten, lines_written}
 use Rattle.replay_run.proofs.Parts.{within_more}
 use Rattle.replay_run.proofs.Runs.{bare_append, legal_more, line_within, state_more}
 use Rattle.replay_run.proofs.Tallies.{refused_counted, tally_more}
@@ -69,11 +69,31 @@ abbrev behind : ℕ → ℕ → ℕ → List Numbered
 behind seed j k = numbered (1 + j) (from seed j k)
 
 events_split : (seed j k : ℕ) → load_events seed (j + k) ≡ load_events seed j ++ bare_events (behind seed j k)
+unfolding load_events
 events_split seed j k =
     ap bare_events
     (ap (numbered 1) (lines_split seed j k) ∙ numbered-append 1 (generated_lines seed j) (from seed j k)
     ∙ ap (λ n. generated_events seed j ++ numbered (1 + n) (from seed j k)) (length_lines seed j))
     ∙ bare_append (generated_events seed j) (behind seed j k)
+
+-- the lines may all be written
+loads_written : (seed lines : ℕ) (e : Event) → Member e (load_events seed lines) → IsWritten e
+unfolding load_events
+loads_written seed lines e m = lines_written 1 (generated_lines seed lines) e m
+
+-- ---- steps
+
+no_steps : (mid n : ℕ) → mid ≤ mid + n
+no_steps mid n = omega arith
+
+widened : (after mid a b : ℕ) → after ≤ mid + a → a ≤ b → after ≤ mid + b
+widened after mid a b few within = omega arith
+
+joined : (before mid after a b : ℕ) → mid ≤ before + a → after ≤ mid + b → after ≤ before + a + b
+joined before mid after a b some more = omega arith
+
+none_more : (before mid after a : ℕ) → mid ≤ before + a → after ≤ mid + 0 → after ≤ before + a
+none_more before mid after a some more = omega arith
 
 -- ---- one line more
 
@@ -89,7 +109,7 @@ loaded_event seed j old new s t before mid after None is r few h =
       legal = subst (λ es. Legal es h.replies) (sym same) h.legal;
       counted = r.0 ∙ h.counted;
       state = r.1 ∙ h.state ∙ ap (λ es. state_after es h.replies) (sym same);
-      steps = subst (λ es. after ≤ before + run_bound first es h.replies) (sym same) (omega (arith, h.steps, few));
+      steps = subst (λ es. after ≤ before + run_bound first es h.replies) (sym same) (none_more before mid after (run_bound first (load_events seed j) h.replies) h.steps few);
     }
 loaded_event seed j old new s t before mid after (Some e) is r few h =
     let es : List Event = load_events seed j in
@@ -108,7 +128,8 @@ pub loaded_line : (seed j : ℕ) (line : List ℕ) (old new : Tally) (s t : Stat
 loaded_line seed j line old new s t before mid after is r few h = loaded_event seed j old new s t before mid after (event_of line) (ap event_of (sym is)) r few h
 
 pub nothing_loaded : (seed before : ℕ) → Loaded seed 0 (tally_of []) first before before
-nothing_loaded seed before = record { replies = []; legal = tt; counted = refl; state = refl; steps = omega arith }
+unfolding load_events
+nothing_loaded seed before = record { replies = []; legal = tt; counted = refl; state = refl; steps = no_steps before 0 }
 
 -- ---- lines that are given up
 
@@ -118,38 +139,33 @@ go_on runs_go_on seed j k tally s before mid after few h =
     let es : List Event = load_events seed j in
     let fs : List Event = bare_events (behind seed j (suc k)) in
     let all : load_events seed (j + suc k) ≡ es ++ fs = events_split seed j (suc k) in
-    let on = runs_go_on es fs h.replies (λ e m. lines_written 1 (generated_lines seed (j + suc k)) e (subst (Member e) (sym all) m)) h.legal in
+    let on = runs_go_on es fs h.replies (λ e m. loads_written seed (j + suc k) e (subst (Member e) (sym all) m)) h.legal in
     let one : line_bound s (event_of (generated seed j)) ≤ first_bound s fs = line_within s (1 + j) (event_of (generated seed j)) (numbered (1 + j + 1) (from seed (j + 1) k)) in
-    let here : after ≤ mid + first_bound (state_from first es h.replies) fs = subst (λ x. after ≤ mid + first_bound x fs) h.state (omega (arith, few, one)) in
+    let here : after ≤ mid + first_bound (state_from first es h.replies) fs = subst (λ x. after ≤ mid + first_bound x fs) h.state (widened after mid (line_bound s (event_of (generated seed j))) (first_bound s fs) few one) in
     record {
       replies = h.replies ++ on.0;
       legal = subst (λ gs. Legal gs (h.replies ++ on.0)) (sym all) on.1;
-      steps = subst (λ gs. after ≤ before + run_bound first gs (h.replies ++ on.0)) (sym all) (within_all first es fs h.replies on.0 before after h.legal on.1 (omega (arith, h.steps, here)));
+      steps = subst (λ gs. after ≤ before + run_bound first gs (h.replies ++ on.0)) (sym all) (within_all first es fs h.replies on.0 before after h.legal on.1
+          (joined before mid after (run_bound first es h.replies) (first_bound (state_from first es h.replies) fs) h.steps here));
     }
+
+all_lines : (j lines : ℕ) → j < lines → j + suc (lines - j - 1) ≡ lines
+all_lines j lines within = omega arith
 
 pub loads_on : RunsGoOn → (seed j lines : ℕ) (line : List ℕ) (tally : Tally) (s : State) (before mid after : ℕ) → j < lines → line ≡ generated seed j → after ≤ mid + line_bound s (event_of line)
     → Loaded seed j tally s before mid → Loads seed lines before after
 loads_on law seed j lines line tally s before mid after within is few h =
-    let whole : j + suc (lines - j - 1) ≡ lines = omega arith in
+    let whole : j + suc (lines - j - 1) ≡ lines = all_lines j lines within in
     subst (λ n. Loads seed n before after) whole (go_on law seed j (lines - j - 1) tally s before mid after (subst (λ l. after ≤ mid + line_bound s (event_of l)) is few) h)
 
 -- the same where the line took no steps
 pub loads_here : RunsGoOn → (seed j lines : ℕ) (tally : Tally) (s : State) (before mid : ℕ) → j < lines → Loaded seed j tally s before mid → Loads seed lines before mid
-loads_here law seed j lines tally s before mid within h = loads_on law seed j lines (generated seed j) tally s before mid mid within refl (omega arith) h
+loads_here law seed j lines tally s before mid within h = loads_on law seed j lines (generated seed j) tally s before mid mid within refl (no_steps mid (line_bound s (event_of (generated seed j)))) h
 
 -- ---- the end
 
 pub loads_all : (seed lines : ℕ) (tally : Tally) (s : State) (before after : ℕ) → Loaded seed lines tally s before after → Loads seed lines before after
 loads_all seed lines tally s before after h = record { replies = h.replies; legal = h.legal; steps = h.steps }
-
--- nothing was written
-pub nothing_written : (seed count : ℕ) (held : Option (List ℕ)) (s : State) (lines before after : ℕ) → lines ≡ 17 + count → Loads seed lines before after → HasLoaded Memory seed count held held s before after
-nothing_written seed count held s lines before after is h =
-    let all : Loads seed (17 + count) before after = subst (λ n. Loads seed n before after) is h in (
-      [],
-      Appends_none held,
-      record { replies = all.replies; rest = summary (17 + count) all.replies (state_after (load_events seed (17 + count)) all.replies); legal = all.legal; written = refl; steps = all.steps },
-    )
 
 -- what is written of a run over all lines
 module _ (seed lines : ℕ) (tally : Tally) (s : State) (before after : ℕ) (text : List ℕ) (live rules : ℕ) (h : Loaded seed lines tally s before after)
@@ -185,6 +201,13 @@ pub with_count : (status : Status) (seed count lines : ℕ) (held held_after : O
     → HasLoaded status seed count held held_after s before after
 with_count status seed count lines held held_after s before after w is wrote h = (w, wrote, subst (λ n. LoadedBy status seed n w s before after) is h)
 
+-- nothing was written
+none_begun : (seed lines before after : ℕ) → Loads seed lines before after → BeginsSummary seed lines [] before after
+none_begun seed lines before after h = record { replies = h.replies; rest = summary lines h.replies (state_after (load_events seed lines) h.replies); legal = h.legal; written = refl; steps = h.steps }
+
+pub nothing_written : (seed count : ℕ) (held : Option (List ℕ)) (s : State) (lines before after : ℕ) → lines ≡ 17 + count → Loads seed lines before after → HasLoaded Memory seed count held held s before after
+nothing_written seed count held s lines before after is h = with_count Memory seed count lines held held s before after [] is (Appends_none held) (none_begun seed lines before after h)
+
 -- where the sink doesn't fail, the lines are run to their end
 pub ends_loaded : (status : Status) (seed count : ℕ) (held held_after : Option (List ℕ)) (s : State) (before after : ℕ) → HasLoaded status seed count held held_after s before after → (status ≡ WriteFault → ⊥) → IsAtEndOrMemory status
 ends_loaded Done seed count held held_after s before after h no_write = tt
@@ -195,7 +218,7 @@ ends_loaded ReadFault seed count held held_after s before after h no_write = abs
 ends_loaded TooLong seed count held held_after s before after h no_write = absurd h.2
 ends_loaded WriteFault seed count held held_after s before after h no_write = absurd (no_write refl)
 
--- other words end otherwise
+-- such runs end otherwise
 pub not_usage : (status : Status) (seed count : ℕ) (held held_after : Option (List ℕ)) (s : State) (before after : ℕ) → HasLoaded status seed count held held_after s before after → status ≡ Usage → ⊥
 not_usage status seed count held held_after s before after h is = (subst (λ x. HasLoaded x seed count held held_after s before after) is h).2
 
@@ -231,18 +254,3 @@ load_failed status fault seed count lines held held_after s before after text fr
     with_count status seed count lines held held_after s before after front is wrote
     (subst (λ x. LoadedBy x seed lines front s before after) (sym status_is)
     (loaded_fault fault seed lines front s before after (summary_begun seed lines tally s before after text live rules h live_is rules_is text_is front rest cut)))
-
--- ---- command lines
-
-pub same_load : (o : Option Command) (m n seed count : ℕ) → o ≡ Some (Load m n) → o ≡ Some (Load seed count) → (m ≡ seed) × (n ≡ count)
-same_load o m n seed count e f = let both : Some (Load m n) ≡ Some (Load seed count) = sym e ∙ f in (cc, cc)
-
-pub other_command : (o : Option Command) (seed count : ℕ) → o ≡ Some Replay → o ≡ Some (Load seed count) → ⊥
-other_command o seed count e f = let both : Some Replay ≡ Some (Load seed count) = sym e ∙ f in cc
-
--- a load of these lines is one of those that the words say
-pub loads_said : (status : Status) (o : Option Command) (m n seed count : ℕ) (held held_after : Option (List ℕ)) (s : State) (before after : ℕ) → o ≡ Some (Load m n) → o ≡ Some (Load seed count) → HasLoaded status m n held held_after s before after
-    → HasLoaded status seed count held held_after s before after
-loads_said status o m n seed count held held_after s before after e f h =
-    let is = same_load o m n seed count e f in
-    subst (λ x. HasLoaded status seed x held held_after s before after) is.1 (subst (λ x. HasLoaded status x n held held_after s before after) is.0 h)

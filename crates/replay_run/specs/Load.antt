@@ -31,7 +31,7 @@ abbrev pub generated_events : ℕ → ℕ → List Numbered
 generated_events seed count = numbered 1 (generated_lines seed count)
 
 -- the events without their numbers
-abbrev pub load_events : ℕ → ℕ → List Event
+unfoldable pub load_events : ℕ → ℕ → List Event
 load_events seed count = bare_events (generated_events seed count)
 
 -- ---- what is counted

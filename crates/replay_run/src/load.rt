@@ -41,7 +41,6 @@ fn count_line<L: Ledger>(
 }
 
 /// Runs the line of this number, and counts its reply.
-#[tactic(auto, using(crate::proofs::Loads::counted_result, crate::proofs::Loads::stopped_result, crate::proofs::Loads::loads_here))]
 fn run_generated<L: Ledger>(
     alloc: Global,
     seed: u64,
@@ -60,7 +59,6 @@ fn run_generated<L: Ledger>(
 }
 
 /// Runs the first lines of a seed, one after the other, and counts their replies.
-#[tactic(auto, using(crate::proofs::Loads::nothing_loaded))]
 fn run_lines<L: Ledger>(
     alloc: Global,
     seed: u64,
@@ -81,7 +79,6 @@ fn run_lines<L: Ledger>(
 }
 
 /// Runs the declarations and so many lines that are drawn from the seed, and writes the summary of their replies.
-#[tactic(auto, using(crate::proofs::Loads::nothing_written, crate::proofs::Loads::loads_all, crate::proofs::Loads::load_done, crate::proofs::Loads::load_failed))]
 pub fn load<K: Sink, L: Ledger>(
     alloc: Global,
     seed: u64,
