@@ -1,33 +1,28 @@
 -- Runs over generated lines, one line after the other.
 use Rattle.std.proofs.Common.{cond, ◌≡◌, ℕ, zero, suc, ◌+◌, ◌-◌, ◌<◌, ◌≤◌, Bool, true, false, nat_lt, List, [], ◌∷◌, ◌++◌, append-nil, length, map, refl, sym, ap, subst, ◌∙◌, arith}
 use Rattle.std.specs.Prelude.{Option, Some, None, Result, Ok, Err, OnOk, OnErr}
-use Rattle.std.specs.List.{list_any}
 use Rattle.std.specs.Io.KnownBytes.{Appends}
 use Rattle.std.proofs.lemmas.List.{length-map, map-append}
 use Rattle.events.specs.After.{next}
 use Rattle.events.specs.Fits.{Fits}
-use Rattle.events.specs.Legal.{Legal, LegalFrom, state_after, state_from}
+use Rattle.events.specs.Legal.{Legal, state_after, state_from}
 use Rattle.events.specs.Lines.{Numbered, bare_events, event_of, numbered, numbered_event}
 use Rattle.events.specs.Sound.{rule_count}
 use Rattle.events.specs.State.{State, first}
 use Rattle.events.specs.declared.Event.{Event}
-use Rattle.events.specs.declared.Reply.{Reply}
 use Rattle.load_gen.specs.Generated.{generated}
 use Rattle.net_types.specs.Routes.{numbers}
 use Rattle.net_types.specs.Sets.{Member}
 use Rattle.reply_laws.specs.Replying.{RunsGoOn}
 use Rattle.sdx_core.specs.Steps.{step_bound}
 use Rattle.replay_run.specs.Bounds.{first_bound, line_bound, run_bound}
-use Rattle.replay_run.specs.Load.{BeginsSummary, CountsEvent, HasLoaded, Loaded, LoadedBy, Loads, Summarizes, counted_with, generated_events, generated_lines, live_count, load_events, summary, tally_of, tally_text, up_to_last, refused_count}
-use Rattle.replay_run.specs.Progress.{is_refused}
+use Rattle.replay_run.specs.Load.{BeginsSummary, CountsEvent, HasLoaded, Loaded, LoadedBy, Loads, Summarizes, counted_with, generated_events, generated_lines, live_count, load_events, summary, tally_of, tally_text}
 use Rattle.replay_run.specs.Run.{IsAtEndOrMemory, fault_status}
 use Rattle.replay_run.specs.declared.Status.{Status}
 use Rattle.replay_run.specs.declared.Status.TheVariants.{Done, Refused, Usage, ReadFault, WriteFault, Memory, TooLong}
 use Rattle.replay_run.specs.declared.outside.SinkFault.{SinkFault}
 use Rattle.replay_run.specs.declared.outside.SinkFault.TheVariants as sinks
 use Rattle.replay_run.specs.declared.tally.Tally.{Tally}
-use Rattle.replay_run.specs.declared.words.Command.{Command}
-use Rattle.replay_run.specs.declared.words.Command.TheVariants.{Load, Replay}
 use Rattle.replay_run.proofs.Begun.{within_all}
 use Rattle.replay_run.proofs.Bytes.{Appends_none}
 use Rattle.replay_run.proofs.LineSplits.{numbered-append}

@@ -1,4 +1,4 @@
-use Rattle.std.proofs.Common.{◌≡◌, arith, subst}
+use Rattle.std.proofs.Common.{◌≡◌, ◌<◌, arith, subst}
 use Rattle.replay_run.specs.Load.{Loaded}
 use Rattle.replay_run.proofs.Loads.{nothing_loaded}
 use Rattle.replay_run.proofs.load.run_lines.Goals as goal
@@ -10,7 +10,9 @@ pub loop-number-preserved : goal.loop-number-preserved
 loop-number-preserved g c = c.in_ok-run_generated.ensures.ok c.args.steps.now c.loop-number.invariant
 
 pub returns-in_err-run_generated-clause-err : goal.returns-in_err-run_generated-clause-err
-returns-in_err-run_generated-clause-err g c = c.in_err-run_generated.ensures.err c.args.steps.now c.args.lines (omega arith) c.loop-number.invariant
+returns-in_err-run_generated-clause-err g c =
+    let within : c.loop-number.number < c.args.lines = omega arith in
+    rw c.from_residual.ensures (c.in_err-run_generated.ensures.err c.args.steps.now c.args.lines within c.loop-number.invariant)
 
 pub returns-clause-ok : goal.returns-clause-ok
 returns-clause-ok g c =
