@@ -222,6 +222,11 @@ not_read status seed count held held_after s before after h is = (subst (λ x. H
 
 -- ---- the same by answers
 
+-- what holds holds of each fault
+pub told_err : {T E : Type 0} (result : Result T E) (P : Type 0) → P → OnErr result P
+told_err (Ok x) P h = tt
+told_err (Err e) P h = h
+
 pub counted_result : {T E : Type 0} (result : Result T E) (seed j : ℕ) (line : List ℕ) (old new : Tally) (s t : State) (before mid after : ℕ) → line ≡ generated seed j → OnOk result (CountsEvent (event_of line) s old new t)
     → after ≤ mid + line_bound s (event_of line) → Loaded seed j old s before mid → OnOk result (Loaded seed (j + 1) new t before after)
 counted_result (Ok x) seed j line old new s t before mid after is r few h = loaded_line seed j line old new s t before mid after is r few h

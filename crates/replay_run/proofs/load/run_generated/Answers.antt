@@ -1,10 +1,11 @@
 use Rattle.std.proofs.Common.{◌∙◌}
-use Rattle.replay_run.proofs.Loads.{counted_result, loads_here, stopped_result}
+use Rattle.replay_run.specs.Load.{Loads}
+use Rattle.replay_run.proofs.Loads.{counted_result, loads_here, stopped_result, told_err}
 use Rattle.replay_run.proofs.load.run_generated.Goals as goal
 
 pub returns-in_err-line-clause-err : goal.returns-in_err-line-clause-err
 returns-in_err-line-clause-err g c before lines within h =
-    rw c.from_residual.ensures (loads_here c.runs_go_on.ensures c.args.seed c.args.number lines c.args.tally.now c.args.sdx.now before c.args.steps.now within h)
+    told_err c.from_residual.result (Loads c.args.seed lines before c.args.steps.now) (loads_here c.runs_go_on.ensures c.args.seed c.args.number lines c.args.tally.now c.args.sdx.now before c.args.steps.now within h)
 
 pub returns-clause-ok : goal.returns-clause-ok
 returns-clause-ok g c before h =
