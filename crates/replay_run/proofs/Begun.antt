@@ -24,7 +24,7 @@ text_append s (e ∷ es) fs (r ∷ rs) more legal =
     ∙ sym (append_assoc (reply_text e.number e.event r) (text es rs) (text fs more))
 
 -- the steps of the first lines, and of the one behind them, are within the bounds of all
-within_all : (s : State) (es fs : List Event) (rs more : List Reply) (before after : ℕ) → LegalFrom s es rs → LegalFrom s (es ++ fs) (rs ++ more) → after ≤ before + run_bound s es rs + first_bound (state_from s es rs) fs
+pub within_all : (s : State) (es fs : List Event) (rs more : List Reply) (before after : ℕ) → LegalFrom s es rs → LegalFrom s (es ++ fs) (rs ++ more) → after ≤ before + run_bound s es rs + first_bound (state_from s es rs) fs
     → after ≤ before + run_bound s (es ++ fs) (rs ++ more)
 within_all s es fs rs more before after legal all few =
     omega (arith, few, bound_append s es fs rs more legal, first_within (state_from s es rs) fs more (legal_rest s es fs rs more legal all))

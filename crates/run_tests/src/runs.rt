@@ -4,6 +4,7 @@ ghost use Rattle.std.specs.Prelude.{◌≡◌, Some};
 mod ended;
 mod faults;
 mod inputs;
+mod loads;
 mod policies;
 mod realistic;
 mod routes;
@@ -16,6 +17,7 @@ use inputs::{
     ARP_INPUT, ARP_OUTPUT, FIRST_INPUT, FIRST_OUTPUT, NOT_DRAINED_INPUT, NOT_DRAINED_OUTPUT,
     REFUSALS_INPUT, REFUSALS_OUTPUT, TWO_PREFIXES_INPUT, TWO_PREFIXES_OUTPUT,
 };
+use loads::{load_cases, misspelled_load_cases, slow_load_cases};
 use net_types::{Items, Memory, Steps, Text, Words};
 use replay_run::{
     Failed, Sink, SinkFault, SinkOf, SinkOk, Source, SourceOf, SourceOk, Status, run,
@@ -442,6 +444,8 @@ fn runs_end_and_write_as_they_should(rt: HostRuntime) -> Result<(), Fail> {
     cases.extend_from_slice(&long_cases(&longest, &longer, &far_longer))?;
     cases.extend_from_slice(&exchange_cases())?;
     cases.extend_from_slice(&route_cases())?;
+    cases.extend_from_slice(&load_cases())?;
+    cases.extend_from_slice(&misspelled_load_cases())?;
     cases.push(replays(
         "a participant too many",
         many.as_bytes(),
@@ -464,6 +468,7 @@ fn runs_octet_by_octet_do_the_same(rt: HostRuntime) -> Result<(), Fail> {
     cases.extend_from_slice(&slowly_refused_cases())?;
     cases.extend_from_slice(&long_cases(&longest, &longer, &far_longer))?;
     cases.extend_from_slice(&exchange_cases())?;
+    cases.extend_from_slice(&slow_load_cases())?;
     for case in &cases {
         let passed = passes_slowly::<Brand>(&rt, Blank::new(1), *case)?;
         assert!(rt; passed, "{}", case.name);
