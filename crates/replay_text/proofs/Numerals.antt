@@ -3,7 +3,8 @@ use Rattle.std.proofs.Common.{◌≡◌, ℕ, ◌+◌, ◌-◌, ◌*◌, ◌<◌
 use Rattle.std.proofs.lemmas.Bool.{cond-true, cond-false}
 use Rattle.std.proofs.lemmas.Bool.Decides.{nat_tests}
 use Rattle.std.proofs.lemmas.List.{drop_more}
-use Rattle.events.specs.Lines.{is_digit, number_from, only_if}
+use Rattle.grammar.specs.Tokens.{is_digit}
+use Rattle.events.specs.Lines.{number_from, only_if}
 
 -- one digit more
 pub number_more : (n : ℕ) (xs : List ℕ) (i : ℕ) → i < length xs → is_digit (get_or xs i 0) ≡ true → number_from n (drop i xs) ≡ number_from (10 * n + (get_or xs i 0 - 48)) (drop (i + 1) xs)

@@ -1,7 +1,8 @@
 //! The fields of a line: numbers, addresses, names and octets.
 ghost use Rattle.std.specs.Prelude.{◌≡◌, ◌≤◌, nat_le, IfOk, IfSome, option_copied};
 ghost use Rattle.std.specs.List.{list_all};
-ghost use Rattle.events.specs.Lines.{is_letter, is_name, is_name_octet, is_text, is_utf8, name, only_if, number_from, number_within, port_number, as_number, address, one_octet, hardware_address, bytes};
+ghost use Rattle.grammar.specs.Tokens.{is_letter, is_name_octet};
+ghost use Rattle.events.specs.Lines.{is_name, is_text, is_utf8, name, only_if, number_from, number_within, port_number, as_number, address, one_octet, hardware_address, bytes};
 
 use super::pieces::{four_pieces, split_once};
 use hex::FromHexError;
@@ -17,7 +18,7 @@ fn is_letter(c: u8) -> bool
 fn is_name_octet(c: u8) -> bool
     ensures { result ≡ is_name_octet c }
 {
-    is_letter(c) || c.is_ascii_digit() || c == b'_' || c == b'-'
+    is_letter(c) || c.is_ascii_digit() || c == b'-' || c == b'_'
 }
 
 fn are_name_octets(text: &[u8]) -> bool
