@@ -1,15 +1,14 @@
 //! Signatures that several owners share, and the order in which a grouping finds the tags of each.
 
-ghost use Rattle.std.specs.Prelude.{◌≡◌, IfOk};
-ghost use Rattle.std.proofs.Common.{rules};
-ghost use Rattle.std.specs.Cmp.{partial_order_from_own_ties};
-ghost use Rattle.std.specs.Cmp.Rules.{comparing};
+ghost use Rattle.std.specs.Prelude.{◌≡◌, IfOk, refl};
+ghost use Rattle.std.specs.Cmp.{eq_by_cmp_equiv, partial_equiv_from_equiv, partial_order_from_total};
 ghost use Rattle.std.specs.Cmp.Lexicographic.{slice_cmp};
 ghost use Rattle.std.specs.Ordering.{as_partial_cmp, eq_by_cmp};
 ghost use Rattle.prefix_classes.specs.Placed.{offer_cmp, part_cmp, placed_cmp};
+ghost use Rattle.prefix_classes.specs.PlacedLaws.{placed_total};
 ghost use Rattle.std.specs.declared.cmp.Ordering.{Ordering as AnyOrdering};
 
-use net_types::{Memory, Offer, Part, Sig, Tag, TryCopy};
+use net_types::{Memory, Offer, Part, Sig, Tag};
 use std::alloc::Global;
 use std::cmp::Ordering;
 use std::marker::Model;
@@ -114,11 +113,11 @@ fn rank_items<T: Ranked>(one: &[T], other: &[T]) -> Ordering
 impl Ord for Placed {
     ghost cmp = { placed_cmp };
 
-    ghost total = { Prim.search (comparing, rules) };
+    ghost total = { placed_total };
 
-    ghost matches_partial_cmp = { Prim.search (comparing, rules) };
+    ghost matches_partial_cmp = { λ a b. refl };
 
-    ghost matches_eq = { Prim.search (comparing, rules) };
+    ghost matches_eq = { λ a b. refl };
 
     fn cmp(&self, other: &Placed) -> Ordering {
         let tags = self.tag.cmp(&other.tag);
@@ -129,7 +128,7 @@ impl Ord for Placed {
 impl PartialOrd for Placed {
     ghost partial_cmp = { as_partial_cmp placed_cmp };
 
-    ghost laws = { partial_order_from_own_ties (Prim.search (comparing, rules)) (Prim.search (comparing, rules)) };
+    ghost laws = { partial_order_from_total placed_total };
 
     fn partial_cmp(&self, other: &Placed) -> Option<Ordering> {
         Some(self.cmp(other))
@@ -139,7 +138,7 @@ impl PartialOrd for Placed {
 impl PartialEq for Placed {
     ghost eq = { eq_by_cmp placed_cmp };
 
-    ghost laws = { Prim.search (comparing, rules) };
+    ghost laws = { partial_equiv_from_equiv (eq_by_cmp_equiv placed_total) };
 
     fn eq(&self, other: &Placed) -> bool {
         self.cmp(other).is_eq()
@@ -147,5 +146,5 @@ impl PartialEq for Placed {
 }
 
 impl Eq for Placed {
-    ghost laws = { Prim.search (comparing, rules) };
+    ghost laws = { eq_by_cmp_equiv placed_total };
 }
