@@ -95,7 +95,7 @@ module _ {K X : Type 0} (R : K → K → Ordering) where
 abbrev pub key : List Part → Tag → Placed
 key sig t = record { sig = sig; tag = t }
 
-abbrev zero_tag : Tag
+abbrev pub zero_tag : Tag
 zero_tag = record { 0 = 0 }
 
 -- no tag is there before tag 0, and another one is behind it

@@ -97,4 +97,4 @@ counted_member t (e ∷ es) sorted some = by (eq_by_cmp tag_cmp t e.1) refl some
     by false apart later rest = let one = rest (omega (arith, later)) in (one.0, found_later e es one.0 t sorted one.1)
 
 pub has_member : (m : FinMap prefix_cmp Tag) (t : Tag) → 0 < members m t → (p : Prefix) × (get m p ≡ Some t)
-has_member m t some = let one = counted_member t (entries m) (shown _ (entries_sorted m)) some in (one.0, sym (get-entries m one.0) ∙ one.1)
+has_member m t some = let one = counted_member t (entries m) (shown _ (entries_sorted m)) some in (one.0, get-entries m one.0 ∙ one.1)

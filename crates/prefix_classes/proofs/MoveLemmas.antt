@@ -40,10 +40,10 @@ found_member p t (e ∷ es) is = by (eq_by_cmp prefix_cmp p e.0) refl is (λ lat
     by false apart later rest = inr (rest later)
 
 pub entry_is : (tags : FinMap prefix_cmp Tag) (p : Prefix) (t : Tag) → Member (p, t) (entries tags) → get tags p ≡ Some t
-entry_is tags p t m = sym (get-entries tags p) ∙ member_found p t (entries tags) (shown _ (entries_sorted tags)) m
+entry_is tags p t m = get-entries tags p ∙ member_found p t (entries tags) (shown _ (entries_sorted tags)) m
 
 pub is_entry : (tags : FinMap prefix_cmp Tag) (p : Prefix) (t : Tag) → get tags p ≡ Some t → Member (p, t) (entries tags)
-is_entry tags p t is = found_member p t (entries tags) (get-entries tags p ∙ is)
+is_entry tags p t is = found_member p t (entries tags) (sym (get-entries tags p) ∙ is)
 
 -- an entry is before each that follows it
 below_member : (x : Prefix) (e : Prefix × Tag) (es : List (Prefix × Tag)) → below_all prefix_cmp x es ≡ true → Member e es → is_before x e.0 ≡ true
@@ -91,13 +91,13 @@ module _ (g : FinMap tag_cmp (List Part)) (done : List (Prefix × Tag)) (moves :
   narrowed : (q : Prefix) (u : Tag) → IsMoveAmong g more q u → IsMoveAmong g done q u ⊎ ((q ≡ p) × (u ≡ to) × ¬ (from ≡ to))
   narrowed q u move = by (Member-append_cases done ((p, from) ∷ []) (q, move.from) move.had)
     where
-      last : (q, move.from) ≡ (p, from) → IsMoveAmong g done q u ⊎ ((q ≡ p) × (u ≡ to) × ¬ (from ≡ to))
+      last : ◌≡◌ {A = Prefix × Tag} (q, move.from) (p, from) → IsMoveAmong g done q u ⊎ ((q ≡ p) × (u ≡ to) × ¬ (from ≡ to))
       last same =
           let own : move.from ≡ from = ap (λ (d : Prefix × Tag). d.1) same in
           let target : u ≡ to = one_least_beside g from u to (subst (λ f. IsLeastBeside g f u) own move.to) least in
           inr (ap (λ (d : Prefix × Tag). d.0) same, target, λ stays. move.other (own ∙ stays ∙ sym target))
 
-      by : Member (q, move.from) done ⊎ Member (q, move.from) ((p, from) ∷ []) → IsMoveAmong g done q u ⊎ ((q ≡ p) × (u ≡ to) × ¬ (from ≡ to))
+      by : Member (q, move.from) done ⊎ Member {A = Prefix × Tag} (q, move.from) ((p, from) ∷ []) → IsMoveAmong g done q u ⊎ ((q ≡ p) × (u ≡ to) × ¬ (from ≡ to))
       by (inl early) = inl (record { from = move.from; had = early; to = move.to; other = move.other })
       by (inr (inl same)) = last same
       by (inr (inr none)) = elim none [ ]
@@ -126,7 +126,7 @@ module _ (g : FinMap tag_cmp (List Part)) (done : List (Prefix × Tag)) (moves :
       ];
     }
       where
-        own : (q : Prefix) (u : Tag) → (q, u) ≡ (p, to) → IsMoveAmong g more q u
+        own : (q : Prefix) (u : Tag) → ◌≡◌ {A = Prefix × Tag} (q, u) (p, to) → IsMoveAmong g more q u
         own q u same = subst (λ (d : Prefix × Tag). IsMoveAmong g more d.0 d.1) (sym same) (record {
           from = from;
           had = Member-append_right done ((p, from) ∷ []) (p, from) (inl refl);
@@ -134,7 +134,7 @@ module _ (g : FinMap tag_cmp (List Part)) (done : List (Prefix × Tag)) (moves :
           other = differs;
         })
 
-        right : (q : Prefix) (u : Tag) → Member (q, u) moves ⊎ Member (q, u) ((p, to) ∷ []) → IsMoveAmong g more q u
+        right : (q : Prefix) (u : Tag) → Member (q, u) moves ⊎ Member {A = Prefix × Tag} (q, u) ((p, to) ∷ []) → IsMoveAmong g more q u
         right q u (inl early) = widened q u (are.right q u early)
         right q u (inr (inl same)) = own q u same
         right q u (inr (inr none)) = elim none [ ]

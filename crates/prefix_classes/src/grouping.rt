@@ -2,7 +2,7 @@
 
 ghost use Rattle.std.specs.Prelude.{◌≡◌, ◌≤◌, ◌<◌, ◌+◌, IfOk, IsTrue, OnErr, OnOk, is_some, length};
 ghost use Rattle.std.specs.FinMap as map;
-ghost use Rattle.std.specs.FinMap.Entries.{find, put};
+ghost use Rattle.std.specs.FinMap.Entries.{find, is_sorted};
 ghost use Rattle.net_types.specs.Keys.{tag_cmp};
 ghost use Rattle.net_types.specs.Maps.{put_option};
 ghost use Rattle.ordered_map.specs.Entries.{without};
@@ -141,7 +141,8 @@ fn take_from(tags: &mut OrderedMap<Tag, SharedSig>, index: &mut OrderedMap<Place
 
 /// The least tag of a signature, of those that stand in the index. One of them does.
 fn least_from(index: &OrderedMap<Placed, ()>, sig: SharedSig, one: Tag) -> Tag
-    requires { IsTrue (is_some (find placed_cmp (record { sig = sig; tag = one }) index.now.items)) }
+    requires rising { IsTrue (is_sorted placed_cmp index.now.items) }
+    requires listed { IsTrue (is_some (find placed_cmp (record { sig = sig; tag = one }) index.now.items)) }
     ensures there { IsTrue (is_some (find placed_cmp (record { sig = sig; tag = result }) index.now.items)) }
     ensures least { (tag : AnyTag) → IsTrue (is_some (find placed_cmp (record { sig = sig; tag = tag }) index.now.items)) → result.0 ≤ tag.0 }
 {
