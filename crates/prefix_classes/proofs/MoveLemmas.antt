@@ -157,22 +157,26 @@ all_planned g all left moves so_far none = subst (λ es. AreMoves g es moves) (s
     append_nil [] = refl
     append_nil (x ∷ xs) = ap (λ ys. x ∷ ys) (append_nil xs)
 
-module _ (g : FinMap tag_cmp (List Part)) (tags : FinMap prefix_cmp Tag) (left rest moves : List (Prefix × Tag)) (p : Prefix) (from to : Tag) (so_far : ArePlanned g (entries tags) left moves) (next : left ≡ (p, from) ∷ rest) (least : IsLeastBeside g from to) where
+module _ (g : FinMap tag_cmp (List Part)) (tags : FinMap prefix_cmp Tag) (left rest moves : List (Prefix × Tag)) (p : Prefix) (from : Tag) (so_far : ArePlanned g (entries tags) left moves) (next : left ≡ (p, from) ∷ rest) where
   whole : so_far.done ++ (p, from) ∷ rest ≡ entries tags
   whole = ap (λ es. so_far.done ++ es) (sym next) ∙ so_far.split
 
-  advanced : (so_far.done ++ (p, from) ∷ []) ++ rest ≡ entries tags
-  advanced = append_assoc so_far.done ((p, from) ∷ []) rest ∙ whole
+  pub next_has : get tags p ≡ Some from
+  next_has = entry_is tags p from (subst (Member {A = Prefix × Tag} (p, from)) whole (Member-append_right so_far.done ((p, from) ∷ rest) (p, from) (inl refl)))
 
-  pub planned_stays : from ≡ to → ArePlanned g (entries tags) rest moves
-  planned_stays stays = record { done = so_far.done ++ (p, from) ∷ []; split = advanced; moves_so_far = one_stays g so_far.done moves so_far.moves_so_far p from to least stays }
+  module _ (to : Tag) (least : IsLeastBeside g from to) where
+    advanced : (so_far.done ++ (p, from) ∷ []) ++ rest ≡ entries tags
+    advanced = append_assoc so_far.done ((p, from) ∷ []) rest ∙ whole
 
-  pub planned_moves : ¬ (from ≡ to) → ArePlanned g (entries tags) rest (moves ++ (p, to) ∷ [])
-  planned_moves differs = record {
-    done = so_far.done ++ (p, from) ∷ [];
-    split = advanced;
-    moves_so_far = one_moves g so_far.done moves so_far.moves_so_far p from to least rest (ap (is_sorted prefix_cmp) whole ∙ shown _ (entries_sorted tags)) differs;
-  }
+    pub planned_stays : from ≡ to → ArePlanned g (entries tags) rest moves
+    planned_stays stays = record { done = so_far.done ++ (p, from) ∷ []; split = advanced; moves_so_far = one_stays g so_far.done moves so_far.moves_so_far p from to least stays }
+
+    pub planned_moves : ¬ (from ≡ to) → ArePlanned g (entries tags) rest (moves ++ (p, to) ∷ [])
+    planned_moves differs = record {
+      done = so_far.done ++ (p, from) ∷ [];
+      split = advanced;
+      moves_so_far = one_moves g so_far.done moves so_far.moves_so_far p from to least rest (ap (is_sorted prefix_cmp) whole ∙ shown _ (entries_sorted tags)) differs;
+    }
 
 -- ---- all prefixes
 

@@ -186,8 +186,8 @@ impl ClassMap {
         ensures prefixes { self.old.prefixes ≤ self.new.prefixes }
         ensures tags { self.new.tags ≡ self.old.tags }
     {
-        for &(prefix, tag) in moves.list() {
-            self.put(prefix, tag);
+        for &(member, least) in moves.list() {
+            self.put(member, least);
         }
     }
 

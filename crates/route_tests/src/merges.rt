@@ -3,8 +3,9 @@
 ghost use Rattle.std.specs.Prelude.{◌≡◌, IfOk};
 ghost use Rattle.prefix_classes.specs.Merging.{IsFull};
 
-use net_types::{Ip, Memory, Offer, Offers, Part, Pid, PortNo, Prefix, Sig, Steps, Tag};
-use prefix_classes::{ClassMap, Grouping, new_ones_are_few};
+use crate::classes::{give, prefix};
+use net_types::{Memory, Offer, Offers, Part, Pid, PortNo, Prefix, Sig, Steps, Tag};
+use prefix_classes::{ClassMap, Grouping};
 use std::alloc::Global;
 use std::sync::ledger::{Blank, Brand, Ledger};
 use std::test::Fail;
@@ -40,10 +41,6 @@ static ROWS: [Row; 4] = [
     },
 ];
 
-fn prefix(first: u8) -> Result<Prefix, Memory> {
-    Prefix::new(Ip(u32::from_be_bytes([first, 0, 0, 0])), 8).map_err(|_| Memory)
-}
-
 // One sender's part with these exporters, the first of which is the best.
 fn sig(alloc: Global, exporters: &[u32]) -> Result<Sig, Memory> {
     let mut offers = Offers::new(alloc);
@@ -69,12 +66,8 @@ fn classes_of(alloc: Global, row: Row) -> Result<ClassMap, Memory> {
     let mut classes = ClassMap::new(alloc);
     for place in 0..3 {
         let (tag, exporters) = row.tags[place];
-        let first = [10, 11, 12][place];
-        if classes.sig_of(Tag(tag)).is_none() {
-            classes.reserve(1, 1)?;
-            new_ones_are_few();
-            classes.give(Tag(tag), sig(alloc, exporters)?, &[prefix(first)?]);
-        }
+        let member = prefix([10, 11, 12][place])?;
+        give(&mut classes, Tag(tag), sig(alloc, exporters)?, &[member])?;
     }
     Ok(classes)
 }
