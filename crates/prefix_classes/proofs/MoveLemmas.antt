@@ -1,10 +1,11 @@
 -- The moves of prefixes, one after the other, and that the moves of all prefixes merge the classes.
-use Rattle.std.proofs.Common.{◌≡◌, ◌∙◌, ◌⊎◌, ◌≤◌, Bool, true, false, cond, List, [], ◌∷◌, ◌++◌, append_assoc, map, sym, ap, subst, refl, arith, inl, inr}
+use Rattle.std.proofs.Common.{◌≡◌, ◌∙◌, ◌⊎◌, ◌≤◌, Bool, true, false, cond, nat_eq, not, List, [], ◌∷◌, ◌++◌, append_assoc, map, sym, ap, subst, refl, arith, inl, inr}
 use Rattle.std.specs.Prelude.{Option, Some, None, is_some}
 use Rattle.std.specs.FinMap.{FinMap, entries, entries_sorted, get, get-entries}
 use Rattle.std.specs.FinMap.Entries.{find, is_sorted, below_all}
 use Rattle.std.specs.Ordering.{eq_by_cmp, is_lt}
-use Rattle.std.proofs.lemmas.Bool.{and_parts}
+use Rattle.std.proofs.lemmas.Bool.{and_parts, false≢true}
+use Rattle.net_types.proofs.EqualLemmas.{nat_test}
 use Rattle.net_types.proofs.OrderLemmas.{prefix_tie, prefixes_total}
 use Rattle.net_types.proofs.SetLemmas.{Member-append_cases, Member-append_left, Member-append_right, map-Member, map-append}
 use Rattle.net_types.proofs.TieLemmas.{ties_itself}
@@ -140,6 +141,20 @@ module _ (g : FinMap tag_cmp (List Part)) (done : List (Prefix × Tag)) (moves :
         right q u (inr (inr none)) = elim none [ ]
 
 -- ---- in the loop
+
+-- what a comparison of two tags says
+pub tags_differ : (t u : Tag) (r : Bool) → r ≡ not (nat_eq t.0 u.0) → r ≡ true → ¬ (u ≡ t)
+tags_differ t u r is differ same =
+    let tie : nat_eq t.0 u.0 ≡ true = (nat_test t.0 u.0).1 (ap (λ (v : Tag). v.0) (sym same)) in
+    false≢true (sym (is ∙ ap not tie) ∙ differ)
+
+pub tags_agree : (t u : Tag) (r : Bool) → r ≡ not (nat_eq t.0 u.0) → r ≡ false → u ≡ t
+tags_agree t u r is agree = same_number u t (sym ((nat_test t.0 u.0).0 (by (nat_eq t.0 u.0) (sym is ∙ agree))))
+  where
+    by : (b : Bool) → not b ≡ false → b ≡ true
+    by true e = refl
+    by false e = cc
+
 
 -- the moves so far, and the entries that are left
 pub record ArePlanned (g : FinMap tag_cmp (List Part)) (all left moves : List (Prefix × Tag)) : Type 0 where

@@ -1,6 +1,6 @@
 -- Making moves one after the other.
 use Rattle.std.proofs.Common.{◌≡◌, ◌∙◌, ℕ, suc, ◌+◌, ◌<◌, true, false, cond, List, [], ◌∷◌, length, get_or, drop, drop-cons, sym, ap, refl, arith, inl, inr}
-use Rattle.std.specs.Prelude.{Some, None, is_some}
+use Rattle.std.specs.Prelude.{Option, Some, None, is_some}
 use Rattle.std.specs.FinMap.{FinMap, get, insert, get-insert}
 use Rattle.std.specs.Ordering.{eq_by_cmp}
 use Rattle.net_types.proofs.MemberLemmas.{Member-drop}
@@ -11,6 +11,7 @@ use Rattle.net_types.specs.declared.address.Tag.{Tag}
 use Rattle.net_types.specs.declared.prefix.Prefix.{Prefix}
 use Rattle.net_types.specs.declared.route.Part.{Part}
 use Rattle.prefix_classes.proofs.MergeLemmas.{is_used}
+use Rattle.prefix_classes.specs.Classes.{missing}
 use Rattle.prefix_classes.specs.Merging.{IsMergeOf, moved}
 
 -- the prefixes of these moves have tags
@@ -36,6 +37,13 @@ module _ (moves : List (Prefix × Tag)) (i : ℕ) (x d : Prefix × Tag) (within 
 
   pub has_tag_now : (tags : FinMap prefix_cmp Tag) → HaveTags tags (drop i moves) → get tags x.0 ≡ None → ⊥
   has_tag_now tags have none = let some = have x.0 x.1 stands in let both = ap is_some none in cc
+
+  pub not_missing : (tags : FinMap prefix_cmp Tag) → HaveTags tags (drop i moves) → missing (get tags x.0) ≡ 0
+  not_missing tags have = by (get tags x.0) (have x.0 x.1 stands)
+    where
+      by : (o : Option Tag) → is_some o ≡ true → missing o ≡ 0
+      by None some = cc
+      by (Some t) some = refl
 
   pub one_moved : (tags now : FinMap prefix_cmp Tag) → now ≡ insert tags x.0 x.1 → moved tags (drop i moves) ≡ moved now (drop (i + 1) moves)
   one_moved tags now next = ap (moved tags) split ∙ ap (λ m. moved m (drop (i + 1) moves)) (sym next)
