@@ -2,10 +2,10 @@
 use Rattle.std.proofs.Common.{◌≡◌, ℕ, suc, ◌+◌, ◌<◌, ◌≤◌, ◌||◌, Bool, true, false, cond, not, List, [], ◌∷◌, length, get_or, drop, drop-cons, sym, ap, ◌∙◌, refl, arith}
 use Rattle.std.specs.Prelude.{Option, Some, None, is_some}
 use Rattle.std.specs.List.{list_any}
-use Rattle.std.specs.Ordering.{eq_by_cmp, is_eq}
-use Rattle.std.specs.Cmp.{eq_by_cmp_equiv, alike_right}
+use Rattle.std.specs.Ordering.{eq_by_cmp}
+use Rattle.std.specs.Cmp.{eq_by_cmp_equiv}
 use Rattle.std.specs.FinMap.{FinMap, get, insert, remove, empty, get-insert, get-remove, same_map}
-use Rattle.std.specs.FinMap.Entries.{find, put, is_sorted, find-put, find-where_key}
+use Rattle.std.specs.FinMap.Entries.{find, put, is_sorted, find-put}
 use Rattle.net_types.proofs.OrderLemmas.{prefixes_total, tags_total}
 use Rattle.net_types.proofs.PlaceLemmas.{put_sorted, without_sorted}
 use Rattle.net_types.proofs.TieLemmas.{prefix_cmp-IsAntisymmetric, tag_cmp-IsAntisymmetric, same_from_tie, ties_itself}
@@ -14,6 +14,7 @@ use Rattle.net_types.specs.declared.address.Tag.{Tag}
 use Rattle.net_types.specs.declared.prefix.Prefix.{Prefix}
 use Rattle.net_types.specs.declared.route.Part.{Part}
 use Rattle.ordered_map.specs.Entries.{without}
+use Rattle.prefix_classes.proofs.BelowLemmas.{find-without}
 use Rattle.prefix_classes.proofs.CountLemmas.{sig_in, get-sigs, find_not_kept, tied}
 use Rattle.prefix_classes.proofs.MemberLemmas.{members-empty}
 use Rattle.prefix_classes.specs.Classes.{given, members, missing, new_ones}
@@ -48,15 +49,6 @@ keep_new m es t k kept no_members is same none =
           ∙ sym (get-insert tags_total kept t k.sig q)),
     )
 
-turned : {A : Type 0} (b : Bool) (x y : A) → cond (not b) x y ≡ cond b y x
-turned true x y = refl
-turned false x y = refl
-
-find-without : (t q : Tag) (es : List (Tag × Kept)) → find tag_cmp q (without tag_cmp t es) ≡ cond (eq_by_cmp tag_cmp q t) None (find tag_cmp q es)
-find-without t q es =
-    find-where_key tag_cmp (λ x. not (eq_by_cmp tag_cmp t x)) q (λ x e. ap (λ r. not (is_eq r)) (sym (alike_right tags_total q x t e))) es
-    ∙ turned (eq_by_cmp tag_cmp t q) _ _ ∙ ap (λ b. cond b None (find tag_cmp q es)) ((eq_by_cmp_equiv tags_total).symm t q)
-
 -- a tag that no prefix has is forgotten
 pub forget_none : (m : FinMap prefix_cmp Tag) (es : List (Tag × Kept)) (t : Tag) (kept : FinMap tag_cmp (List Part)) → IsCounted m es → sigs_of es ≡ kept → members m t ≡ 0
     → IsCounted m (without tag_cmp t es) × (sigs_of (without tag_cmp t es) ≡ remove kept t)
@@ -64,14 +56,14 @@ forget_none m es t kept is same no_members =
     let sorted = without_sorted tag_cmp t es is.sorted in (
       record {
         sorted = sorted;
-        counts = λ u. ap members_of (find-without t u es)
+        counts = λ u. ap members_of (find-without tag_cmp tags_total t u es)
             ∙ elim (eq_by_cmp tag_cmp u t) as (λ b. eq_by_cmp tag_cmp u t ≡ b → members_of (cond b None (find tag_cmp u es)) ≡ counted es u) [
               | true ↦ λ e. sym (ap members_of (tied es u t e) ∙ is.counts t ∙ no_members)
               | false ↦ λ e. refl
             ] refl ∙ is.counts u;
       },
       same_map tags_total tag_cmp-IsAntisymmetric _ _ (λ q.
-          get-sigs (without tag_cmp t es) q sorted ∙ ap sig_in (find-without t q es)
+          get-sigs (without tag_cmp t es) q sorted ∙ ap sig_in (find-without tag_cmp tags_total t q es)
           ∙ elim (eq_by_cmp tag_cmp q t) as (λ b. sig_in (cond b None (find tag_cmp q es)) ≡ cond b None (sig_in (find tag_cmp q es))) [ true ↦ refl | false ↦ refl ]
           ∙ ap (cond (eq_by_cmp tag_cmp q t) None) (sym (get-sigs es q is.sorted) ∙ ap (λ n. get n q) same)
           ∙ sym (get-remove tags_total kept t q)),

@@ -1,5 +1,5 @@
 -- How the numbers of members change with one prefix.
-use Rattle.std.proofs.Common.{◌≡◌, ℕ, ◌+◌, ◌≤◌, ◌<◌, true, false, cond, not, T, List, [], ◌∷◌, length, sym, ap, subst, ◌∙◌, refl, arith}
+use Rattle.std.proofs.Common.{◌≡◌, ℕ, ◌+◌, ◌≤◌, ◌<◌, Bool, true, false, cond, not, T, List, [], ◌∷◌, length, sym, ap, subst, ◌∙◌, refl, arith}
 use Rattle.std.specs.Prelude.{Some, ◌↔◌}
 use Rattle.std.specs.Ordering.{eq_by_cmp, is_eq}
 use Rattle.std.specs.declared.cmp.Ordering.TheVariants.{Less, Equal, Greater}
@@ -62,7 +62,7 @@ pub some_member : (m : FinMap prefix_cmp Tag) (p : Prefix) (t : Tag) → get m p
 some_member m p t is = let all = members-remove m p t in let one = ap (has_tag t) is in let itself = is_tag-itself t in omega (arith, all, one, itself)
 
 -- what is found among later entries is found among all
-found_later : (e : Prefix × Tag) (es : List (Prefix × Tag)) (p : Prefix) (t : Tag) → is_sorted prefix_cmp (e ∷ es) ≡ true → find prefix_cmp p es ≡ Some t → find prefix_cmp p (e ∷ es) ≡ Some t
+pub found_later : (e : Prefix × Tag) (es : List (Prefix × Tag)) (p : Prefix) (t : Tag) → is_sorted prefix_cmp (e ∷ es) ≡ true → find prefix_cmp p es ≡ Some t → find prefix_cmp p (e ∷ es) ≡ Some t
 found_later e es p t sorted is =
     let apart = later_apart prefix_cmp prefixes_total e.0 p t es (subst T (sym (first_below prefix_cmp e es sorted)) tt) is in
     ap (λ b. cond b (Some e.1) (find prefix_cmp p es)) apart ∙ is
@@ -84,3 +84,17 @@ no_members m t = (
   λ none p is. (let some = some_member m p t is in omega (arith, some, none)),
   λ none. none_counted t (entries m) (shown _ (entries_sorted m)) (λ p is. none p (get-entries m p ∙ is)),
 )
+
+-- where an entry counts for a tag, some prefix has it
+counted_member : (t : Tag) (es : List (Prefix × Tag)) → is_sorted prefix_cmp es ≡ true → 0 < count_of t es → (p : Prefix) × (find prefix_cmp p es ≡ Some t)
+counted_member t [] sorted some = absurd (omega arith)
+counted_member t (e ∷ es) sorted some = by (eq_by_cmp tag_cmp t e.1) refl some (counted_member t es (rest_sorted prefix_cmp e es sorted))
+  where
+    by : (b : Bool) → eq_by_cmp tag_cmp t e.1 ≡ b → 0 < cond b 1 0 + count_of t es → (0 < count_of t es → (p : Prefix) × (find prefix_cmp p es ≡ Some t)) → (p : Prefix) × (find prefix_cmp p (e ∷ es) ≡ Some t)
+    by true tie here rest =
+        let same : e.1 ≡ t = sym (same_from_tie tag_cmp tag_cmp-IsAntisymmetric t e.1 tie) in
+        (e.0, ap (λ b. cond b (Some e.1) (find prefix_cmp e.0 es)) (ties_itself prefixes_total e.0) ∙ ap Some same)
+    by false apart later rest = let one = rest (omega (arith, later)) in (one.0, found_later e es one.0 t sorted one.1)
+
+pub has_member : (m : FinMap prefix_cmp Tag) (t : Tag) → 0 < members m t → (p : Prefix) × (get m p ≡ Some t)
+has_member m t some = let one = counted_member t (entries m) (shown _ (entries_sorted m)) some in (one.0, get-entries m one.0 ∙ one.1)

@@ -1,13 +1,16 @@
 //! The classes of prefixes.
 
-ghost use Rattle.std.specs.Prelude.{◌≡◌, ◌≤◌, ◌<◌, ◌+◌, None, IfNone, IfSome, IsTrue, OnOk, length, option_copied, is_some};
+ghost use Rattle.std.specs.Prelude.{◌≡◌, ◌≤◌, ◌<◌, ◌+◌, None, Some, IfNone, IfOk, IfSome, IsTrue, OnOk, length, option_copied, is_some};
 ghost use Rattle.std.specs.FinMap as map;
 ghost use Rattle.std.specs.Option.{option_map};
 ghost use Rattle.net_types.specs.Signatures.{trimmed};
 ghost use Rattle.net_types.specs.declared.address.Tag.{Tag as AnyTag};
 ghost use Rattle.prefix_classes.specs.Classes.{IsAbove, IsNextTag, given, members, missing, new_ones};
+ghost use Rattle.prefix_classes.specs.Merging.{IsFull, IsMergeOf, moved};
 
+use crate::grouping::Grouping;
 use crate::members::{Kept, lower, move_member, raise};
+use crate::moves::{Moves, moves_by};
 use crate::next::first_used;
 use crate::trimming::trim_all;
 use net_types::{Memory, Pid, Prefix, Sig, Tag};
@@ -162,6 +165,41 @@ impl ClassMap {
         ensures tags { self.new.tags ≡ self.old.tags }
     {
         trim_all(self.alloc, &mut self.kept, who, named);
+    }
+
+    /// The moves that leave one tag for each signature: each prefix whose tag isn't the least of those with members that
+    /// have the same kept signature moves to that one. Memory is the only refusal. It needs a grouping of exactly the tags
+    /// with members, each with its kept signature.
+    pub fn merge_plan(&self, grouping: &Grouping) -> Result<Moves, Memory>
+        requires { IsFull self.now.tag self.now.kept grouping.now }
+        ensures { IfOk result (IsMergeOf self.now.tag self.now.kept) }
+    {
+        moves_by(self.alloc, &self.tags, grouping)
+    }
+
+    /// Makes the moves, which were planned for the tags and signatures as they are. It takes no memory and needs no room,
+    /// since no prefix is new. The tags that have no members afterwards stay kept.
+    pub fn merge(&mut self, moves: Moves)
+        requires { IsMergeOf self.old.tag self.old.kept moves }
+        ensures tag { self.new.tag ≡ moved self.old.tag moves }
+        ensures kept { self.new.kept ≡ self.old.kept }
+        ensures prefixes { self.old.prefixes ≤ self.new.prefixes }
+        ensures tags { self.new.tags ≡ self.old.tags }
+    {
+        for &(member, least) in moves.list() {
+            self.put(member, least);
+        }
+    }
+
+    /// The signature of a tag with members.
+    pub(crate) fn used_sig(&self, tag: Tag) -> &Sig
+        requires { 0 < members self.now.tag tag }
+        ensures { Some result.now ≡ map.get self.now.kept tag }
+    {
+        match self.kept.get(&tag) {
+            Some(kept) => &kept.sig,
+            None => unreachable!(),
+        }
     }
 
     // Keeps a tag that no prefix has, with its signature.

@@ -1,5 +1,6 @@
 //! Laws of counting members. The functions have empty bodies, and their contracts are the laws.
 
+ghost use Rattle.prefix_classes.specs.MergeLaws.{LeastTagsHaveMembers, MembersHaveLeastTags, MergedAreTabulated, MergedHaveLeastTags, MergedKeepSignatures, MergedShareTags, OnlyMovedDiffer};
 ghost use Rattle.prefix_classes.specs.Laws.{MembersAfterInsert, MembersAfterRemove, NoMembersNoPrefix, ChangesAreCounted, TagsAfterChanges, ChangedHaveNewTags, OthersKeepTheirs, NewOnesAreFew};
 
 /// A prefix that is given a tag counts for it, and no more for the one it had.
@@ -40,4 +41,40 @@ pub fn other_prefixes_keep_their_tags()
 /// No more prefixes of a list are new than it has.
 pub fn new_ones_are_few()
     ensures { NewOnesAreFew }
+{}
+
+/// Once classes are merged, a prefix has the least tag of its kept signature.
+pub fn merged_prefixes_have_least_tags()
+    ensures { MergedHaveLeastTags }
+{}
+
+/// Once classes are merged, two prefixes have the same tag exactly where their kept signatures are the same.
+pub fn merged_prefixes_share_tags()
+    ensures { MergedShareTags }
+{}
+
+/// What is kept for a prefix's tag is the same after a merge.
+pub fn merged_prefixes_keep_signatures()
+    ensures { MergedKeepSignatures }
+{}
+
+/// Once classes are merged, the least tag of each signature has members.
+pub fn least_tags_have_members()
+    ensures { LeastTagsHaveMembers }
+{}
+
+/// Once classes are merged, only the least tag of a signature has members.
+pub fn members_have_least_tags()
+    ensures { MembersHaveLeastTags }
+{}
+
+/// A merge changes the tags of exactly the prefixes that move.
+pub fn only_moved_prefixes_differ()
+    ensures { OnlyMovedDiffer }
+{}
+
+/// Where exactly these prefixes have tags and the signature of each is kept for its tag, each has after a merge the least
+/// tag of those with its signature, and no other has one.
+pub fn merged_prefixes_are_tabulated()
+    ensures { MergedAreTabulated }
 {}

@@ -7,6 +7,8 @@ mod adverts;
 #[cfg(test)]
 mod classes;
 #[cfg(test)]
+mod merges;
+#[cfg(test)]
 mod prefixes;
 #[cfg(test)]
 mod tags;

@@ -1,0 +1,7 @@
+-- The moves so far, and the prefixes that are left.
+use Rattle.std.specs.FinMap.{entries}
+use Rattle.prefix_classes.proofs.MoveLemmas.{ArePlanned}
+use Rattle.prefix_classes.proofs.moves.moves_by.Given as goal
+
+abbrev pub invariant-loop-prefix : goal.invariant-loop-prefix
+invariant-loop-prefix l = ArePlanned l.grouping (entries l.tags.map) l.prefix-iterator l.moves.items

@@ -1,0 +1,150 @@
+//! Signatures that several owners share, and the order in which a grouping finds the tags of each.
+
+ghost use Rattle.std.specs.Prelude.{◌≡◌, IfOk, refl};
+ghost use Rattle.std.specs.Cmp.{eq_by_cmp_equiv, partial_equiv_from_equiv, partial_order_from_total};
+ghost use Rattle.std.specs.Cmp.Lexicographic.{slice_cmp};
+ghost use Rattle.std.specs.Ordering.{as_partial_cmp, eq_by_cmp};
+ghost use Rattle.prefix_classes.specs.Placed.{offer_cmp, part_cmp, placed_cmp};
+ghost use Rattle.prefix_classes.specs.PlacedLaws.{placed_total};
+ghost use Rattle.std.specs.declared.cmp.Ordering.{Ordering as AnyOrdering};
+
+use net_types::{Memory, Offer, Part, Sig, Tag};
+use std::alloc::Global;
+use std::cmp::Ordering;
+use std::marker::Model;
+use std::rc::Rc;
+
+/// A signature on the heap, once for all that hold it. Contracts see the signature.
+#[derive(Drop)]
+pub(crate) struct SharedSig {
+    sig: Rc<Sig>,
+}
+
+impl Model for SharedSig {
+    ghost use Rattle.std.specs.Prelude.{List};
+    ghost use Rattle.net_types.specs.declared.route.Part.{Part};
+
+    ghost Value = { List Part };
+
+    ghost view = { λ a. a.sig.value };
+}
+
+impl SharedSig {
+    /// This signature. Memory is the only refusal.
+    pub(crate) fn new(alloc: Global, sig: Sig) -> Result<SharedSig, Memory>
+        ensures { IfOk result (λ shared. shared ≡ sig) }
+    {
+        let sig = Rc::new(alloc, sig)?;
+        Ok(SharedSig { sig })
+    }
+
+    /// A further owner of the same signature: it isn't copied.
+    pub(crate) fn share(&self) -> Result<SharedSig, Memory>
+        ensures { IfOk result (λ twin. twin ≡ self.now) }
+    {
+        let sig = self.sig.clone()?;
+        Ok(SharedSig { sig })
+    }
+
+    fn parts(&self) -> &[Part]
+        ensures { result.now ≡ self.now }
+    {
+        self.sig.items()
+    }
+}
+
+/// A tag that was placed, with its signature before it, so that the tags of one signature stand together.
+#[derive(Drop)]
+pub(crate) struct Placed {
+    pub(crate) sig: SharedSig,
+    pub(crate) tag: Tag,
+}
+
+/// Values that have an order.
+trait Ranked {
+    // What `rank` answers.
+    ghost order: { Self → Self → AnyOrdering };
+
+    /// Which of two values comes first.
+    fn rank(&self, other: &Self) -> Ordering
+        ensures { result ≡ order self.now other.now };
+}
+
+impl Ranked for Offer {
+    ghost order = { offer_cmp };
+
+    fn rank(&self, other: &Offer) -> Ordering {
+        let ports = self.port.0.cmp(&other.port.0);
+        let holes = self.hole.cmp(&other.hole);
+        self.exporter.0.cmp(&other.exporter.0).then(ports.then(holes))
+    }
+}
+
+impl Ranked for Part {
+    ghost order = { part_cmp };
+
+    fn rank(&self, other: &Part) -> Ordering {
+        let bests = self.best.0.cmp(&other.best.0);
+        let offers = rank_items(self.offers.items(), other.offers.items());
+        self.sender.0.cmp(&other.sender.0).then(bests.then(offers))
+    }
+}
+
+/// Lists by their first items that differ. A list comes before each longer one that begins with it.
+fn rank_items<T: Ranked>(one: &[T], other: &[T]) -> Ordering
+    ensures { result ≡ slice_cmp T.order one.now other.now }
+{
+    for i in 0..one.len() {
+        if i == other.len() {
+            return Ordering::Greater;
+        }
+        match one[i].rank(&other[i]) {
+            Ordering::Equal => {}
+            Ordering::Less => return Ordering::Less,
+            Ordering::Greater => return Ordering::Greater,
+        }
+    }
+    if one.len() < other.len() {
+        return Ordering::Less;
+    }
+    Ordering::Equal
+}
+
+impl Ord for Placed {
+    ghost cmp = { placed_cmp };
+
+    ghost total = { placed_total };
+
+    ghost matches_partial_cmp = { λ a b. refl };
+
+    ghost matches_eq = { λ a b. refl };
+
+    fn cmp(&self, other: &Placed) -> Ordering {
+        let tags = self.tag.cmp(&other.tag);
+        rank_items(self.sig.parts(), other.sig.parts()).then(tags)
+    }
+}
+
+impl PartialOrd for Placed {
+    ghost partial_cmp = { as_partial_cmp placed_cmp };
+
+    ghost laws = { partial_order_from_total placed_total };
+
+    fn partial_cmp(&self, other: &Placed) -> Option<Ordering> {
+        Some(self.cmp(other))
+    }
+}
+
+impl PartialEq for Placed {
+    ghost eq = { eq_by_cmp placed_cmp };
+
+    ghost laws = { partial_equiv_from_equiv (eq_by_cmp_equiv placed_total) };
+
+    fn eq(&self, other: &Placed) -> bool {
+        self.cmp(other).is_eq()
+    }
+}
+
+impl Eq for Placed {
+    ghost laws = { eq_by_cmp_equiv placed_total };
+}
