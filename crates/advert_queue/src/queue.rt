@@ -53,7 +53,7 @@ pub(crate) fn advert(alloc: Global, base: Ip, prefix: Prefix, entry: Option<&Ent
 {
     match entry {
         None => withdrawal(alloc, prefix),
-        Some(entry) => announcement(alloc, prefix, &entry.attrs, Ip(base.0 + entry.tag.0)),
+        Some(entry) => announcement(alloc, prefix, entry.attrs.get(), Ip(base.0 + entry.tag.0)),
     }
 }
 
@@ -88,7 +88,7 @@ fn is_same(entry: &Entry, other: Option<&Entry>) -> bool
     match other {
         None => false,
         Some(other) => {
-            let attrs = same_attrs(&entry.attrs, &other.attrs);
+            let attrs = same_attrs(entry.attrs.get(), other.attrs.get());
             entry.tag.0 == other.tag.0 && attrs
         }
     }
