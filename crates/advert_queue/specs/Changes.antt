@@ -39,4 +39,4 @@ tag_in entry = option_map (λ (e : Entry). e.tag) entry
 -- how many of so many are taken
 abbrev pub limited : Option ℕ → ℕ → ℕ
 limited None n = n
-limited (Some count) n = min n count
+limited (Some count) n = min count n

@@ -31,7 +31,7 @@ pub(crate) fn limited(limit: Option<u32>, pending: usize) -> usize
 {
     match limit {
         None => pending,
-        Some(count) => pending.min(count as usize),
+        Some(count) => (count as usize).min(pending),
     }
 }
 
