@@ -39,6 +39,17 @@ entry_itself e = and_from (same_tag e.tag e.tag) (same_attrs e.attrs e.attrs) (n
 pub entry_test : IsEqualityTest (same_option same_entry)
 entry_test = option_test same_entry (from_itself same_entry entries_equal entry_itself)
 
+-- what the test answers of two entries that are seen as these
+module _ (a b x y : Option Entry) (answer : Bool) (left : a ≡ x) (right : b ≡ y) (is : answer ≡ same_option same_entry a b) where
+  pub same_as : answer ≡ true → x ≡ y
+  same_as yes = (entry_test x y).0 ((λ i. same_option same_entry (sym left i) (sym right i)) ∙ sym is ∙ yes)
+
+  pub differs_from : answer ≡ false → x ≡ y → ⊥
+  differs_from no same =
+      let yes : same_option same_entry x y ≡ true = (entry_test x y).1 same in
+      let both : true ≡ false = sym yes ∙ (λ i. same_option same_entry (sym left i) (sym right i)) ∙ sym is ∙ no in
+      cc
+
 -- ---- one change
 
 pub get_with : (told : Told) (k : Prefix) (o : Option Entry) (q : Prefix) → get (with_news told k o) q ≡ cond (eq_by_cmp prefix_cmp q k) o (get told q)

@@ -1,6 +1,7 @@
 -- What is made of the front of a list, item by item, until there is so much or the list ends.
-use Rattle.std.proofs.Common.{◌≡◌, ℕ, zero, suc, ◌+◌, ◌≤◌, ◌<◌, List, [], ◌∷◌, ◌++◌, map, take, drop, length, sym, ap, subst, ◌∙◌, refl, arith}
+use Rattle.std.proofs.Common.{◌≡◌, ℕ, zero, suc, ◌+◌, ◌≤◌, ◌<◌, List, [], ◌∷◌, ◌++◌, map, take, drop, length, sym, ap, subst, ◌∙◌, refl, arith, inl, inr}
 use Rattle.std.proofs.lemmas.List.{take_all}
+use Rattle.net_types.specs.Sets.{Member}
 
 -- the first item of what is left comes behind the front
 pub front_more : {A : Type 0} (n : ℕ) (all later : List A) (x : A) → x ∷ later ≡ drop n all → take (n + 1) all ≡ take n all ++ x ∷ []
@@ -18,6 +19,13 @@ front_left (suc n) [] later x e = absurd (cc)
 front_left (suc n) (y ∷ ys) later x e =
     let next : suc n + 1 ≡ suc (n + 1) = omega arith in
     front_left n ys later x e ∙ sym (ap (λ k. drop k (y ∷ ys)) next)
+
+-- what is left was there
+pub front_member : {A : Type 0} (n : ℕ) (all later : List A) (x : A) → x ∷ later ≡ drop n all → Member x all
+front_member zero [] later x e = absurd (cc)
+front_member zero (y ∷ ys) later x e = let same : x ≡ y = cc in inl same
+front_member (suc n) [] later x e = absurd (cc)
+front_member (suc n) (y ∷ ys) later x e = inr (front_member n ys later x e)
 
 -- where nothing is left the front is all
 pub front_all : {A : Type 0} (n : ℕ) (all : List A) → [] ≡ drop n all → length all ≤ n
@@ -68,3 +76,14 @@ module _ {A B : Type 0} (f : A → B) (all : List A) (count : ℕ) where
 pub mapped_itself : {A : Type 0} (xs : List A) → map (λ x. x) xs ≡ xs
 mapped_itself [] = refl
 mapped_itself (x ∷ xs) = ap (λ ys. x ∷ ys) (mapped_itself xs)
+
+-- the front and the next one are a longer front
+pub front_take : {A : Type 0} (n : ℕ) (xs : List A) → take n xs ++ take 1 (drop n xs) ≡ take (n + 1) xs
+front_take zero xs = refl
+front_take (suc n) [] = refl
+front_take (suc n) (x ∷ xs) = let next : suc n + 1 ≡ suc (n + 1) = omega arith in ap (λ ys. x ∷ ys) (front_take n xs) ∙ sym (ap (λ k. take k (x ∷ xs)) next)
+
+pub front_drop : {A : Type 0} (n : ℕ) (xs : List A) → drop 1 (drop n xs) ≡ drop (n + 1) xs
+front_drop zero xs = refl
+front_drop (suc n) [] = refl
+front_drop (suc n) (x ∷ xs) = let next : suc n + 1 ≡ suc (n + 1) = omega arith in front_drop n xs ∙ sym (ap (λ k. drop k (x ∷ xs)) next)

@@ -1,11 +1,12 @@
 -- The tags that go with what is told anew are those that the changed prefixes were told and that are in use nowhere else.
-use Rattle.std.proofs.Common.{◌≡◌, ℕ, zero, suc, ◌+◌, ◌≤◌, ◌<◌, Bool, true, false, cond, ◌&&◌, ◌||◌, not, T, List, [], ◌∷◌, ◌++◌, map, filter, take, drop, length, sym, ap, subst, ◌∙◌, refl, arith, inl, inr}
+use Rattle.std.proofs.Common.{◌≡◌, ℕ, zero, suc, ◌+◌, ◌≤◌, ◌<◌, ◌^◌, Bool, true, false, cond, ◌&&◌, ◌||◌, not, T, List, [], ◌∷◌, ◌++◌, map, filter, take, drop, length, sym, ap, subst, ◌∙◌, refl, arith, inl, inr}
 use Rattle.std.specs.Prelude.{Option, Some, None, is_some, unwrap_or, nat_eq}
 use Rattle.std.specs.FinMap.{FinMap, get}
 use Rattle.std.specs.FinMap.Entries.{find, is_sorted, is_some-find, below_all}
 use Rattle.std.specs.List.{list_any}
 use Rattle.std.specs.Ordering.{eq_by_cmp}
 use Rattle.std.proofs.lemmas.Bool.{and_from, and_parts, eq-eqb, eqb-true, false_from_ne_true}
+use Rattle.std.proofs.lemmas.List.{length-take, take_all}
 use Rattle.events.specs.Pending.{with_news}
 use Rattle.events.specs.Tags.{tells}
 use Rattle.events.specs.declared.Entry.{Entry}
@@ -18,13 +19,14 @@ use Rattle.net_types.specs.Sets.{IsRising, Member}
 use Rattle.net_types.specs.declared.address.Tag.{Tag}
 use Rattle.net_types.specs.declared.prefix.Prefix.{Prefix}
 use Rattle.advert_queue.proofs.ChangedMaps.{Told, get_with, prefix_same}
-use Rattle.advert_queue.proofs.CountLemmas.{found_told, told_uses, untold_uses, uses_one, uses_with, has_tag-le}
+use Rattle.advert_queue.proofs.CountLemmas.{found_told, told_uses, untold_uses, uses_one, uses_with, has_tag-le, recounted}
 use Rattle.advert_queue.proofs.EntryLists.{found_itself, map-filter}
+use Rattle.advert_queue.proofs.Fronts.{front_all, front_left, front_more}
 use Rattle.advert_queue.proofs.PendingLemmas.{told_among}
 use Rattle.advert_queue.proofs.RisingEntries.{find_below, keys_rise, rising_alike, rising_by_any}
 use Rattle.advert_queue.proofs.TakenLemmas.{at_change, taken_member, told_are}
 use Rattle.advert_queue.specs.Changes.{AreNews, Change, changed, limited, tag_in}
-use Rattle.advert_queue.specs.Counts.{AreCounts, counted, entry_tag, has_tag, uses}
+use Rattle.advert_queue.specs.Counts.{AreCounts, IsRecounted, counted, entry_tag, has_tag, uses}
 use Rattle.advert_queue.specs.Leaving.{is_gone, left}
 use Rattle.advert_queue.specs.Advertised.{is_told}
 use Rattle.advert_queue.specs.Taken.{gone_tags, told_then, untold}
@@ -213,3 +215,38 @@ module _ (told : Told) (cs : List Change) (sorted : is_sorted prefix_cmp cs ≡ 
     (filter-IsRising (before tag_cmp) (not_told (then ∷ [])) (untold (present ∷ []) (tags_of told))
     (filter-IsRising (before tag_cmp) (not_told (present ∷ [])) (tags_of told) (ordered_rises tag_cmp tags_total tag_same _)))
     (record { onto = onto; back = back })
+
+-- ---- the tags so far
+
+left_last : (m : Told) (cs : List Change) (c : Change) (t : Tag) → left m (cs ++ c ∷ []) t ≡ left m cs t + has_tag t (tag_in (get m c.0))
+left_last m [] c t = omega arith
+left_last m (d ∷ ds) c t = let rest = left_last m ds c t in omega (arith, rest)
+
+-- one prefix more
+pub leaving_next : (m : Told) (all later : List Change) (c : Change) (n : ℕ) (cs ds : List (Tag × ℕ)) → AreCounts cs (left m (take n all)) → c ∷ later ≡ drop n all → IsRecounted cs ds None (tag_in (get m c.0)) → AreCounts ds (left m (take (n + 1) all))
+leaving_next m all later c n cs ds right here step =
+    recounted cs ds None (tag_in (get m c.0)) (left m (take n all)) (left m (take (n + 1) all)) right step (λ t.
+    let more = ap (λ es. left m es t) (front_more n all later c here) in
+    let last = left_last m (take n all) c t in
+    omega (arith, more, last))
+
+left-le : (m : Told) (cs : List Change) (t : Tag) → left m cs t ≤ length cs
+left-le m [] t = omega arith
+left-le m (c ∷ cs) t = let one = has_tag-le t (tag_in (get m c.0)) in let rest = left-le m cs t in omega (arith, one, rest)
+
+-- a tag more can be counted
+pub leaving_small : (m : Told) (all : List Change) (n : ℕ) (cs : List (Tag × ℕ)) → AreCounts cs (left m (take n all)) → n + 1 < 2 ^ 64 → (t : Tag) → counted cs t + 1 < 2 ^ 64
+leaving_small m all n cs right few t =
+    let number = right.counts t in
+    let most = left-le m (take n all) t in
+    let front = length-take n all in
+    omega (arith, number, most, front, few)
+
+pub leaving_first : (m : Told) (all : List Change) (cs : List (Tag × ℕ)) → cs ≡ [] → AreCounts cs (left m (take 0 all))
+leaving_first m all cs none = subst (λ es. AreCounts es (left m (take 0 all))) (sym none) (record { rising = refl; used = λ t n is. absurd (cc); counts = λ t. refl })
+
+-- no prefix is left, or enough were seen
+pub leaving_all : (m : Told) (all rest : List Change) (n count : ℕ) (cs : List (Tag × ℕ)) → AreCounts cs (left m (take n all)) → rest ≡ drop n all → rest ≡ [] → n ≤ count → AreCounts cs (left m (take count all))
+leaving_all m all rest n count cs right is none few =
+    let long = front_all n all (sym none ∙ is) in
+    subst (λ es. AreCounts cs (left m es)) (take_all n all long ∙ sym (take_all count all (omega (arith, long, few)))) right

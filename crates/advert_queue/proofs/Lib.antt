@@ -8,3 +8,5 @@ pub mod CountLemmas
 pub mod TakenLemmas
 pub mod Fronts
 pub mod GoneLemmas
+pub mod SessionLemmas
+pub mod PlacesOf

@@ -1,6 +1,6 @@
 -- What is pending is what is news, and what becomes of it when some is told.
 use Rattle.std.proofs.Common.{◌≡◌, ℕ, zero, suc, ◌+◌, ◌≤◌, ◌<◌, min, Bool, true, false, not, List, [], ◌∷◌, ◌++◌, map, filter, take, drop, length, sym, ap, subst, ◌∙◌, refl, arith, inl, inr}
-use Rattle.std.specs.Prelude.{Option, Some, None, is_some, unwrap_or}
+use Rattle.std.specs.Prelude.{Option, Some, None, IfSome, is_some, unwrap_or}
 use Rattle.std.specs.FinMap.{FinMap, get, keys, contains_key-keys}
 use Rattle.std.specs.FinMap.Entries.{find, is_sorted, is_some-find}
 use Rattle.std.specs.List.{list_any}
@@ -23,7 +23,7 @@ use Rattle.advert_queue.proofs.ChangedMaps.{Told, changed-append, entry_test, ge
 use Rattle.advert_queue.proofs.EntryLists.{found_itself}
 use Rattle.advert_queue.proofs.RisingEntries.{keys_rise, rising_alike}
 use Rattle.advert_queue.specs.Advertised.{first_pending, present_at}
-use Rattle.advert_queue.specs.Changes.{AreNews, Change, changed, limited, message_of}
+use Rattle.advert_queue.specs.Changes.{AreNews, AreSmall, Change, changed, limited, message_of}
 use Rattle.advert_queue.specs.Taken.{first_of, news_of, told_then}
 use Rattle.advert_queue.specs.Telling.{advert_with, adverts, pending}
 
@@ -42,6 +42,11 @@ none_there (Some x) never = absurd (never refl)
 first_taken : {A : Type 0} (limit : Option ℕ) (xs : List A) → first_of limit xs ≡ take (limited limit (length xs)) xs
 first_taken None xs = sym (take_all (length xs) xs (omega arith))
 first_taken (Some count) xs = sym (take_min count xs)
+
+-- no more are taken than there are
+pub limited-le : (limit : Option ℕ) (n : ℕ) → limited limit n ≤ n
+limited-le None n = omega arith
+limited-le (Some count) n = omega arith
 
 -- what is taken was there
 pub taken_member : {A : Type 0} (count : ℕ) (xs : List A) (x : A) → Member x (take count xs) → Member x xs
@@ -153,3 +158,7 @@ module _ (told : Told) (cs : List Change) (sorted : is_sorted prefix_cmp cs ≡ 
   -- what is present stays where some of it is told
   pub present_stays : (count : ℕ) → changed (changed told (take count cs)) (drop count cs) ≡ present
   present_stays count = sym (changed-append told (take count cs) (drop count cs)) ∙ ap (changed told) (take-append-drop count cs)
+
+  -- no news has a tag above 65536 where nothing that is present has
+  pub small_news : ((p : Prefix) → IfSome (get present p) (λ (e : Entry). e.tag.0 ≤ 65536)) → AreSmall cs
+  small_news small c m = subst (λ o. IfSome o (λ (e : Entry). e.tag.0 ≤ 65536)) (at_change c m) (small c.0)

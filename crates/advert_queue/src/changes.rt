@@ -112,6 +112,7 @@ fn tell_first(told: &mut PrefixMap<Entry>, news: &mut News, counts: &mut Counts)
     requires kept { IsTellable told.old news.old counts.old 0 }
     ensures told { told.new.map ≡ changed told.old.map (take 1 news.old.items) }
     ensures news { news.new.items ≡ drop 1 news.old.items }
+    ensures room { news.old.room ≤ news.new.room }
     ensures kept { (more : ℕ) → IsTellable told.old news.old counts.old more → IsTellable told.new news.new counts.new more }
 {
     let Some((prefix, _)) = news.first() else {
@@ -137,9 +138,10 @@ pub(crate) fn tell(
     requires kept { IsTellable told.old news.old counts.old 0 }
     ensures told { told.new.map ≡ changed told.old.map (take count news.old.items) }
     ensures news { news.new.items ≡ drop count news.old.items }
+    ensures room { news.old.room ≤ news.new.room }
     ensures kept { (more : ℕ) → IsTellable told.old news.old counts.old more → IsTellable told.new news.new counts.new more }
 {
-    for _ in 0..count {
+    for _told in 0..count {
         tell_first(told, news, counts);
     }
 }
