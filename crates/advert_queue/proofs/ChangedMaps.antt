@@ -42,12 +42,12 @@ entry_test = option_test same_entry (from_itself same_entry entries_equal entry_
 -- what the test answers of two entries that are seen as these
 module _ (a b x y : Option Entry) (answer : Bool) (left : a ≡ x) (right : b ≡ y) (is : answer ≡ same_option same_entry a b) where
   pub same_as : answer ≡ true → x ≡ y
-  same_as yes = (entry_test x y).0 ((λ i. same_option same_entry (sym left i) (sym right i)) ∙ sym is ∙ yes)
+  same_as e = (entry_test x y).0 ((λ i. same_option same_entry (sym left i) (sym right i)) ∙ sym is ∙ e)
 
   pub differs_from : answer ≡ false → x ≡ y → ⊥
-  differs_from no same =
-      let yes : same_option same_entry x y ≡ true = (entry_test x y).1 same in
-      let both : true ≡ false = sym yes ∙ (λ i. same_option same_entry (sym left i) (sym right i)) ∙ sym is ∙ no in
+  differs_from e same =
+      let alike : same_option same_entry x y ≡ true = (entry_test x y).1 same in
+      let both : true ≡ false = sym alike ∙ (λ i. same_option same_entry (sym left i) (sym right i)) ∙ sym is ∙ e in
       cc
 
 -- ---- one change

@@ -31,7 +31,7 @@ abbrev pub News : Type 0
 News = Held Prefix (Option Entry)
 
 is_tag-itself : (t : Tag) → is_tag t t ≡ 1
-is_tag-itself t = is_tag_ties t t ∙ ap (λ b. let n : ℕ = elim b as (λ b. ℕ) [ true ↦ 1 | false ↦ 0 ] in n) (ties_itself tags_total t)
+is_tag-itself t = is_tag_ties t t ∙ ap (λ b. let n : ℕ = cond b 1 0 in n) (ties_itself tags_total t)
 
 -- the tag of what stands at a prefix is in use
 pub in_use : (cs : List (Tag × ℕ)) (m : Told) (k : Prefix) (before : Option Tag) → AreCounts cs (uses m) → before ≡ tag_in (get m k) → IfSome before (λ (tag : Tag). 0 < counted cs tag)

@@ -141,7 +141,7 @@ pub(crate) fn tell(
     ensures room { news.old.room ≤ news.new.room }
     ensures kept { (more : ℕ) → IsTellable told.old news.old counts.old more → IsTellable told.new news.new counts.new more }
 {
-    for _told in 0..count {
+    for _done in 0..count {
         tell_first(told, news, counts);
     }
 }

@@ -1,7 +1,7 @@
 use Rattle.std.proofs.Common.{◌≡◌, ◌<◌, ◌+◌, ◌^◌, length, sym, ap, subst, ◌∙◌, arith}
 use Rattle.std.specs.FinMap.{entries}
 use Rattle.advert_queue.proofs.SessionLemmas.{can_rise, few_present, in_use, offered_kept}
-use Rattle.advert_queue.specs.Changes.{changed}
+use Rattle.advert_queue.specs.Changes.{changed, tag_in}
 use Rattle.advert_queue.specs.Kept.{Queued}
 use Rattle.advert_queue.proofs.session.Session.offer.Goals as goal
 
@@ -34,4 +34,4 @@ invariant_of-self c =
     let a = c.self.inside in
     offered_kept a.told a.news c.note.new.news a.told_tags a.present_tags c.recount.new.counts a.room _ c.args.prefix c.args.entry _ _ c.self.invariant (omega (arith, room, c.requires))
     c.note.ensures.rising c.note.ensures.differ c.note.ensures.present c.note.ensures.few c.note.ensures.room
-    c.present_tag-before.ensures (c.tag_of-after.ensures) c.recount.ensures.counts c.recount.ensures.room
+    c.present_tag-before.ensures (c.tag_of-after.ensures ∙ ap tag_in c.as_ref.ensures.value) c.recount.ensures.counts c.recount.ensures.room
