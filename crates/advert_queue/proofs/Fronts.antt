@@ -1,5 +1,5 @@
 -- What is made of the front of a list, item by item, until there is so much or the list ends.
-use Rattle.std.proofs.Common.{◌≡◌, ℕ, zero, suc, ◌+◌, ◌≤◌, ◌<◌, List, [], ◌∷◌, ◌++◌, map, take, drop, length, sym, ap, subst, ◌∙◌, refl, arith, inl, inr}
+use Rattle.std.proofs.Common.{◌≡◌, ℕ, zero, suc, ◌+◌, ◌≤◌, List, [], ◌∷◌, ◌++◌, map, take, drop, length, sym, ap, subst, ◌∙◌, refl, arith, inl, inr}
 use Rattle.std.proofs.lemmas.List.{take_all}
 use Rattle.net_types.specs.Sets.{Member}
 
@@ -59,8 +59,8 @@ module _ {A B : Type 0} (f : A → B) (all : List A) (count : ℕ) where
       record {
         rest = front_left (length made) all later x here ∙ ap (λ n. drop n all) (sym longer);
         front =
-          added ∙ (λ i. so_far.front i ++ is i ∷ []) ∙ sym (map_more (take (length made) all) x)
-          ∙ ap (map f) (sym (front_more (length made) all later x here)) ∙ ap (λ n. map f (take n all)) (sym longer);
+            added ∙ (λ i. so_far.front i ++ is i ∷ []) ∙ sym (map_more (take (length made) all) x)
+            ∙ ap (map f) (sym (front_more (length made) all later x here)) ∙ ap (λ n. map f (take n all)) (sym longer);
         few = (let before = so_far.few in omega (arith, before, longer, unfull));
       }
 

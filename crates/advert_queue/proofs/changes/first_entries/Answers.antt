@@ -1,4 +1,4 @@
-use Rattle.std.proofs.Common.{◌≡◌, ℕ, length, sym, ap, ◌∙◌, arith, take}
+use Rattle.std.proofs.Common.{sym, ◌∙◌, arith, take}
 use Rattle.advert_queue.proofs.Fronts.{made_all, made_enough, made_more, mapped_itself}
 use Rattle.advert_queue.specs.Changes.{Change}
 use Rattle.advert_queue.proofs.changes.first_entries.Goals as goal

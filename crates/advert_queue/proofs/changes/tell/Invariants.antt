@@ -9,5 +9,5 @@ invariant-loop-done l = record {
   told : l.told.map ≡ changed l.fn.told.map (take l._done l.fn.news.items);
   news : l.news.items ≡ drop l._done l.fn.news.items;
   room : l.fn.news.room ≤ l.news.room;
-  kept : (more : ℕ) → IsTellable l.fn.told l.fn.news l.fn.counts more → IsTellable l.told l.news l.counts more
+  kept : (more : ℕ) → IsTellable l.fn.told l.fn.news l.fn.counts more → IsTellable l.told l.news l.counts more;
 }

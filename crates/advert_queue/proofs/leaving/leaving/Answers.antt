@@ -1,9 +1,7 @@
-use Rattle.std.proofs.Common.{◌≡◌, ℕ, ◌+◌, ◌≤◌, ◌<◌, ◌^◌, ◌∷◌, drop, take, length, sym, ap, subst, ◌∙◌, arith}
+use Rattle.std.proofs.Common.{◌≡◌, ◌∷◌, drop, sym, ◌∙◌, arith}
 use Rattle.advert_queue.proofs.Fronts.{front_left}
 use Rattle.advert_queue.proofs.GoneLemmas.{leaving_all, leaving_first, leaving_next, leaving_small}
 use Rattle.advert_queue.specs.Changes.{Change}
-use Rattle.advert_queue.specs.Counts.{AreCounts}
-use Rattle.advert_queue.specs.Leaving.{left}
 use Rattle.advert_queue.proofs.leaving.leaving.Goals as goal
 
 pub loop-prefix-init : goal.loop-prefix-init
@@ -18,8 +16,8 @@ count_told-requires c = record {
   rising = c.loop-prefix.invariant.counts.rising;
   used = c.loop-prefix.invariant.counts.used;
   small =
-    leaving_small c.args.told.now.map c.args.news.now.items c.loop-prefix.seen _ c.loop-prefix.invariant.counts
-    (let open_still = c.if-seen-count.false in let few = c.loop-prefix.invariant.few in omega (arith, open_still, few, c.ranges.count.fits));
+      leaving_small c.args.told.now.map c.args.news.now.items c.loop-prefix.seen _ c.loop-prefix.invariant.counts
+      (let open_still = c.if-seen-count.false in let few = c.loop-prefix.invariant.few in omega (arith, open_still, few, c.ranges.count.fits));
 }
 
 pub loop-prefix-preserved : goal.loop-prefix-preserved

@@ -1,4 +1,4 @@
-use Rattle.std.proofs.Common.{◌≡◌, ◌≤◌, sym, ap, subst, ◌∙◌, arith}
+use Rattle.std.proofs.Common.{ap, ◌∙◌, arith}
 use Rattle.std.proofs.lemmas.Result.{on_ok_weaker}
 use Rattle.advert_queue.proofs.PlacesOf.{declared, present_same, room_grows, room_then, told_same}
 use Rattle.advert_queue.specs.Advertised.{Advertised, room_of}

@@ -1,4 +1,4 @@
-use Rattle.std.proofs.Common.{◌≡◌, sym, ap, ◌∙◌}
+use Rattle.std.proofs.Common.{sym, ap, ◌∙◌}
 use Rattle.std.specs.Prelude.{slice_set}
 use Rattle.advert_queue.proofs.PlacesOf.{declared, present_here, present_same, room_same, told_here, told_set}
 use Rattle.advert_queue.specs.Advertised.{Advertised, present_of, told_of}

@@ -1,5 +1,4 @@
-use Rattle.std.proofs.Common.{◌≡◌, ◌<◌, ◌+◌, ◌^◌, length, sym, ap, subst, ◌∙◌, arith}
-use Rattle.std.specs.FinMap.{entries}
+use Rattle.std.proofs.Common.{ap, ◌∙◌, arith}
 use Rattle.advert_queue.proofs.SessionLemmas.{can_rise, few_present, in_use, offered_kept}
 use Rattle.advert_queue.specs.Changes.{changed, tag_in}
 use Rattle.advert_queue.specs.Kept.{Queued}
@@ -24,8 +23,8 @@ recount-requires c =
       some = in_use a.present_tags.items (changed a.told.map a.news.items) c.args.prefix c.present_tag-before.result c.self.invariant.counts c.present_tag-before.ensures;
       room = omega (arith, room, c.requires, c.self.invariant.tags_room);
       small =
-        can_rise a.present_tags.items (changed a.told.map a.news.items) c.tag_of-after.result c.self.invariant.counts
-        (few_present a.told.map a.news.items a.room (omega (arith, room, c.requires)) c.self.invariant.tellable.fits);
+          can_rise a.present_tags.items (changed a.told.map a.news.items) c.tag_of-after.result c.self.invariant.counts
+          (few_present a.told.map a.news.items a.room (omega (arith, room, c.requires)) c.self.invariant.tellable.fits);
     }
 
 pub invariant_of-self : goal.invariant_of-self
