@@ -1,2 +1,8 @@
 pub mod Telling
 pub mod News
+pub mod Advertised
+pub mod Taken
+pub mod Changes
+pub mod Counts
+pub mod Leaving
+pub mod Kept

@@ -11,4 +11,6 @@ mod merges;
 #[cfg(test)]
 mod prefixes;
 #[cfg(test)]
+mod sessions;
+#[cfg(test)]
 mod tags;
