@@ -1,6 +1,6 @@
 -- A job ends with right and tight rules, no more for a pair than it had.
-use Rattle.std.proofs.Common.{◌≡◌, ℕ, ◌+◌, ◌-◌, ◌≤◌, ◌<◌, ◌^◌, Bool, true, false, cond, ◌&&◌, ◌||◌, nat_eq, nat_lt, not, List, [], ◌∷◌, filter, length, map, sum_by, ap, sym, subst, ◌∙◌, refl, arith, inl, inr}
-use Rattle.std.specs.Prelude.{Option, Some, None, MatchOption, is_none, is_some, unwrap_or}
+use Rattle.std.proofs.Common.{◌≡◌, ℕ, ◌+◌, ◌-◌, ◌≤◌, ◌<◌, ◌^◌, Bool, true, false, cond, ◌&&◌, nat_eq, nat_lt, not, List, [], ◌∷◌, filter, length, map, sum_by, ap, sym, subst, ◌∙◌, refl, arith, inl, inr}
+use Rattle.std.specs.Prelude.{Option, Some, None, MatchOption, is_some, unwrap_or}
 use Rattle.std.specs.Cmp.Lexicographic.{pointwise, pointwise_decides}
 use Rattle.std.specs.FinMap.{IsAntisymmetric, contains_key-keys, entries, get, keys, nat_cmp-IsAntisymmetric, values}
 use Rattle.std.specs.Option.{option_cmp}
@@ -9,9 +9,8 @@ use Rattle.std.specs.declared.cmp.Ordering.{Ordering}
 use Rattle.std.proofs.lemmas.Bool.{and_from, and_parts, eqb-true, le-ltb}
 use Rattle.std.proofs.lemmas.List.Filters.{sum_by-filter_both}
 use Rattle.std.proofs.lemmas.List.Sums.{sum_by-cons}
-use Rattle.events.specs.After.{after, merged, next, next_by, put_flows, rules_put, running, with_known, without_pairs, worked}
+use Rattle.events.specs.After.{after, merged, next, next_by, put_flows, running, with_known, without_pairs, worked}
 use Rattle.events.specs.Fits.{IsAnswer, IsFinished, IsWorked, dropped, has_other_rules}
-use Rattle.events.specs.Refusals.{refusal}
 use Rattle.events.specs.Sound.{IsSound, rule_count, same_rule}
 use Rattle.events.specs.State.{State}
 use Rattle.events.specs.Tags.{is_live, is_live_pair}
@@ -30,7 +29,7 @@ use Rattle.exchange_laws.specs.Steady.{IsSteady}
 use Rattle.job_laws.proofs.JobUnits.{works_later}
 use Rattle.job_laws.proofs.MergedStates.{kept_for, kept_is, kept_live, live_kept, pair_was_live, tag_there, tag_was_live}
 use Rattle.job_laws.specs.Ending.{IsTableAtEnd, JobsEnd}
-use Rattle.job_laws.specs.Jobs.{IsSteadyInJob, without_job}
+use Rattle.job_laws.specs.Jobs.{without_job}
 use Rattle.net_types.proofs.ActionOrder.{actions_total}
 use Rattle.net_types.proofs.CubeLemmas.{cubes_antisym, within_refl}
 use Rattle.net_types.proofs.EqualLemmas.{IsEqualityTest, from_itself, option_test}
@@ -45,8 +44,6 @@ use Rattle.net_types.specs.Attributes.{same_option}
 use Rattle.net_types.specs.Cubes.{lies_within_cube}
 use Rattle.net_types.specs.Keys.{ip_cmp, pair_cmp}
 use Rattle.net_types.specs.Sets.{Member}
-use Rattle.net_types.specs.declared.actions.Action.{Action}
-use Rattle.net_types.specs.declared.headers.Assign.{Assign}
 use Rattle.net_types.specs.declared.route.PortInfo.{PortInfo}
 use Rattle.net_types.specs.declared.rule.Pair.{Pair}
 use Rattle.net_types.specs.declared.rule.Rule.{Rule}

@@ -1,14 +1,13 @@
 -- A job starts, and goes on.
-use Rattle.std.proofs.Common.{◌≡◌, ℕ, ◌+◌, ◌-◌, ◌≤◌, ◌<◌, Bool, true, false, cond, ◌&&◌, nat_lt, length, ap, sym, subst, ◌∙◌, refl, arith}
-use Rattle.std.specs.Prelude.{Option, Some, None, MatchOption}
+use Rattle.std.proofs.Common.{◌≡◌, ℕ, ◌+◌, ◌-◌, ◌≤◌, Bool, true, false, cond, nat_lt, length, ap, sym, subst, ◌∙◌, refl, arith}
+use Rattle.std.specs.Prelude.{Some, None, MatchOption}
 use Rattle.std.proofs.lemmas.Bool.{lt-ltb}
 use Rattle.events.specs.After.{after, all_units, merged, next, running, with_known, worked}
-use Rattle.events.specs.Fits.{Fits, IsAnswer, IsWorked, all_flows, bare}
+use Rattle.events.specs.Fits.{IsAnswer, IsWorked, all_flows, bare}
 use Rattle.events.specs.Refusals.{is_placed, refusal}
 use Rattle.events.specs.Sound.{IsSound}
 use Rattle.events.specs.State.{State}
 use Rattle.events.specs.Tags.{carried, live_pairs}
-use Rattle.events.specs.declared.Event.{Event}
 use Rattle.events.specs.declared.Event.TheVariants.{Recompile, Work, Table}
 use Rattle.events.specs.declared.Head.TheVariants.{Fine, Working}
 use Rattle.events.specs.declared.Phase.{Phase}

@@ -6,3 +6,5 @@ pub mod MergedStates
 pub mod SharedTags
 pub mod EndedJobs
 pub mod AllSteps
+pub mod PortMacs
+pub mod Replies

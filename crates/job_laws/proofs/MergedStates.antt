@@ -1,13 +1,13 @@
 -- The state at the end of a job: what is live was live, and keeps its signature and its owner's part.
-use Rattle.std.proofs.Common.{◌≡◌, ◌⊎◌, ℕ, ◌≤◌, ◌<◌, Bool, true, false, cond, ◌||◌, nat_eq, List, filter, length, ap, sym, subst, ◌∙◌, refl, arith, inl, inr}
+use Rattle.std.proofs.Common.{◌≡◌, ◌<◌, Bool, true, false, cond, nat_eq, length, ap, sym, subst, ◌∙◌, refl, inl, inr}
 use Rattle.std.specs.Prelude.{Option, Some, None, is_some}
 use Rattle.std.specs.FinMap.{get, get-retain_keys, values}
-use Rattle.std.specs.List.{filter_map, list_any}
+use Rattle.std.specs.List.{list_any}
 use Rattle.std.specs.Option.{option_and_then, option_map}
 use Rattle.std.proofs.lemmas.Bool.{eqb-true, or_cases, or_left, or_right}
 use Rattle.events.proofs.Routed.{part_with, signature_part}
 use Rattle.events.specs.After.{merged}
-use Rattle.events.specs.Sound.{IsRight, IsSound, owners_part, part_of}
+use Rattle.events.specs.Sound.{owners_part, part_of}
 use Rattle.events.specs.State.{State, port_of, present, told_to}
 use Rattle.events.specs.Tags.{is_carried, is_live, is_live_pair, same_tag, tells}
 use Rattle.events.specs.declared.Entry.{Entry}
@@ -15,7 +15,6 @@ use Rattle.exchange_laws.proofs.LivePairs.{live_at, live_from, live_tag, port_Me
 use Rattle.exchange_laws.proofs.Lists.{cond_there}
 use Rattle.exchange_laws.proofs.Sames.{tag_itself}
 use Rattle.exchange_laws.proofs.TagsAfter.{live_cases, live_of}
-use Rattle.exchange_laws.specs.Rules.{IsRightAt}
 use Rattle.exchange_laws.specs.Steady.{IsSteady}
 use Rattle.job_laws.proofs.MergedTags.{merged_from, merged_there}
 use Rattle.job_laws.specs.Ending.{MergedPairsWereLive, MergedTagsWereLive, RightRulesStay}
@@ -28,7 +27,6 @@ use Rattle.net_types.proofs.ValueLemmas.{any_value}
 use Rattle.net_types.specs.Exports.{Routing}
 use Rattle.net_types.specs.Keys.{prefix_cmp}
 use Rattle.net_types.specs.Routes.{Candidate, best, pids}
-use Rattle.net_types.specs.Sets.{Member}
 use Rattle.net_types.specs.Signatures.{part, signature}
 use Rattle.net_types.specs.declared.address.Pid.{Pid}
 use Rattle.net_types.specs.declared.address.Tag.{Tag}

@@ -1,5 +1,5 @@
 -- The tags at the end of a job.
-use Rattle.std.proofs.Common.{◌≡◌, ℕ, ◌≤◌, Bool, true, false, cond, nat_eq, nat_lt, List, [], ◌∷◌, filter, ap, sym, subst, ◌∙◌, refl, arith, inl, inr}
+use Rattle.std.proofs.Common.{◌≡◌, ◌≤◌, Bool, true, false, cond, nat_eq, nat_lt, List, [], ◌∷◌, filter, ap, sym, subst, ◌∙◌, refl, arith, inl, inr}
 use Rattle.std.specs.Prelude.{Option, Some, None, is_some}
 use Rattle.std.specs.FinMap.{get}
 use Rattle.std.specs.List.{filter_map, list_any}
@@ -11,13 +11,11 @@ use Rattle.events.specs.State.{State}
 use Rattle.events.specs.Tags.{carried, is_carried}
 use Rattle.exchange_laws.proofs.FreshTags.{carried_listed}
 use Rattle.exchange_laws.proofs.Lists.{cond_there, some_of}
-use Rattle.exchange_laws.proofs.Sames.{signature_itself}
 use Rattle.net_types.proofs.EqualLemmas.{signature_test}
 use Rattle.net_types.proofs.MapLemmas.{get-tabulate}
 use Rattle.net_types.proofs.MemberLemmas.{Member-filter_map}
 use Rattle.net_types.proofs.OrderLemmas.{prefix_tie, prefixes_total, tags_total}
 use Rattle.net_types.proofs.OrderedLemmas.{any_member, member_any, ordered_rises, ordered_same}
-use Rattle.net_types.proofs.PassLemmas.{some_there}
 use Rattle.net_types.proofs.RisingLemmas.{Member-filter, before, filter-Member}
 use Rattle.net_types.proofs.TieLemmas.{same_from_tie, tag_cmp-IsAntisymmetric}
 use Rattle.net_types.specs.Attributes.{same_signature}

@@ -1,10 +1,10 @@
 -- A line that isn't a job's does the same whatever a job owes.
-use Rattle.std.proofs.Common.{◌≡◌, ◌↔◌, ◌⊎◌, ℕ, ◌≤◌, Bool, true, false, cond, ◌&&◌, List, [], ◌∷◌, ◌++◌, sum_by, ap, sym, subst, ◌∙◌, refl, inl, inr}
-use Rattle.std.specs.Prelude.{Option, Some, None, Result, Ok, Err, MatchOption, is_some, slice_set, take}
+use Rattle.std.proofs.Common.{◌≡◌, ℕ, ◌≤◌, Bool, true, false, cond, ◌&&◌, List, [], ◌∷◌, ◌++◌, sum_by, ap, sym, subst, ◌∙◌, refl, inl, inr}
+use Rattle.std.specs.Prelude.{Option, Some, None, Result, Ok, Err, MatchOption, slice_set, take}
 use Rattle.std.specs.FinMap.{FinMap, get, keys}
 use Rattle.std.specs.Option.{option_map, option_map_or}
 use Rattle.events.specs.After.{after, bound_read, next, next_by, put_flows, received_by, ruled, rules_put, running, sent_by, settled, taken, updated, with_known, with_port, with_told, without_from, without_pairs}
-use Rattle.events.specs.Fits.{Fits, FitsBy, IsAccepted, IsAnswer, IsBuilt, IsForwarded, IsFull, IsSent, IsTagged, IsTaken, Passes, by_table, cells, destination, is_building, is_receivers, is_senders, none_rebuilt}
+use Rattle.events.specs.Fits.{Fits, FitsBy, IsAccepted, IsAnswer, IsBuilt, IsFull, IsSent, IsTagged, IsTaken, Passes, cells, destination, is_building, is_receivers, is_senders, none_rebuilt}
 use Rattle.events.specs.Pending.{pending}
 use Rattle.events.specs.Refusals.{refusal}
 use Rattle.events.specs.Resolving.{is_pool_request, is_resolved, port_place, resolved_at, tag_address, unresolved, with_answer, with_resolved}

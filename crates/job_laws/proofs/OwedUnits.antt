@@ -1,12 +1,11 @@
 -- What a job owes after each line.
-use Rattle.std.proofs.Common.{◌≡◌, ℕ, ◌+◌, ◌≤◌, Bool, true, false, cond, ◌&&◌, nat_lt, List, [], ◌∷◌, ◌++◌, length, ap, sym, subst, ◌∙◌, refl, arith}
+use Rattle.std.proofs.Common.{◌≡◌, ℕ, ◌+◌, ◌≤◌, Bool, true, false, cond, ◌&&◌, nat_lt, List, [], ◌∷◌, ◌++◌, length, ap, subst, ◌∙◌, refl, arith}
 use Rattle.std.specs.Prelude.{Option, Some, None, Result, Ok, Err, slice_set, take}
 use Rattle.std.specs.Option.{option_map, option_map_or}
 use Rattle.std.proofs.lemmas.Bool.{ltb-false}
-use Rattle.events.specs.After.{after, all_units, bound_read, received_by, restarted, ruled, running, sent_by, settled, taken, updated, with_known, with_named, with_outbound, with_port, with_told, without_from}
-use Rattle.events.specs.Fits.{is_building}
+use Rattle.events.specs.After.{after, all_units, bound_read, received_by, ruled, running, sent_by, settled, taken, updated, with_known, with_named, with_outbound, with_port, with_told, without_from}
 use Rattle.events.specs.Pending.{pending}
-use Rattle.events.specs.Refusals.{if_short, inbound_refusal, outbound_refusal, refusal}
+use Rattle.events.specs.Refusals.{if_short, inbound_refusal, outbound_refusal}
 use Rattle.events.specs.Resolving.{is_pool_request, port_place, resolved_at, unresolved, with_answer, with_resolved}
 use Rattle.events.specs.State.{State, port_of, present}
 use Rattle.events.specs.Tags.{capped, carried, live_pairs, more_units, retagged}
@@ -15,8 +14,6 @@ use Rattle.events.specs.declared.Event.TheVariants.{Bad, Exchange, Participant a
 use Rattle.events.specs.declared.Refusal.{Refusal}
 use Rattle.exchange_laws.proofs.LineSteps.{short}
 use Rattle.exchange_laws.proofs.Rerouted.{known, passes}
-use Rattle.exchange_laws.specs.Rerouting.{is_rerouting}
-use Rattle.exchange_laws.specs.Unchanged.{OwesFew}
 use Rattle.grammar.specs.TextReading.{Fault as Misread}
 use Rattle.job_laws.specs.Jobs.{is_of_job}
 use Rattle.job_laws.specs.Steps.{UnitsAreAdded, UnitsStartAnew, UnitsStay}

@@ -1,5 +1,5 @@
 -- Which prefixes share a tag.
-use Rattle.std.proofs.Common.{◌≡◌, true, List, ap, sym, ◌∙◌, refl}
+use Rattle.std.proofs.Common.{◌≡◌, true, ap, sym, ◌∙◌}
 use Rattle.std.specs.Prelude.{Some, is_some}
 use Rattle.std.specs.FinMap.{get}
 use Rattle.events.specs.After.{merged}
@@ -10,7 +10,7 @@ use Rattle.exchange_laws.specs.Steady.{IsSteady}
 use Rattle.job_laws.proofs.MergedStates.{kept_for, tag_there}
 use Rattle.job_laws.proofs.MergedTags.{merged_alike, merged_from, merged_there}
 use Rattle.job_laws.specs.Jobs.{without_job}
-use Rattle.job_laws.specs.Sharing.{IsLeastAlike, LeastTagsStay, MergedPrefixesShare, ShareTag, SharedTagsTell}
+use Rattle.job_laws.specs.Sharing.{LeastTagsStay, MergedPrefixesShare, ShareTag, SharedTagsTell}
 use Rattle.net_types.proofs.PassLemmas.{some_there}
 use Rattle.net_types.specs.Signatures.{signature}
 use Rattle.net_types.specs.declared.address.Tag.{Tag}

@@ -3,3 +3,4 @@ pub mod Units
 pub mod Ending
 pub mod Sharing
 pub mod Steps
+pub mod Replying

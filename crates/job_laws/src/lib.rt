@@ -3,11 +3,13 @@
 #![tactic(auto)]
 
 mod ending;
+mod replying;
 mod sharing;
 mod steps;
 mod units;
 
 pub use ending::{jobs_end, merged_pairs_were_live, merged_tags_were_live, right_rules_stay};
+pub use replying::{all_lines_have_replies, all_runs_go_on};
 pub use sharing::{least_tags_stay, merged_prefixes_share, shared_tags_tell};
 pub use steps::{
     all_runs_stay_steady, all_steps_stay_steady, jobs_leave_lines, units_are_added,
