@@ -128,7 +128,7 @@ module _ (s : State) (steady : IsSteady (without_job s)) where
 ended_reply : (s : State) (units owed : ℕ) → IsSteadyInJob s → refusal s (Work units) ≡ None → s.owed ≡ Some owed → owed ≤ units → (r : Reply) × Fits s (Work units) r
 ended_reply s units owed steady none runs all =
     let law = jobs_end s units owed (table s steady.steady) (finished s steady.steady) steady none runs all (at_end s steady.steady)
-        (record { head = refl; tags = refl; drops = refl; adds = refl; adverts = refl; asks = refl; frames = refl; tightened = tightened s steady.steady }) in
+    (record { head = refl; tags = refl; drops = refl; adds = refl; adverts = refl; asks = refl; frames = refl; tightened = tightened s steady.steady }) in
     (finished s steady.steady, law.1)
 
 work_reply : (s : State) (units : ℕ) (o : Option ℕ) → IsSteadyInJob s → refusal s (Work units) ≡ None → s.owed ≡ o → (r : Reply) × Fits s (Work units) r
