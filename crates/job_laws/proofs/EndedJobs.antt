@@ -1,12 +1,10 @@
 -- A job ends with right and tight rules, no more for a pair than it had.
-use Rattle.std.proofs.Common.{◌≡◌, ℕ, ◌+◌, ◌-◌, ◌≤◌, ◌<◌, ◌^◌, Bool, true, false, cond, ◌&&◌, nat_eq, nat_lt, not, List, [], ◌∷◌, filter, length, map, sum_by, ap, sym, subst, ◌∙◌, refl, arith, inl, inr}
+use Rattle.std.proofs.Common.{◌≡◌, ℕ, ◌+◌, ◌-◌, ◌≤◌, ◌<◌, ◌^◌, Bool, true, false, cond, nat_eq, nat_lt, not, List, [], ◌∷◌, filter, length, map, sum_by, ap, sym, subst, ◌∙◌, refl, arith, inl, inr}
 use Rattle.std.specs.Prelude.{Option, Some, None, MatchOption, is_some, unwrap_or}
-use Rattle.std.specs.Cmp.Lexicographic.{pointwise, pointwise_decides}
-use Rattle.std.specs.FinMap.{IsAntisymmetric, contains_key-keys, entries, get, keys, nat_cmp-IsAntisymmetric, values}
-use Rattle.std.specs.Option.{option_cmp}
-use Rattle.std.specs.Ordering.{eq_by_cmp, nat_cmp, ordering_then}
-use Rattle.std.specs.declared.cmp.Ordering.{Ordering}
-use Rattle.std.proofs.lemmas.Bool.{and_from, and_parts, eqb-true, le-ltb}
+use Rattle.std.specs.Cmp.Lexicographic.{pointwise}
+use Rattle.std.specs.FinMap.{contains_key-keys, entries, get, keys, values}
+use Rattle.std.specs.Ordering.{eq_by_cmp}
+use Rattle.std.proofs.lemmas.Bool.{eqb-true, le-ltb}
 use Rattle.std.proofs.lemmas.List.Filters.{sum_by-filter_both}
 use Rattle.std.proofs.lemmas.List.Sums.{sum_by-cons}
 use Rattle.events.specs.After.{after, merged, next, next_by, put_flows, running, with_known, without_pairs, worked}
@@ -28,21 +26,18 @@ use Rattle.exchange_laws.specs.Replies.{IsBuiltOn}
 use Rattle.exchange_laws.specs.Steady.{IsSteady}
 use Rattle.job_laws.proofs.JobUnits.{works_later}
 use Rattle.job_laws.proofs.MergedStates.{kept_for, kept_is, kept_live, live_kept, pair_was_live, tag_there, tag_was_live}
+use Rattle.job_laws.proofs.SameRules.{rules_test}
 use Rattle.job_laws.specs.Ending.{IsTableAtEnd, JobsEnd}
 use Rattle.job_laws.specs.Jobs.{without_job}
-use Rattle.net_types.proofs.ActionOrder.{actions_total}
-use Rattle.net_types.proofs.CubeLemmas.{cubes_antisym, within_refl}
-use Rattle.net_types.proofs.EqualLemmas.{IsEqualityTest, from_itself, option_test}
+use Rattle.net_types.proofs.EqualLemmas.{option_test}
 use Rattle.net_types.proofs.FindLemmas.{find-IsFound}
 use Rattle.net_types.proofs.OrderLemmas.{pairs_total}
 use Rattle.net_types.proofs.OrderedLemmas.{member_any}
 use Rattle.net_types.proofs.RisingLemmas.{Member-filter, before, before_itself, before_trans, filter-IsRising, filter-Member, keys-IsRising}
 use Rattle.net_types.proofs.SetLemmas.{rising_unique}
-use Rattle.net_types.proofs.TieLemmas.{first_tie, ip_cmp-IsAntisymmetric, pair_cmp-IsAntisymmetric, same_from_tie, second_tie, ties_itself}
-use Rattle.net_types.specs.Actions.{action_cmp, assign_cmp}
+use Rattle.net_types.proofs.TieLemmas.{pair_cmp-IsAntisymmetric, same_from_tie}
 use Rattle.net_types.specs.Attributes.{same_option}
-use Rattle.net_types.specs.Cubes.{lies_within_cube}
-use Rattle.net_types.specs.Keys.{ip_cmp, pair_cmp}
+use Rattle.net_types.specs.Keys.{pair_cmp}
 use Rattle.net_types.specs.Sets.{Member}
 use Rattle.net_types.specs.declared.route.PortInfo.{PortInfo}
 use Rattle.net_types.specs.declared.rule.Pair.{Pair}
@@ -50,58 +45,13 @@ use Rattle.net_types.specs.declared.rule.Rule.{Rule}
 
 -- ---- rules that are the same
 
-option_cmp-IsAntisymmetric : {K : Type 0} (R : K → K → Ordering) → IsAntisymmetric R → IsAntisymmetric (option_cmp R)
-option_cmp-IsAntisymmetric R same None None e = refl
-option_cmp-IsAntisymmetric R same None (Some y) e = cc
-option_cmp-IsAntisymmetric R same (Some x) None e = cc
-option_cmp-IsAntisymmetric R same (Some x) (Some y) e = ap Some (same x y e)
-
-assign_cmp-IsAntisymmetric : IsAntisymmetric assign_cmp
-assign_cmp-IsAntisymmetric a b e =
-    let sports = option_cmp nat_cmp a.sport b.sport in
-    let dports = option_cmp nat_cmp a.dport b.dport in
-    let dsts = option_cmp ip_cmp a.dst b.dst in
-    let srcs = option_cmp ip_cmp a.src b.src in
-    let in_targets = second_tie srcs (ordering_then dsts (ordering_then sports dports)) e in
-    let in_ports = second_tie dsts (ordering_then sports dports) in_targets in
-    λ i. record {
-      src = option_cmp-IsAntisymmetric ip_cmp ip_cmp-IsAntisymmetric a.src b.src (first_tie srcs (ordering_then dsts (ordering_then sports dports)) e) i;
-      dst = option_cmp-IsAntisymmetric ip_cmp ip_cmp-IsAntisymmetric a.dst b.dst (first_tie dsts (ordering_then sports dports) in_targets) i;
-      sport = option_cmp-IsAntisymmetric nat_cmp nat_cmp-IsAntisymmetric a.sport b.sport (first_tie sports dports in_ports) i;
-      dport = option_cmp-IsAntisymmetric nat_cmp nat_cmp-IsAntisymmetric a.dport b.dport (second_tie sports dports in_ports) i;
-    }
-
-action_cmp-IsAntisymmetric : IsAntisymmetric action_cmp
-action_cmp-IsAntisymmetric a b e = λ i. record {
-  port = record { 0 = nat_cmp-IsAntisymmetric a.port.0 b.port.0 (first_tie (nat_cmp a.port.0 b.port.0) (assign_cmp a.set b.set) e) i };
-  set = assign_cmp-IsAntisymmetric a.set b.set (second_tie (nat_cmp a.port.0 b.port.0) (assign_cmp a.set b.set) e) i;
-}
-
-actions_test : IsEqualityTest (pointwise (eq_by_cmp action_cmp))
-actions_test = pointwise_decides (from_itself (eq_by_cmp action_cmp) (same_from_tie action_cmp action_cmp-IsAntisymmetric) (ties_itself actions_total))
-
-rule_right : (a b : Rule) → same_rule a b ≡ true → a ≡ b
-rule_right a b e =
-    let both = and_parts (lies_within_cube a.cube b.cube && lies_within_cube b.cube a.cube) (pointwise (eq_by_cmp action_cmp) a.actions b.actions) e in
-    let cubes = and_parts (lies_within_cube a.cube b.cube) (lies_within_cube b.cube a.cube) both.0 in
-    let cube = cubes_antisym a.cube b.cube cubes.0 cubes.1 in
-    let actions = (actions_test a.actions b.actions).0 both.1 in
-    λ i. record { cube = cube i; actions = actions i }
-
-rule_itself : (a : Rule) → same_rule a a ≡ true
-rule_itself a = and_from _ _ (and_from _ _ (within_refl a.cube) (within_refl a.cube)) ((actions_test a.actions a.actions).1 refl)
-
--- rules of a pair, where it has some
-rules_test : IsEqualityTest (same_option (pointwise same_rule))
-rules_test = option_test (pointwise same_rule) (pointwise_decides (from_itself same_rule rule_right rule_itself))
-
 turned : (b : Bool) → not b ≡ false → b ≡ true
 turned true e = refl
 turned false e = absurd (cc)
 
 -- a pair whose rules aren't others has the same ones
 same_rules : (s s1 : State) (pair : Pair) → has_other_rules s s1 pair ≡ false → get s.table pair ≡ get s1.table pair
-same_rules s s1 pair same = (rules_test (get s.table pair) (get s1.table pair)).0 (turned (same_option (pointwise same_rule) (get s.table pair) (get s1.table pair)) same)
+same_rules s s1 pair same = (option_test (pointwise same_rule) rules_test (get s.table pair) (get s1.table pair)).0 (turned (same_option (pointwise same_rule) (get s.table pair) (get s1.table pair)) same)
 
 -- ---- how many rules a table has
 

@@ -4,6 +4,8 @@ pub mod JobUnits
 pub mod MergedTags
 pub mod MergedStates
 pub mod SharedTags
+pub mod SameRules
+pub mod ListedChanges
 pub mod EndedJobs
 pub mod AllSteps
 pub mod PortMacs

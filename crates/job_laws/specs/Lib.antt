@@ -4,3 +4,4 @@ pub mod Ending
 pub mod Sharing
 pub mod Steps
 pub mod Replying
+pub mod Changes
