@@ -23,9 +23,20 @@ use Rattle.job_laws.proofs.JobUnits.{all_few, owes_steady, rest_few, starts_late
 use Rattle.job_laws.proofs.OtherLines.{fits_alike, leaves_alike}
 use Rattle.job_laws.proofs.OwedUnits.{owed_after}
 use Rattle.job_laws.specs.Jobs.{IsSteadyInJob, is_of_job, without_job}
-use Rattle.job_laws.specs.Steps.{AllRunsStaySteady, AllStepsStaySteady, IsFormedBut}
+use Rattle.job_laws.specs.Steps.{AllRunsStaySteady, AllStepsStaySteady, IsFormedBut, SteadyWithoutJobs}
 use Rattle.job_laws.specs.Units.{owing}
 use Rattle.net_types.specs.Sets.{Member}
+
+-- ---- without a job
+
+pub steady_without_jobs : SteadyWithoutJobs
+steady_without_jobs s = (
+  λ steady. (record { steady = subst IsSteady (idle steady.idle) steady; few = subst OwesFew (sym steady.idle) tt }, steady.idle),
+  λ is. subst IsSteady (sym (idle is.1)) is.0.steady,
+)
+  where
+    idle : s.owed ≡ None → s ≡ without_job s
+    idle none i = record s { owed = none i }
 
 -- ---- a line that isn't a job's
 

@@ -11,6 +11,7 @@ use Rattle.events.specs.Tags.{capped, more_units}
 use Rattle.events.specs.declared.Event.{Event}
 use Rattle.events.specs.declared.Reply.{Reply}
 use Rattle.exchange_laws.specs.Rerouting.{IsRerouting, is_rerouting}
+use Rattle.exchange_laws.specs.Steady.{IsSteady}
 use Rattle.job_laws.specs.Jobs.{IsSteadyInJob, is_of_job, without_job}
 use Rattle.net_types.specs.Exports.{Routing}
 use Rattle.net_types.specs.Sets.{Member}
@@ -18,6 +19,10 @@ use Rattle.net_types.specs.Sets.{Member}
 -- What is so of an event, where it isn't one of a job's lines: these may have any content.
 abbrev pub IsFormedBut : Event → Type 0
 IsFormedBut e = is_of_job e ≡ false → IsWellFormed e
+
+-- a steady state is one in which a job may run, and none does
+abbrev pub SteadyWithoutJobs : Type 0
+SteadyWithoutJobs = (s : State) → IsSteady s ↔ (IsSteadyInJob s × (s.owed ≡ None))
 
 -- A line that isn't a job's has the same replies with a job as without one, and the same state after them, but for what the job
 -- owes.

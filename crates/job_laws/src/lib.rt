@@ -14,7 +14,7 @@ pub use ending::{jobs_end, merged_pairs_were_live, merged_tags_were_live, right_
 pub use replying::{all_lines_have_replies, all_runs_go_on};
 pub use sharing::{least_tags_stay, merged_prefixes_share, shared_tags_tell};
 pub use steps::{
-    all_runs_stay_steady, all_steps_stay_steady, jobs_leave_lines, units_are_added,
-    units_start_anew, units_stay,
+    all_runs_stay_steady, all_steps_stay_steady, jobs_leave_lines, steady_without_jobs,
+    units_are_added, units_start_anew, units_stay,
 };
 pub use units::{recompiles_are_accepted, works_are_accepted};

@@ -1,6 +1,11 @@
 //! Any line in a state in which a job may run.
 
-ghost use Rattle.job_laws.specs.Steps.{AllRunsStaySteady, AllStepsStaySteady, JobsLeaveLines, UnitsAreAdded, UnitsStartAnew, UnitsStay};
+ghost use Rattle.job_laws.specs.Steps.{AllRunsStaySteady, AllStepsStaySteady, JobsLeaveLines, SteadyWithoutJobs, UnitsAreAdded, UnitsStartAnew, UnitsStay};
+
+/// A steady state is one in which a job may run, and none does.
+pub fn steady_without_jobs()
+    ensures { SteadyWithoutJobs }
+{}
 
 /// A line that isn't a job's does the same with a job as without one, but for what the job owes.
 pub fn jobs_leave_lines()
