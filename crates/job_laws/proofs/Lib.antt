@@ -1,0 +1,12 @@
+pub mod OwedUnits
+pub mod OtherLines
+pub mod JobUnits
+pub mod MergedTags
+pub mod MergedStates
+pub mod SharedTags
+pub mod SameRules
+pub mod ListedChanges
+pub mod EndedJobs
+pub mod AllSteps
+pub mod PortMacs
+pub mod Replies
