@@ -1,5 +1,5 @@
 -- The tags of a grouping as a map, when one is put in and when the least one of its signature is asked for.
-use Rattle.std.proofs.Common.{◌≡◌, ◌∙◌, ◌≤◌, Bool, true, false, cond, List, sym, ap, subst, refl}
+use Rattle.std.proofs.Common.{◌≡◌, ◌∙◌, ◌≤◌, Bool, true, false, cond, List, sym, ap, refl}
 use Rattle.std.specs.Prelude.{Option, Some, None, is_some, option_copied}
 use Rattle.std.specs.Borrow.{Bor}
 use Rattle.std.specs.FinMap.{FinMap, from_sorted, get, get-insert, get-remove, insert, remove, same_map}
@@ -15,7 +15,7 @@ use Rattle.ordered_map.specs.Entries.{without}
 use Rattle.prefix_classes.proofs.BelowLemmas.{find-without}
 use Rattle.prefix_classes.proofs.LeastLemmas.{key}
 use Rattle.prefix_classes.proofs.PlacedLemmas.{is_sig_itself, put_in, same_sig}
-use Rattle.prefix_classes.specs.Placed.{IsIndexed, IsLeastBeside, is_sig, placed_cmp}
+use Rattle.prefix_classes.specs.Placed.{IsIndexed, IsLeastBeside, placed_cmp}
 use Rattle.prefix_classes.specs.declared.placed.Placed.{Placed}
 
 pub is_some-copied : {A : Type 0} (o : Option (Bor A)) → is_some (option_copied o) ≡ is_some o

@@ -1,12 +1,12 @@
 -- The first key above another one, and with it the least tag of a signature.
 use Rattle.std.proofs.Common.{◌≡◌, ◌∙◌, T, ◌<◌, ◌≤◌, Bool, true, false, cond, List, [], ◌∷◌, sym, ap, subst, refl, arith}
-use Rattle.std.specs.Prelude.{Option, Some, None, is_some}
+use Rattle.std.specs.Prelude.{Some, None, is_some}
 use Rattle.std.specs.Cmp.{IsTotalOrder, alike_right, ranked}
 use Rattle.std.proofs.lemmas.Cmp.{tied_itself}
 use Rattle.std.proofs.lemmas.Bool.{and_parts}
 use Rattle.std.specs.FinMap.Entries.{find, find-where_key, where_key, is_sorted, is_sorted-where_key, below_all}
 use Rattle.std.specs.Option.{unwrap_or}
-use Rattle.std.specs.Ordering.{eq_by_cmp, is_eq, is_lt, nat_cmp, ordering_reverse, ordering_then}
+use Rattle.std.specs.Ordering.{eq_by_cmp, is_lt, nat_cmp, ordering_reverse, ordering_then}
 use Rattle.std.specs.declared.cmp.Ordering.{Ordering}
 use Rattle.std.specs.declared.cmp.Ordering.TheVariants.{Less, Equal, Greater}
 use Rattle.net_types.proofs.TieLemmas.{tie_Equal, ties_itself}

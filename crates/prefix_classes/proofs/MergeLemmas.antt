@@ -1,5 +1,5 @@
 -- What the tags are once classes are merged.
-use Rattle.std.proofs.Common.{◌≡◌, ◌∙◌, ◌⊎◌, ◌<◌, ◌≤◌, ℕ, zero, suc, Bool, true, false, cond, List, [], ◌∷◌, map, sym, ap, subst, refl, arith, inl, inr}
+use Rattle.std.proofs.Common.{◌≡◌, ◌∙◌, ◌⊎◌, ◌<◌, ◌≤◌, ℕ, zero, suc, Bool, true, false, cond, List, map, sym, ap, subst, refl, arith, inl, inr}
 use Rattle.std.specs.Prelude.{◌↔◌, Option, Some, None, nat_lt}
 use Rattle.std.specs.FinMap.{FinMap, get}
 use Rattle.std.specs.Ordering.{eq_by_cmp}
@@ -82,13 +82,16 @@ module _ (tags : FinMap prefix_cmp Tag) (kept : FinMap tag_cmp (List Part)) wher
     where
       by : ((m : ℕ) → m < suc u.0 → has sig m ≡ false) ⊎ ((m : ℕ) × (has sig m ≡ true) × ((k : ℕ) → k < m → has sig k ≡ false)) → (t : Tag) × IsLeastTag tags kept sig t
       by (inl none) = absurd (false≢true (sym (none u.0 (omega arith)) ∙ is_sig_itself sig (used_sig tags kept u) is))
-      by (inr (m, there, lower)) = (record { 0 = m }, record {
-        has = same_sig sig (used_sig tags kept (record { 0 = m })) there;
-        least = λ v alike. elim (nat_lt v.0 m) as (λ b. nat_lt v.0 m ≡ b → m ≤ v.0) [
-          | true ↦ λ below. absurd (false≢true (sym (lower v.0 (ltb-true v.0 m below)) ∙ is_sig_itself sig (used_sig tags kept v) alike))
-          | false ↦ λ above. ltb-false v.0 m above
-        ] refl;
-      })
+      by (inr (m, there, lower)) = (
+        record { 0 = m },
+        record {
+          has = same_sig sig (used_sig tags kept (record { 0 = m })) there;
+          least = λ v alike. elim (nat_lt v.0 m) as (λ b. nat_lt v.0 m ≡ b → m ≤ v.0) [
+            | true ↦ λ below. absurd (false≢true (sym (lower v.0 (ltb-true v.0 m below)) ∙ is_sig_itself sig (used_sig tags kept v) alike))
+            | false ↦ λ above. ltb-false v.0 m above
+          ] refl;
+        },
+      )
 
   pub one_least : (sig : List Part) (t u : Tag) → IsLeastTag tags kept sig t → IsLeastTag tags kept sig u → t ≡ u
   one_least sig t u one other =

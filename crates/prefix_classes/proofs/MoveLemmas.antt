@@ -17,8 +17,8 @@ use Rattle.net_types.specs.declared.prefix.Prefix.{Prefix}
 use Rattle.net_types.specs.declared.route.Part.{Part}
 use Rattle.prefix_classes.proofs.BelowLemmas.{rest_sorted, shown}
 use Rattle.prefix_classes.proofs.MemberLemmas.{found_later, some_member}
-use Rattle.prefix_classes.proofs.MergeLemmas.{is_used, same_number, used_is}
-use Rattle.prefix_classes.specs.Merging.{IsFull, IsLeastTag, IsMergeOf, IsMove, used_sig}
+use Rattle.prefix_classes.proofs.MergeLemmas.{same_number, used_is}
+use Rattle.prefix_classes.specs.Merging.{IsFull, IsLeastTag, IsMergeOf, IsMove}
 use Rattle.prefix_classes.specs.Moving.{AreMoves, IsMoveAmong}
 use Rattle.prefix_classes.specs.Placed.{IsLeastBeside}
 
@@ -154,7 +154,6 @@ tags_agree t u r is agree = same_number u t (sym ((nat_test t.0 u.0).0 (by (nat_
     by : (b : Bool) → not b ≡ false → b ≡ true
     by true e = refl
     by false e = cc
-
 
 -- the moves so far, and the entries that are left
 pub record ArePlanned (g : FinMap tag_cmp (List Part)) (all left moves : List (Prefix × Tag)) : Type 0 where

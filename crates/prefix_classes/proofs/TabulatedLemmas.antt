@@ -4,7 +4,7 @@ use Rattle.std.specs.Prelude.{Option, Some, None}
 use Rattle.std.specs.Cmp.{ranked}
 use Rattle.std.specs.FinMap.{FinMap, get, same_map}
 use Rattle.std.specs.List.{cons_option, filter_map, list_any}
-use Rattle.std.specs.Ordering.{eq_by_cmp, is_lt, nat_cmp}
+use Rattle.std.specs.Ordering.{eq_by_cmp}
 use Rattle.std.specs.Option.{option_and_then}
 use Rattle.std.specs.declared.cmp.Ordering.TheVariants.{Less}
 use Rattle.std.proofs.lemmas.Bool.{false≢true}
@@ -26,7 +26,7 @@ use Rattle.net_types.specs.declared.route.Part.{Part}
 use Rattle.prefix_classes.proofs.BelowLemmas.{less}
 use Rattle.prefix_classes.proofs.MemberLemmas.{has_member, some_member}
 use Rattle.prefix_classes.proofs.MergeLemmas.{has_least, is_used, unmoved, used_is, no_move, some_is}
-use Rattle.prefix_classes.specs.MergeLaws.{HaveSignatures, least_tag, sig_at}
+use Rattle.prefix_classes.specs.MergeLaws.{HaveSignatures, least_tag}
 use Rattle.prefix_classes.specs.Merging.{IsLeastTag, IsMergeOf, moved, used_sig}
 
 -- ---- what a list gives through a function that may give nothing

@@ -1,5 +1,5 @@
 -- What the tags are once classes are merged.
-use Rattle.std.specs.Prelude.{◌≡◌, ◌↔◌, ◌<◌, List, filter, map, Option, Some, None}
+use Rattle.std.specs.Prelude.{◌≡◌, ◌↔◌, ◌<◌, List, filter, Option, Some, None}
 use Rattle.std.specs.FinMap.{FinMap, get}
 use Rattle.std.specs.List.{filter_map}
 use Rattle.std.specs.Option.{option_and_then}

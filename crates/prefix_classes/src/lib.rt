@@ -12,7 +12,6 @@ mod trimming;
 
 pub use class_map::ClassMap;
 pub use grouping::Grouping;
-pub use moves::Moves;
 pub use laws::{
     changed_prefixes_have_new_tags, changes_are_counted, least_tags_have_members,
     members_after_insert, members_after_remove, members_have_least_tags,
@@ -21,3 +20,4 @@ pub use laws::{
     no_members_no_prefix, only_moved_prefixes_differ, other_prefixes_keep_their_tags,
     tags_after_changes,
 };
+pub use moves::Moves;

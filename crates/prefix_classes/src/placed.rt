@@ -76,7 +76,10 @@ impl Ranked for Offer {
     fn rank(&self, other: &Offer) -> Ordering {
         let ports = self.port.0.cmp(&other.port.0);
         let holes = self.hole.cmp(&other.hole);
-        self.exporter.0.cmp(&other.exporter.0).then(ports.then(holes))
+        self.exporter
+            .0
+            .cmp(&other.exporter.0)
+            .then(ports.then(holes))
     }
 }
 

@@ -12,7 +12,7 @@ pub loop-prefix-preserved-in-Continue-branch-2 : goal.loop-prefix-preserved-in-C
 loop-prefix-preserved-in-Continue-branch-2 c =
     subst (ArePlanned c.args.grouping.now (entries c.args.tags.now.map) c.next.new.self) (sym c.in_ok-push.ensures.items)
     (planned_moves c.args.grouping.now c.args.tags.now.map c.loop-prefix.prefix-iterator c.next.new.self c.loop-prefix.moves.items c.in-Some.prefix c.in-Some.field-0-1.now c.loop-prefix.invariant c.in-Some.ensures.steps c.in_ok-least.least c.in_ok-least.ensures
-      (tags_differ c.in_ok-least.least c.in-Some.field-0-1.now c.ne.result c.ne.ensures c.if-ne.true))
+    (tags_differ c.in_ok-least.least c.in-Some.field-0-1.now c.ne.result c.ne.ensures c.if-ne.true))
 
 pub loop-prefix-preserved : goal.loop-prefix-preserved
 loop-prefix-preserved c =

@@ -42,9 +42,9 @@ loop-member-preserved c =
       kept = c.put.ensures.kept ∙ c.loop-member.invariant.kept;
       tagged = still_tagged c.args.moves at item item within here c.loop-member.self.tag c.put.new.self.tag c.put.ensures.tag c.loop-member.invariant.tagged;
       prefixes = (
-        let none = not_missing c.args.moves at item item within here c.loop-member.self.tag c.loop-member.invariant.tagged in
-        let before = c.loop-member.invariant.prefixes in
-        let after = c.put.ensures.prefixes in
-        omega (arith, none, before, after));
+          let none = not_missing c.args.moves at item item within here c.loop-member.self.tag c.loop-member.invariant.tagged in
+          let before = c.loop-member.invariant.prefixes in
+          let after = c.put.ensures.prefixes in
+          omega (arith, none, before, after));
       tags = c.put.ensures.tags ∙ c.loop-member.invariant.tags;
     }

@@ -20,6 +20,6 @@ returns c =
     let tags : c.self.inside.tags.map ≡ c.args.self.now.tag = ap (λ (s : Classes). s.tag) c.self.view_is in
     IfOk-weaker c.moves_by.result (AreMoves c.args.grouping.now (entries c.self.inside.tags.map)) (IsMergeOf c.args.self.now.tag c.args.self.now.kept)
     (λ moves are. all_merge c.args.self.now.tag c.args.self.now.kept c.args.grouping.now c.requires
-      (λ p t is. tag_is_kept c.self.inside.tags.map _ c.args.self.now.kept c.self.invariant (ap (λ (s : Classes). s.kept) c.self.view_is) p (Some t) (sym (ap (λ m. get m p) tags ∙ is)))
-      moves (subst (λ m. AreMoves c.args.grouping.now (entries m) moves) tags are))
+    (λ p t is. tag_is_kept c.self.inside.tags.map _ c.args.self.now.kept c.self.invariant (ap (λ (s : Classes). s.kept) c.self.view_is) p (Some t) (sym (ap (λ m. get m p) tags ∙ is)))
+    moves (subst (λ m. AreMoves c.args.grouping.now (entries m) moves) tags are))
     c.moves_by.ensures

@@ -18,10 +18,10 @@ least_from-requires-clause-listed c =
 pub unreachable-requires : goal.unreachable-requires
 unreachable-requires c =
     let none : is_some (get c.args.self.now c.args.tag) ≡ false = ap is_some (
-      ap (λ m. get m c.args.tag) (sym c.self.view_is)
-      ∙ get_sorted tag_cmp c.self.inside.tags.items c.args.tag c.self.invariant.tags_rise
-      ∙ sym c.get.ensures
-      ∙ ap option_copied c.in-None.is) in
+    ap (λ m. get m c.args.tag) (sym c.self.view_is)
+    ∙ get_sorted tag_cmp c.self.inside.tags.items c.args.tag c.self.invariant.tags_rise
+    ∙ sym c.get.ensures
+    ∙ ap option_copied c.in-None.is) in
     let both = sym c.requires ∙ none in
     cc
 
