@@ -126,7 +126,7 @@ count_is at low zero = refl
 count_is at low (suc count) = ap suc (count_is at (low + 1) count)
 
 state_length : (s : State) → length (all_present s) ≡ length s.routing.participants
-state_length s = length-map (present s) (pids s.routing) ∙ count_is pid_at 0 (length s.routing.participants)
+state_length s = length-map (pids s.routing) (present s) ∙ count_is pid_at 0 (length s.routing.participants)
 
 state_at : (s : State) (who : Pid) → who.0 < length s.routing.participants → present_to (all_present s) who ≡ present s who
 state_at s who declared =
