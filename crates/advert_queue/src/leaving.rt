@@ -1,0 +1,80 @@
+//! The tags that go with what a participant was told.
+
+ghost use Rattle.std.specs.Prelude.{◌≡◌, ◌<◌, ◌+◌, ◌^◌, None, IfOk, IsTrue, OnOk, map, filter, take};
+ghost use Rattle.std.specs.FinMap.{get};
+ghost use Rattle.std.specs.FinMap.Entries.{is_sorted};
+ghost use Rattle.net_types.specs.Keys.{tag_cmp};
+ghost use Rattle.net_types.specs.declared.address.Tag.{Tag as AnyTag};
+ghost use Rattle.advert_queue.specs.Changes.{tag_in};
+ghost use Rattle.advert_queue.specs.Counts.{AreCounts, AreUsed, IsRecounted, counted, entry_tag};
+ghost use Rattle.advert_queue.specs.Leaving.{is_gone, left};
+
+use crate::changes::News;
+use crate::counts::{Counts, count_of, raise};
+use events::Entry;
+use net_types::{Memory, Prefix, Tag};
+use prefix_map::PrefixMap;
+use std::alloc::Global;
+
+/// Counts the tag that a prefix was told, if any.
+fn count_told(counts: &mut Counts, told: &PrefixMap<Entry>, prefix: Prefix) -> Result<(), Memory>
+    requires rising { IsTrue (is_sorted tag_cmp counts.old.items) }
+    requires used { AreUsed counts.old.items }
+    requires small { (tag : AnyTag) → counted counts.old.items tag + 1 < 2 ^ 64 }
+    ensures { OnOk result (IsRecounted counts.old.items counts.new.items None (tag_in (get told.now.map prefix))) }
+{
+    let Some(entry) = told.get(prefix) else {
+        return Ok(());
+    };
+    counts.reserve(1)?;
+    raise(counts, entry.tag);
+    Ok(())
+}
+
+/// How many of the first prefixes that are news, so many, were told each tag.
+pub(crate) fn leaving(
+    alloc: Global,
+    told: &PrefixMap<Entry>,
+    news: &News,
+    count: usize,
+) -> Result<Counts, Memory>
+    ensures { IfOk result (λ counts. AreCounts counts.items (left told.now.map (take count news.now.items))) }
+{
+    let mut counts = Counts::new(alloc);
+    let mut seen = 0;
+    for (prefix, _) in news.iter() {
+        if seen == count {
+            return Ok(counts);
+        }
+        count_told(&mut counts, told, *prefix)?;
+        seen += 1;
+    }
+    Ok(counts)
+}
+
+/// Whether a tag that leaves so often is in use nowhere else.
+fn is_gone(told: &Counts, present: &Counts, tag: Tag, count: usize) -> bool
+    ensures { result ≡ is_gone told.now.items present.now.items (tag, count) }
+{
+    let in_told = count_of(told, tag);
+    let in_present = count_of(present, tag);
+    in_told == count && in_present == 0
+}
+
+/// Those of the tags that are in use nowhere else.
+pub(crate) fn gone(
+    alloc: Global,
+    leaving: &Counts,
+    told: &Counts,
+    present: &Counts,
+) -> Result<Vec<Tag>, Memory>
+    ensures { IfOk result (λ tags. tags.items ≡ map entry_tag (filter (is_gone told.now.items present.now.items) leaving.now.items)) }
+{
+    let mut tags = Vec::new(alloc);
+    for (tag, count) in leaving.iter() {
+        if is_gone(told, present, *tag, *count) {
+            tags.push(*tag)?;
+        }
+    }
+    Ok(tags)
+}
