@@ -1,10 +1,10 @@
 -- A map with changes made: what stands at each prefix, and what one change more makes of it.
-use Rattle.std.proofs.Common.{◌≡◌, ℕ, ◌+◌, ◌≤◌, Bool, true, false, cond, ◌&&◌, List, [], ◌∷◌, ◌++◌, take, drop, sym, ap, subst, ◌∙◌, refl, inl, inr}
+use Rattle.std.proofs.Common.{◌≡◌, Bool, true, false, cond, List, [], ◌∷◌, ◌++◌, sym, ap, ◌∙◌, refl}
 use Rattle.std.specs.Prelude.{Option, Some, None, unwrap_or}
 use Rattle.std.specs.Ordering.{eq_by_cmp}
 use Rattle.std.specs.FinMap.{FinMap, get, get-insert, get-remove, same_map}
 use Rattle.std.specs.FinMap.Entries.{find, find-put, put, is_sorted, below_all}
-use Rattle.std.proofs.lemmas.Bool.{and_from, and_parts, eqb-true, false≢true}
+use Rattle.std.proofs.lemmas.Bool.{and_from, and_parts, eqb-true}
 use Rattle.events.specs.Pending.{same_entry, with_news}
 use Rattle.events.specs.Tags.{same_tag}
 use Rattle.events.specs.declared.Entry.{Entry}
@@ -12,7 +12,7 @@ use Rattle.net_types.proofs.EqualLemmas.{IsEqualityTest, from_itself, option_tes
 use Rattle.net_types.proofs.OrderLemmas.{prefixes_total}
 use Rattle.net_types.proofs.PlaceLemmas.{put_sorted, without_sorted}
 use Rattle.net_types.proofs.SameLemmas.{attrs_itself, nat_itself}
-use Rattle.net_types.proofs.TieLemmas.{prefix_cmp-IsAntisymmetric, same_from_tie, tie_Equal, ties_itself}
+use Rattle.net_types.proofs.TieLemmas.{prefix_cmp-IsAntisymmetric, same_from_tie, tie_Equal}
 use Rattle.net_types.specs.Attributes.{same_attrs, same_option}
 use Rattle.net_types.specs.Keys.{prefix_cmp}
 use Rattle.net_types.specs.declared.prefix.Prefix.{Prefix}
@@ -42,12 +42,12 @@ entry_test = option_test same_entry (from_itself same_entry entries_equal entry_
 -- what the test answers of two entries that are seen as these
 module _ (a b x y : Option Entry) (answer : Bool) (left : a ≡ x) (right : b ≡ y) (is : answer ≡ same_option same_entry a b) where
   pub same_as : answer ≡ true → x ≡ y
-  same_as yes = (entry_test x y).0 ((λ i. same_option same_entry (sym left i) (sym right i)) ∙ sym is ∙ yes)
+  same_as e = (entry_test x y).0 ((λ i. same_option same_entry (sym left i) (sym right i)) ∙ sym is ∙ e)
 
   pub differs_from : answer ≡ false → x ≡ y → ⊥
-  differs_from no same =
-      let yes : same_option same_entry x y ≡ true = (entry_test x y).1 same in
-      let both : true ≡ false = sym yes ∙ (λ i. same_option same_entry (sym left i) (sym right i)) ∙ sym is ∙ no in
+  differs_from e same =
+      let alike : same_option same_entry x y ≡ true = (entry_test x y).1 same in
+      let both : true ≡ false = sym alike ∙ (λ i. same_option same_entry (sym left i) (sym right i)) ∙ sym is ∙ e in
       cc
 
 -- ---- one change

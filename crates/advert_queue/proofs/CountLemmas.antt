@@ -1,29 +1,28 @@
 -- How the numbers of entries that have each tag change with one entry.
-use Rattle.std.proofs.Common.{◌≡◌, ℕ, ◌+◌, ◌-◌, ◌≤◌, ◌<◌, ◌^◌, Bool, true, false, cond, ◌||◌, not, T, List, [], ◌∷◌, map, length, sym, ap, subst, ◌∙◌, refl, arith}
+use Rattle.std.proofs.Common.{◌≡◌, ℕ, ◌+◌, ◌-◌, ◌≤◌, ◌<◌, Bool, true, false, cond, ◌||◌, not, T, List, [], ◌∷◌, map, length, sym, ap, subst, ◌∙◌, refl, arith}
 use Rattle.std.specs.Prelude.{Option, Some, None, is_some, unwrap_or}
 use Rattle.std.specs.List.{list_any}
 use Rattle.std.specs.Ordering.{eq_by_cmp, is_eq, is_lt}
 use Rattle.std.specs.Cmp.{IsTotalOrder}
 use Rattle.std.specs.declared.cmp.Ordering.{Ordering}
 use Rattle.std.specs.declared.cmp.Ordering.TheVariants.{Less, Equal, Greater}
-use Rattle.std.specs.FinMap.{FinMap, IsAntisymmetric, get, insert, remove, empty, entries, entries_sorted, from_sorted, entries-from_sorted, same_entries_map, get-entries, entries-insert, len-entries, len-insert, len-remove, contains_key, len, values}
+use Rattle.std.specs.FinMap.{FinMap, get, remove, empty, entries, entries_sorted, from_sorted, entries-from_sorted, same_entries_map, get-entries, entries-insert}
 use Rattle.std.specs.FinMap.Entries.{find, find-put, put, is_sorted, below_all, by_order}
 use Rattle.std.proofs.lemmas.Bool.{and_parts}
 use Rattle.events.specs.Pending.{with_news}
 use Rattle.events.specs.Tags.{same_tag, tells}
 use Rattle.events.specs.declared.Entry.{Entry}
 use Rattle.net_types.proofs.OrderLemmas.{prefixes_total, tags_total}
-use Rattle.net_types.proofs.PlaceLemmas.{entries_of_sorted, put_sorted, remove_sorted, without_sorted}
-use Rattle.net_types.proofs.TieLemmas.{nat_ties, prefix_cmp-IsAntisymmetric, same_from_tie, tag_cmp-IsAntisymmetric, tie_Equal}
+use Rattle.net_types.proofs.PlaceLemmas.{entries_of_sorted, remove_sorted, without_sorted}
+use Rattle.net_types.proofs.TieLemmas.{nat_ties, prefix_cmp-IsAntisymmetric, same_from_tie, tag_cmp-IsAntisymmetric}
 use Rattle.net_types.proofs.ValueLemmas.{no_entries}
 use Rattle.net_types.specs.Keys.{prefix_cmp, tag_cmp}
 use Rattle.net_types.specs.declared.address.Tag.{Tag}
 use Rattle.net_types.specs.declared.prefix.Prefix.{Prefix}
 use Rattle.ordered_map.specs.Entries.{without}
-use Rattle.advert_queue.proofs.RisingEntries.{find_below, find_without, without_first}
+use Rattle.advert_queue.proofs.RisingEntries.{find_without, without_first}
 use Rattle.advert_queue.specs.Changes.{Change, changed, tag_in}
 use Rattle.advert_queue.specs.Counts.{AreCounts, AreUsed, IsRecounted, counted, has_tag, is_tag, is_tag_of, total, uses}
-use Rattle.advert_queue.specs.Leaving.{left}
 
 shown : (b : Bool) → T b → b ≡ true
 shown true h = refl

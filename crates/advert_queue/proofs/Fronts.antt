@@ -1,5 +1,5 @@
 -- What is made of the front of a list, item by item, until there is so much or the list ends.
-use Rattle.std.proofs.Common.{◌≡◌, ℕ, zero, suc, ◌+◌, ◌≤◌, ◌<◌, List, [], ◌∷◌, ◌++◌, map, take, drop, length, sym, ap, subst, ◌∙◌, refl, arith, inl, inr}
+use Rattle.std.proofs.Common.{◌≡◌, ℕ, zero, suc, ◌+◌, ◌≤◌, List, [], ◌∷◌, ◌++◌, map, take, drop, length, sym, ap, subst, ◌∙◌, refl, arith, inl, inr}
 use Rattle.std.proofs.lemmas.List.{take_all}
 use Rattle.net_types.specs.Sets.{Member}
 
@@ -59,8 +59,8 @@ module _ {A B : Type 0} (f : A → B) (all : List A) (count : ℕ) where
       record {
         rest = front_left (length made) all later x here ∙ ap (λ n. drop n all) (sym longer);
         front =
-          added ∙ (λ i. so_far.front i ++ is i ∷ []) ∙ sym (map_more (take (length made) all) x)
-          ∙ ap (map f) (sym (front_more (length made) all later x here)) ∙ ap (λ n. map f (take n all)) (sym longer);
+            added ∙ (λ i. so_far.front i ++ is i ∷ []) ∙ sym (map_more (take (length made) all) x)
+            ∙ ap (map f) (sym (front_more (length made) all later x here)) ∙ ap (λ n. map f (take n all)) (sym longer);
         few = (let before = so_far.few in omega (arith, before, longer, unfull));
       }
 
@@ -77,13 +77,21 @@ pub mapped_itself : {A : Type 0} (xs : List A) → map (λ x. x) xs ≡ xs
 mapped_itself [] = refl
 mapped_itself (x ∷ xs) = ap (λ ys. x ∷ ys) (mapped_itself xs)
 
+take_none : {A : Type 0} (n : ℕ) → take {A = A} n [] ≡ []
+take_none zero = refl
+take_none (suc n) = refl
+
+drop_none : {A : Type 0} (n : ℕ) → drop {A = A} n [] ≡ []
+drop_none zero = refl
+drop_none (suc n) = refl
+
 -- the front and the next one are a longer front
 pub front_take : {A : Type 0} (n : ℕ) (xs : List A) → take n xs ++ take 1 (drop n xs) ≡ take (n + 1) xs
 front_take zero xs = refl
-front_take (suc n) [] = refl
+front_take (suc n) [] = sym (take_none (suc n + 1))
 front_take (suc n) (x ∷ xs) = let next : suc n + 1 ≡ suc (n + 1) = omega arith in ap (λ ys. x ∷ ys) (front_take n xs) ∙ sym (ap (λ k. take k (x ∷ xs)) next)
 
 pub front_drop : {A : Type 0} (n : ℕ) (xs : List A) → drop 1 (drop n xs) ≡ drop (n + 1) xs
 front_drop zero xs = refl
-front_drop (suc n) [] = refl
+front_drop (suc n) [] = sym (drop_none (suc n + 1))
 front_drop (suc n) (x ∷ xs) = let next : suc n + 1 ≡ suc (n + 1) = omega arith in front_drop n xs ∙ sym (ap (λ k. drop k (x ∷ xs)) next)

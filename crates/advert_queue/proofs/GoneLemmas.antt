@@ -1,7 +1,7 @@
 -- The tags that go with what is told anew are those that the changed prefixes were told and that are in use nowhere else.
-use Rattle.std.proofs.Common.{◌≡◌, ℕ, zero, suc, ◌+◌, ◌≤◌, ◌<◌, ◌^◌, Bool, true, false, cond, ◌&&◌, ◌||◌, not, T, List, [], ◌∷◌, ◌++◌, map, filter, take, drop, length, sym, ap, subst, ◌∙◌, refl, arith, inl, inr}
+use Rattle.std.proofs.Common.{◌≡◌, ℕ, zero, suc, ◌+◌, ◌≤◌, ◌<◌, ◌^◌, Bool, true, false, cond, ◌&&◌, ◌||◌, not, List, [], ◌∷◌, ◌++◌, map, filter, take, drop, length, sym, ap, subst, ◌∙◌, refl, arith, inl, inr}
 use Rattle.std.specs.Prelude.{Option, Some, None, is_some, unwrap_or, nat_eq}
-use Rattle.std.specs.FinMap.{FinMap, get}
+use Rattle.std.specs.FinMap.{get}
 use Rattle.std.specs.FinMap.Entries.{find, is_sorted, is_some-find, below_all}
 use Rattle.std.specs.List.{list_any}
 use Rattle.std.specs.Ordering.{eq_by_cmp}
@@ -15,21 +15,21 @@ use Rattle.net_types.proofs.OrderedLemmas.{any_member, member_any, ordered_rises
 use Rattle.net_types.proofs.RisingLemmas.{before, filter-IsRising, filter-Member, Member-filter}
 use Rattle.net_types.proofs.TieLemmas.{same_from_tie, tag_cmp-IsAntisymmetric, tie_Equal}
 use Rattle.net_types.specs.Keys.{prefix_cmp, tag_cmp}
-use Rattle.net_types.specs.Sets.{IsRising, Member}
+use Rattle.net_types.specs.Sets.{Member}
 use Rattle.net_types.specs.declared.address.Tag.{Tag}
 use Rattle.net_types.specs.declared.prefix.Prefix.{Prefix}
-use Rattle.advert_queue.proofs.ChangedMaps.{Told, get_with, prefix_same}
+use Rattle.advert_queue.proofs.ChangedMaps.{Told, get_with}
 use Rattle.advert_queue.proofs.CountLemmas.{found_told, told_uses, untold_uses, uses_one, uses_with, has_tag-le, recounted}
 use Rattle.advert_queue.proofs.EntryLists.{found_itself, map-filter}
-use Rattle.advert_queue.proofs.Fronts.{front_all, front_left, front_more}
+use Rattle.advert_queue.proofs.Fronts.{front_all, front_more}
 use Rattle.advert_queue.proofs.PendingLemmas.{told_among}
 use Rattle.advert_queue.proofs.RisingEntries.{find_below, keys_rise, rising_alike, rising_by_any}
-use Rattle.advert_queue.proofs.TakenLemmas.{at_change, taken_member, told_are}
-use Rattle.advert_queue.specs.Changes.{AreNews, Change, changed, limited, tag_in}
+use Rattle.advert_queue.proofs.TakenLemmas.{at_change, taken_member}
+use Rattle.advert_queue.specs.Changes.{AreNews, Change, changed, tag_in}
 use Rattle.advert_queue.specs.Counts.{AreCounts, IsRecounted, counted, entry_tag, has_tag, uses}
 use Rattle.advert_queue.specs.Leaving.{is_gone, left}
 use Rattle.advert_queue.specs.Advertised.{is_told}
-use Rattle.advert_queue.specs.Taken.{gone_tags, told_then, untold}
+use Rattle.advert_queue.specs.Taken.{gone_tags, untold}
 use Rattle.advert_queue.specs.Telling.{tags_of}
 
 tag_same : (t u : Tag) → eq_by_cmp tag_cmp t u ≡ true → t ≡ u
@@ -109,7 +109,7 @@ front_sorted (suc n) (c ∷ cs) sorted =
 -- ---- the tags that go
 
 module _ (told : Told) (cs : List Change) (sorted : is_sorted prefix_cmp cs ≡ true) (news : AreNews told cs) (count : ℕ) (ls ts ps : List (Tag × ℕ))
-  (leaving : AreCounts ls (left told (take count cs))) (in_told : AreCounts ts (uses told)) (in_present : AreCounts ps (uses (changed told cs))) where
+    (leaving : AreCounts ls (left told (take count cs))) (in_told : AreCounts ts (uses told)) (in_present : AreCounts ps (uses (changed told cs))) where
   abbrev present : Told
   present = changed told cs
 
@@ -211,10 +211,10 @@ module _ (told : Told) (cs : List Change) (sorted : is_sorted prefix_cmp cs ≡ 
 
   pub gone_are : map entry_tag (filter (is_gone ts ps) ls) ≡ gone_tags told then present
   gone_are = listed ∙ rising_alike tag_cmp tags_total tag_same (filter goes (map entry_tag ls)) (gone_tags told then present)
-    (filter-IsRising (before tag_cmp) goes (map entry_tag ls) (keys_rise tag_cmp tags_total ls leaving.rising))
-    (filter-IsRising (before tag_cmp) (not_told (then ∷ [])) (untold (present ∷ []) (tags_of told))
-    (filter-IsRising (before tag_cmp) (not_told (present ∷ [])) (tags_of told) (ordered_rises tag_cmp tags_total tag_same _)))
-    (record { onto = onto; back = back })
+      (filter-IsRising (before tag_cmp) goes (map entry_tag ls) (keys_rise tag_cmp tags_total ls leaving.rising))
+      (filter-IsRising (before tag_cmp) (not_told (then ∷ [])) (untold (present ∷ []) (tags_of told))
+      (filter-IsRising (before tag_cmp) (not_told (present ∷ [])) (tags_of told) (ordered_rises tag_cmp tags_total tag_same _)))
+      (record { onto = onto; back = back })
 
 -- ---- the tags so far
 

@@ -1,20 +1,18 @@
 -- Entries whose keys rise: the first one, its removal, and lists that rise and have the same members.
-use Rattle.std.proofs.Common.{◌≡◌, ℕ, zero, suc, ◌+◌, ◌≤◌, ◌<◌, Bool, true, false, cond, ◌&&◌, not, T, List, [], ◌∷◌, map, take, drop, length, sym, ap, subst, ◌∙◌, refl, arith}
-use Rattle.std.specs.Prelude.{Option, Some, None, is_some}
+use Rattle.std.proofs.Common.{◌≡◌, ◌+◌, ◌≤◌, Bool, true, false, cond, not, T, List, [], ◌∷◌, map, drop, length, sym, ap, subst, ◌∙◌, refl, arith}
+use Rattle.std.specs.Prelude.{Some, None, is_some}
 use Rattle.std.specs.Cmp.{IsTotalOrder, alike_right, eq_by_cmp_equiv}
 use Rattle.std.specs.List.{list_any}
 use Rattle.std.specs.Ordering.{eq_by_cmp, is_eq, is_lt}
 use Rattle.std.specs.declared.cmp.Ordering.{Ordering}
 use Rattle.std.specs.declared.cmp.Ordering.TheVariants.{Less, Equal, Greater}
-use Rattle.std.specs.FinMap.{keys, from_sorted}
-use Rattle.std.specs.FinMap.Entries.{find, is_sorted, below_all, find-where_key, is_some-find, length-put, length_without, put}
+use Rattle.std.specs.FinMap.{from_sorted}
+use Rattle.std.specs.FinMap.Entries.{find, is_sorted, below_all, find-where_key, length-put, length_without, put}
 use Rattle.std.proofs.lemmas.Bool.{and_parts}
 use Rattle.net_types.proofs.OrderedLemmas.{any_member, member_any, ordered_is}
 use Rattle.net_types.proofs.PlaceLemmas.{entries_of_sorted}
 use Rattle.net_types.proofs.RisingLemmas.{before, keys-IsRising}
-use Rattle.net_types.proofs.TieLemmas.{tie_Equal}
-use Rattle.net_types.specs.Maps.{ordered}
-use Rattle.net_types.specs.Sets.{IsRising, Member, SameMembers}
+use Rattle.net_types.specs.Sets.{IsRising, SameMembers}
 use Rattle.ordered_map.specs.Entries.{head_of, without}
 
 less : (r : Ordering) → is_lt r ≡ true → r ≡ Less

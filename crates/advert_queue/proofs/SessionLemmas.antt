@@ -1,8 +1,8 @@
 -- What is kept of a participant stays right through an offer, and where some of what is news is told.
-use Rattle.std.proofs.Common.{◌≡◌, ℕ, zero, suc, ◌+◌, ◌-◌, ◌≤◌, ◌<◌, ◌^◌, true, false, cond, List, [], ◌∷◌, take, drop, length, sym, ap, subst, ◌∙◌, refl, arith}
+use Rattle.std.proofs.Common.{◌≡◌, ℕ, ◌+◌, ◌≤◌, ◌<◌, ◌^◌, true, cond, List, [], ◌∷◌, take, drop, length, sym, ap, subst, ◌∙◌, arith}
 use Rattle.std.specs.Prelude.{Option, Some, None, IfSome, unwrap_or}
 use Rattle.std.specs.Ordering.{eq_by_cmp}
-use Rattle.std.specs.FinMap.{FinMap, empty, entries, get}
+use Rattle.std.specs.FinMap.{empty, entries, get}
 use Rattle.std.specs.FinMap.Entries.{find, is_sorted, below_all}
 use Rattle.std.proofs.lemmas.Bool.{and_parts}
 use Rattle.events.specs.Pending.{with_news}
@@ -31,7 +31,7 @@ abbrev pub News : Type 0
 News = Held Prefix (Option Entry)
 
 is_tag-itself : (t : Tag) → is_tag t t ≡ 1
-is_tag-itself t = is_tag_ties t t ∙ ap (λ b. let n : ℕ = elim b as (λ b. ℕ) [ true ↦ 1 | false ↦ 0 ] in n) (ties_itself tags_total t)
+is_tag-itself t = is_tag_ties t t ∙ ap (λ b. let n : ℕ = cond b 1 0 in n) (ties_itself tags_total t)
 
 -- the tag of what stands at a prefix is in use
 pub in_use : (cs : List (Tag × ℕ)) (m : Told) (k : Prefix) (before : Option Tag) → AreCounts cs (uses m) → before ≡ tag_in (get m k) → IfSome before (λ (tag : Tag). 0 < counted cs tag)
@@ -71,9 +71,9 @@ module _ (told : prefixes.Held Entry) (news later : News) (told_tags tags counts
       fits = (let old = kept.tellable.fits in omega (arith, old, few, less));
     };
     counts =
-      recounted tags.items counts.items before after (uses (changed told.map news.items)) (uses (changed told.map later.items)) kept.counts step (λ t.
-      (λ i. uses (present i) t + has_tag t (was i)) ∙ uses_with (changed told.map news.items) k entry t
-      ∙ ap (λ o. uses (changed told.map news.items) t + has_tag t o) (sym is));
+        recounted tags.items counts.items before after (uses (changed told.map news.items)) (uses (changed told.map later.items)) kept.counts step (λ t.
+        (λ i. uses (present i) t + has_tag t (was i)) ∙ uses_with (changed told.map news.items) k entry t
+        ∙ ap (λ o. uses (changed told.map news.items) t + has_tag t o) (sym is));
     news_room = (let old = kept.news_room in omega (arith, old, news_room, less));
     tags_room = (let old = kept.tags_room in omega (arith, old, tags_room, less));
   }
@@ -95,8 +95,8 @@ module _ (told then : prefixes.Held Entry) (news later : News) (tags counts : Ta
         rising = parts.1;
         differ = subst (λ m. AreNews m later.items) (sym is) (news_left told.map c later.items sorted all);
         counts =
-          recounted tags.items counts.items before after (uses told.map) (uses then.map) kept.counts step (λ t.
-          (λ i. uses (is i) t + has_tag t (was i)) ∙ uses_with told.map c.0 c.1 t ∙ ap (λ o. uses told.map t + has_tag t o) (sym now));
+            recounted tags.items counts.items before after (uses told.map) (uses then.map) kept.counts step (λ t.
+            (λ i. uses (is i) t + has_tag t (was i)) ∙ uses_with told.map c.0 c.1 t ∙ ap (λ o. uses told.map t + has_tag t o) (sym now));
         told_room = (let old = kept.told_room in omega (arith, old, longer, told_room));
         tags_room = (let old = kept.tags_room in omega (arith, old, longer, tags_room));
         fits = (let old = kept.fits in let one = length_with told.map c.0 c.1 in let len = ap (λ m. length (entries m)) is in omega (arith, old, longer, one, len));
@@ -119,13 +119,15 @@ pub taken_kept : (told then : prefixes.Held Entry) (news later : News) (told_tag
     → IsTellable then later then_tags room → then.map ≡ changed told.map (take count news.items) → later.items ≡ drop count news.items → room ≤ later.room
     → (changed then.map later.items ≡ changed told.map news.items) × IsKept then later then_tags tags room
 taken_kept told then news later told_tags then_tags tags room count kept tellable is rest news_room =
-    let stays : changed then.map later.items ≡ changed told.map news.items = (λ i. changed (is i) (rest i)) ∙ present_stays told.map news.items kept.tellable.rising kept.tellable.differ count in
-    (stays, record {
-      tellable = tellable;
-      counts = subst (λ m. AreCounts tags.items (uses m)) (sym stays) kept.counts;
-      news_room = news_room;
-      tags_room = kept.tags_room;
-    })
+    let stays : changed then.map later.items ≡ changed told.map news.items = (λ i. changed (is i) (rest i)) ∙ present_stays told.map news.items kept.tellable.rising kept.tellable.differ count in (
+      stays,
+      record {
+        tellable = tellable;
+        counts = subst (λ m. AreCounts tags.items (uses m)) (sym stays) kept.counts;
+        news_room = news_room;
+        tags_room = kept.tags_room;
+      },
+    )
 
 -- ---- the beginning
 

@@ -1,10 +1,8 @@
 -- What is pending is what is news, and what becomes of it when some is told.
-use Rattle.std.proofs.Common.{◌≡◌, ℕ, zero, suc, ◌+◌, ◌≤◌, ◌<◌, min, Bool, true, false, not, List, [], ◌∷◌, ◌++◌, map, filter, take, drop, length, sym, ap, subst, ◌∙◌, refl, arith, inl, inr}
+use Rattle.std.proofs.Common.{◌≡◌, ℕ, zero, suc, ◌≤◌, Bool, true, false, not, List, [], ◌∷◌, ◌++◌, map, take, drop, length, sym, ap, subst, ◌∙◌, refl, arith, inl, inr}
 use Rattle.std.specs.Prelude.{Option, Some, None, IfSome, is_some, unwrap_or}
-use Rattle.std.specs.FinMap.{FinMap, get, keys, contains_key-keys}
+use Rattle.std.specs.FinMap.{get, keys, contains_key-keys}
 use Rattle.std.specs.FinMap.Entries.{find, is_sorted, is_some-find}
-use Rattle.std.specs.List.{list_any}
-use Rattle.std.specs.Ordering.{eq_by_cmp}
 use Rattle.std.proofs.lemmas.Bool.{false_from_ne_true}
 use Rattle.std.proofs.lemmas.List.{length-map, take-append-drop, take-map, take_all, take_min}
 use Rattle.events.specs.Pending.{same_entry, with_all_news, with_news}
@@ -16,7 +14,7 @@ use Rattle.net_types.proofs.SetLemmas.{Member-append_left, Member-append_right, 
 use Rattle.net_types.specs.Attributes.{same_option}
 use Rattle.net_types.specs.Keys.{prefix_cmp}
 use Rattle.net_types.specs.Maps.{ordered}
-use Rattle.net_types.specs.Sets.{IsRising, Member}
+use Rattle.net_types.specs.Sets.{Member}
 use Rattle.net_types.specs.declared.address.Ip.{Ip}
 use Rattle.net_types.specs.declared.prefix.Prefix.{Prefix}
 use Rattle.advert_queue.proofs.ChangedMaps.{Told, changed-append, entry_test, get_change, get_changed}

@@ -71,12 +71,7 @@ fn is_same(one: Option<&Entry>, other: Option<&Entry>) -> bool
 }
 
 /// Makes an entry present at a prefix, or none: it is news unless it is what was told.
-pub(crate) fn note(
-    told: &PrefixMap<Entry>,
-    news: &mut News,
-    prefix: Prefix,
-    entry: Option<Entry>,
-)
+pub(crate) fn note(told: &PrefixMap<Entry>, news: &mut News, prefix: Prefix, entry: Option<Entry>)
     requires rising { IsTrue (is_sorted prefix_cmp news.old.items) }
     requires differ { AreNews told.now.map news.old.items }
     requires room { 0 < news.old.room }
@@ -128,12 +123,7 @@ fn tell_first(told: &mut PrefixMap<Entry>, news: &mut News, counts: &mut Counts)
 }
 
 /// Tells the first of what is news, so many.
-pub(crate) fn tell(
-    told: &mut PrefixMap<Entry>,
-    news: &mut News,
-    counts: &mut Counts,
-    count: usize,
-)
+pub(crate) fn tell(told: &mut PrefixMap<Entry>, news: &mut News, counts: &mut Counts, count: usize)
     requires enough { count ≤ length news.old.items }
     requires kept { IsTellable told.old news.old counts.old 0 }
     ensures told { told.new.map ≡ changed told.old.map (take count news.old.items) }
@@ -141,7 +131,7 @@ pub(crate) fn tell(
     ensures room { news.old.room ≤ news.new.room }
     ensures kept { (more : ℕ) → IsTellable told.old news.old counts.old more → IsTellable told.new news.new counts.new more }
 {
-    for _told in 0..count {
+    for _done in 0..count {
         tell_first(told, news, counts);
     }
 }

@@ -2,12 +2,14 @@
 
 ghost use Rattle.std.specs.Prelude.{◌≡◌, ◌≤◌, ◌<◌, ◌+◌, ◌++◌, ◌∷◌, [], ◌||◌, Some, IfOk, IfSome, OnOk, OnErr, length, option_copied, slice_set};
 ghost use Rattle.std.specs.FinMap as map;
+ghost use Rattle.std.specs.List.{list_any};
 ghost use Rattle.std.specs.Option.{option_map};
 ghost use Rattle.events.specs.Tags.{tells};
 ghost use Rattle.net_types.specs.Routes.{longest_of};
 ghost use Rattle.net_types.specs.declared.address.Pid.{Pid as AnyPid};
 ghost use Rattle.net_types.specs.declared.prefix.Prefix.{Prefix as AnyPrefix};
 ghost use Rattle.advert_queue.specs.Advertised.{HasQueue, first_pending, is_told, offered, present_of, room_of, told_of};
+ghost use Rattle.advert_queue.specs.Kept.{Queued};
 ghost use Rattle.advert_queue.specs.Taken.{gone_tags, news_of, told_then};
 ghost use Rattle.advert_queue.specs.Telling.{adverts, tags_of};
 
@@ -157,7 +159,7 @@ impl Adverts {
     pub fn is_told(&self, tag: Tag) -> bool
         ensures { result ≡ is_told self.now.told tag }
     {
-        self.sessions.iter().any(|session| session.tells(tag))
+        some_tells(&self.sessions, tag)
     }
 
     /// What a participant was told of a prefix, if anything.
@@ -194,4 +196,11 @@ impl Adverts {
     {
         &self.sessions[who.0 as usize]
     }
+}
+
+/// Whether one of them was told the tag.
+fn some_tells(sessions: &[Session], tag: Tag) -> bool
+    ensures { result ≡ list_any (λ (session : Queued). tells session.told tag) sessions.now }
+{
+    sessions.iter().any(|session| session.tells(tag))
 }

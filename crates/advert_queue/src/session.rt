@@ -11,11 +11,11 @@ ghost use Rattle.advert_queue.specs.Advertised.{first_pending};
 ghost use Rattle.advert_queue.specs.Taken.{gone_tags, news_of, told_then};
 ghost use Rattle.advert_queue.specs.Telling.{adverts, tags_of};
 
-use crate::counts::{Counts, is_used, recount, used_tags};
-use crate::leaving::{gone, leaving};
 use crate::changes::{
     Entries, News, first_entries, first_messages, limited, note, present_tag, tag_of, tell,
 };
+use crate::counts::{Counts, is_used, recount, used_tags};
+use crate::leaving::{gone, leaving};
 use events::{Entry, Messages};
 use net_types::{Ip, Memory, Prefix, Tag};
 use prefix_map::PrefixMap;

@@ -1,12 +1,10 @@
-use Rattle.std.proofs.Common.{◌≡◌, ◌≤◌, ◌+◌, true, length, sym, ap, subst, ◌∙◌, arith}
+use Rattle.std.proofs.Common.{◌≡◌, length, sym, ap, subst, ◌∙◌, arith}
 use Rattle.std.specs.FinMap.{get}
-use Rattle.events.specs.Pending.{same_entry}
 use Rattle.net_types.proofs.OrderLemmas.{prefixes_total}
-use Rattle.net_types.specs.Attributes.{same_option}
 use Rattle.net_types.specs.Keys.{prefix_cmp}
 use Rattle.advert_queue.proofs.ChangedMaps.{changed_put, changed_without, differs_from, news_put, news_without, same_as}
 use Rattle.advert_queue.proofs.RisingEntries.{fewer_without, length_put}
-use Rattle.advert_queue.specs.Changes.{AreNews, Change, changed}
+use Rattle.advert_queue.specs.Changes.{AreNews, changed}
 use Rattle.advert_queue.proofs.changes.note.Goals as goal
 
 pub returns-then-is_same-clause-differ : goal.returns-then-is_same-clause-differ

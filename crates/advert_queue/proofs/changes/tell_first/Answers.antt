@@ -1,6 +1,5 @@
-use Rattle.std.proofs.Common.{◌≡◌, ◌+◌, ◌∷◌, drop, length, sym, ap, ◌∙◌, refl, arith, take}
+use Rattle.std.proofs.Common.{◌≡◌, drop, sym, ap, ◌∙◌, refl, arith, take}
 use Rattle.std.specs.Prelude.{Some}
-use Rattle.std.specs.FinMap.{entries}
 use Rattle.ordered_map.specs.Entries.{head_of}
 use Rattle.advert_queue.proofs.SessionLemmas.{can_rise, first_news, in_use, told_first}
 use Rattle.advert_queue.specs.Changes.{Change, changed, tag_in}

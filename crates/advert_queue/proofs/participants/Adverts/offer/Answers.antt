@@ -1,8 +1,7 @@
-use Rattle.std.proofs.Common.{◌≡◌, ◌≤◌, sym, ap, subst, ◌∙◌, arith}
-use Rattle.std.specs.Prelude.{slice_set}
+use Rattle.std.proofs.Common.{sym, ap, ◌∙◌, arith}
 use Rattle.events.specs.Pending.{with_news}
 use Rattle.advert_queue.proofs.PlacesOf.{declared, present_here, present_set, room_here, room_other, room_then, told_same}
-use Rattle.advert_queue.specs.Advertised.{Advertised, offered, present_of, room_of}
+use Rattle.advert_queue.specs.Advertised.{Advertised, offered, room_of}
 use Rattle.advert_queue.proofs.participants.Adverts.offer.Goals as goal
 
 pub offer-requires : goal.offer-requires

@@ -4,7 +4,7 @@ use Rattle.std.specs.FinMap.{get}
 use Rattle.events.specs.declared.Entry.{Entry}
 use Rattle.net_types.specs.declared.prefix.Prefix.{Prefix}
 use Rattle.advert_queue.proofs.TakenLemmas.{messages_are, small_news}
-use Rattle.advert_queue.specs.Changes.{Change, changed, limited, message_of}
+use Rattle.advert_queue.specs.Changes.{limited, message_of}
 use Rattle.advert_queue.specs.Kept.{Queued}
 use Rattle.advert_queue.specs.Taken.{news_of}
 use Rattle.advert_queue.specs.Telling.{adverts}

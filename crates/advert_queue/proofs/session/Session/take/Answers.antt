@@ -1,4 +1,4 @@
-use Rattle.std.proofs.Common.{◌≡◌, ◌≤◌, length, take, sym, ap, ◌∙◌, arith}
+use Rattle.std.proofs.Common.{◌≡◌, length, take, sym, ap, ◌∙◌, arith}
 use Rattle.advert_queue.proofs.SessionLemmas.{none_more, taken_kept}
 use Rattle.advert_queue.proofs.TakenLemmas.{limited-le, told_are}
 use Rattle.advert_queue.specs.Changes.{changed, limited}
