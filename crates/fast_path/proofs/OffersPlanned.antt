@@ -28,7 +28,7 @@ use Rattle.net_types.specs.declared.route.Attrs.{Attrs}
 use Rattle.net_types.specs.declared.route.Part.{Part}
 use Rattle.fast_path.proofs.CommittedMaps.{stands_or_not}
 use Rattle.fast_path.proofs.ListPlaces.{mapped_at}
-use Rattle.fast_path.proofs.OfferedPresent.{number_at, pid_at}
+use Rattle.fast_path.proofs.OfferedPresent.{listed_at, pid_at}
 use Rattle.fast_path.specs.Grouping.{Known, change_before, changes_of, tag_after}
 use Rattle.fast_path.specs.Offers.{AreOffers, IsOffered, advert_of, adverts_from, best_at, entry_of, others, tagged}
 use Rattle.fast_path.specs.declared.fresh.Fresh.{Fresh}
@@ -105,7 +105,7 @@ module _ (p : Proposed) (s : State) (ps : List Prefix) (bests : p.bests ≡ map 
   best_is : (n : ℕ) (q : Prefix) (who : Pid) → slice_get p.bests n ≡ Some (bests_of q) → who.0 < length s.routing.participants → best_at p n who ≡ best_attrs s.routing who q
   best_is n q who at within =
       ap (λ o. option_and_then (λ (b : Option Attrs). b) (slice_get (unwrap_or o []) who.0)) at
-      ∙ ap (option_and_then (λ (b : Option Attrs). b)) (mapped_at (λ to. best_attrs s.routing to q) (pids s.routing) who.0 who (number_at pid_at 0 (length s.routing.participants) who.0 within))
+      ∙ ap (option_and_then (λ (b : Option Attrs). b)) (mapped_at (λ to. best_attrs s.routing to q) (pids s.routing) who.0 who (listed_at (length s.routing.participants) who within))
 
   advert_is : (n : ℕ) (q : Prefix) (who : Pid) → slice_get p.bests n ≡ Some (bests_of q) → who.0 < length s.routing.participants → advert_of (best_at p n) (with_tag q) who ≡ advert q who
   advert_is n q who at within = λ i. record { who = who; prefix = q; entry = (ap (λ b. entry_of b (get s.tag q)) (best_is n q who at within) ∙ entry_is s who q) i }
