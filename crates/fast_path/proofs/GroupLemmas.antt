@@ -3,11 +3,9 @@ use Rattle.std.proofs.Common.{◌≡◌, ℕ, zero, suc, ◌+◌, ◌<◌, Bool,
 use Rattle.std.specs.Prelude.{Option, Some, ◌≤◌, nat_lt, slice_get, slice_index_or, unwrap_or}
 use Rattle.std.proofs.lemmas.Bool.Decides.{nat_tests}
 use Rattle.std.proofs.lemmas.List.{append_assoc, append-nil, map-append, drop_all}
-use Rattle.std.specs.FinMap.{get}
 use Rattle.std.specs.List.{list_any, position_from}
-use Rattle.net_types.specs.Attributes.{same_option}
 use Rattle.events.specs.declared.TagChange.{TagChange}
-use Rattle.events.specs.Tags.{Group, same_group, same_tag}
+use Rattle.events.specs.Tags.{Group, same_group}
 use Rattle.net_types.specs.declared.address.Tag.{Tag}
 use Rattle.net_types.specs.declared.prefix.Prefix.{Prefix}
 use Rattle.net_types.specs.declared.route.Part.{Part}

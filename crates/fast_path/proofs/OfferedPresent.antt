@@ -1,5 +1,5 @@
 -- With a plan's offers made, what is present for each participant is what is present for it in the state afterwards.
-use Rattle.std.proofs.Common.{◌≡◌, ℕ, ◌+◌, ◌<◌, ◌≤◌, ◌≢◌, ◌⊎◌, Bool, true, false, cond, eqb, List, [], ◌∷◌, zero, suc, length, map, get_or, set, length-set, get_or-set_same, get_or-set_other, eq-eqb, sym, ap, subst, ◌∙◌, refl, arith, inl, inr}
+use Rattle.std.proofs.Common.{◌≡◌, ℕ, ◌+◌, ◌<◌, ◌≢◌, ◌⊎◌, Bool, true, false, cond, eqb, List, [], ◌∷◌, zero, suc, length, map, get_or, length-set, get_or-set_same, get_or-set_other, eq-eqb, sym, ap, subst, ◌∙◌, refl, arith, inl, inr}
 use Rattle.std.specs.Prelude.{Option, Some, None, slice_get, unwrap_or}
 use Rattle.std.specs.FinMap.{FinMap, empty, get, get-insert, get-remove, same_map}
 use Rattle.std.specs.Ordering.{eq_by_cmp}

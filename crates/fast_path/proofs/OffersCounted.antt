@@ -1,13 +1,11 @@
 -- Steps of the loops over offers, and how many are offered to a participant.
-use Rattle.std.proofs.Common.{◌≡◌, ℕ, zero, suc, ◌+◌, ◌-◌, ◌<◌, ◌≤◌, ◌≢◌, Bool, true, false, cond, eqb, List, [], ◌∷◌, ◌++◌, drop, length, map, get_or, set, take, append_assoc, append-nil, eq-eqb, get_or-set_same, get_or-set_other, sym, ap, subst, ◌∙◌, refl, arith, inl, inr}
+use Rattle.std.proofs.Common.{◌≡◌, ℕ, zero, suc, ◌+◌, ◌-◌, ◌<◌, ◌≤◌, Bool, true, false, cond, eqb, List, [], ◌∷◌, ◌++◌, drop, length, map, get_or, set, take, append_assoc, append-nil, eq-eqb, get_or-set_same, get_or-set_other, sym, ap, subst, ◌∙◌, refl, arith}
 use Rattle.std.specs.Prelude.{slice_get, unwrap_or}
 use Rattle.std.proofs.lemmas.Bool.{eqb-true}
 use Rattle.std.proofs.lemmas.List.{length-take-le}
 use Rattle.std.proofs.lemmas.List.Sums.{count_by-le-length, count_by_more_no, count_by_more_yes, sum_by-cons}
-use Rattle.std.proofs.lemmas.Option.{unwrap_or-slice_get}
 use Rattle.events.specs.declared.TagChange.{TagChange}
 use Rattle.net_types.specs.Routes.{numbers}
-use Rattle.net_types.specs.Sets.{Member}
 use Rattle.net_types.specs.declared.address.Pid.{Pid}
 use Rattle.fast_path.proofs.Loops.{rest_is}
 use Rattle.fast_path.proofs.OfferedPresent.{pid_at}

@@ -1,4 +1,4 @@
-use Rattle.std.proofs.Common.{◌≡◌, ◌+◌, ◌<◌, ◌≤◌, length, length-set, sym, ap, subst, take, ◌∙◌, arith}
+use Rattle.std.proofs.Common.{◌+◌, ◌<◌, length, length-set, sym, subst, take, ◌∙◌, arith}
 use Rattle.net_types.proofs.MemberLemmas.{Member-at}
 use Rattle.fast_path.proofs.OffersCounted.{count_at, count_few, counted_more}
 use Rattle.fast_path.proofs.offering.counts.Goals as goal
@@ -15,7 +15,7 @@ overflow_add-index_mut c =
     let few = count_few c.args.offers.now c.loop-offer.offer-index c.offer-item.result.who.0 (omega arith) in
     let known : c.offer-item.result.who.0 < c.args.participants = c.requires _ (Member-at c.args.offers.now c.loop-offer.offer-index c.offer-item.result c.offer-item.result c.loop-offer-test.true (sym c.offer-item.is)) in
     let counted = count_at (take c.loop-offer.offer-index c.args.offers.now) c.loop-offer.counts.items c.offer-item.result.who.0 c.index_mut.result.now c.loop-offer.invariant.counted
-        (subst (λ n. c.offer-item.result.who.0 < n) (sym c.loop-offer.invariant.long) known) c.index_mut.ensures.value in
+    (subst (λ n. c.offer-item.result.who.0 < n) (sym c.loop-offer.invariant.long) known) c.index_mut.ensures.value in
     omega (arith, few, counted)
 
 pub loop-offer-preserved : goal.loop-offer-preserved

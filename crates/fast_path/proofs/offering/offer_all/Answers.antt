@@ -1,4 +1,4 @@
-use Rattle.std.proofs.Common.{◌≡◌, ◌∷◌, List, length, ap, subst, ◌∙◌, sym, inl, inr, refl}
+use Rattle.std.proofs.Common.{length, ap, subst, ◌∙◌, sym, inl, inr, refl}
 use Rattle.std.specs.Vec.Iter.{into_iter_items}
 use Rattle.fast_path.specs.Offers.{AreTo, HaveRoom, offered_all}
 use Rattle.fast_path.proofs.OffersCounted.{room_first, room_left}

@@ -1,4 +1,4 @@
-use Rattle.std.proofs.Common.{◌≡◌, ◌<◌, length, ap, subst, ◌∙◌, sym}
+use Rattle.std.proofs.Common.{◌<◌, length, ap, subst, ◌∙◌, sym}
 use Rattle.fast_path.specs.Offers.{AreTo}
 use Rattle.fast_path.proofs.OffersCounted.{room_more}
 use Rattle.fast_path.proofs.offering.reserve_all.Goals as goal
