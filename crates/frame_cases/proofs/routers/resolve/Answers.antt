@@ -1,6 +1,6 @@
 -- The frame is the reply to this request.
 use Rattle.std.proofs.Common.{rules}
-use Rattle.frame_tests.proofs.routers.answer.Goals as goal
+use Rattle.frame_cases.proofs.routers.resolve.Goals as goal
 
 pub hear_arp-requires-clause-reply : goal.hear_arp-requires-clause-reply
 hear_arp-requires-clause-reply c = record {
