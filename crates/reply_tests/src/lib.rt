@@ -1,5 +1,0 @@
-//! Tests of replies as text.
-#![tactic(auto)]
-
-#[cfg(test)]
-mod texts;

@@ -1,2 +1,0 @@
-//! What no clause says of replies.
-mod replies;
