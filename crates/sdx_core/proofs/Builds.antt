@@ -32,7 +32,7 @@ use Rattle.fast_path.specs.Planned.{IsPoolOf}
 use Rattle.fast_path.specs.Plans.{IsAsked, IsPlan, IsWithinSteps, is_rebuilt_live, planned}
 use Rattle.fast_path.specs.declared.planned.Changes.{Changes}
 use Rattle.fast_path.specs.declared.planned.Plan.{Plan}
-use Rattle.match_switch.specs.Installed.{Installed}
+use Rattle.block_build.specs.Installed.{Installed}
 use Rattle.net_types.specs.Answers.{Policies}
 use Rattle.net_types.specs.Exports.{Routing, pid_of}
 use Rattle.net_types.specs.Keys.{prefix_cmp}

@@ -18,7 +18,7 @@ use Rattle.events.specs.declared.Head.TheVariants.{Fine, Refused}
 use Rattle.events.specs.declared.Phase.{Phase}
 use Rattle.events.specs.declared.Phase.TheVariants.{Start, Declaring, Running}
 use Rattle.exchange_laws.specs.Steady.{IsNew}
-use Rattle.match_switch.specs.Installed.{Installed}
+use Rattle.block_build.specs.Installed.{Installed}
 use Rattle.prefix_classes.specs.Classes.{Classes}
 use Rattle.registry.specs.Registered as registered
 use Rattle.registry.specs.Registered.{Registered}

@@ -28,7 +28,7 @@ pub commit-changes-requires : goal.commit-changes-requires
 commit-changes-requires g c =
     let q = c.args.request in
     let a = c.self.inside in
-    let s : State = state_of a.phase a.base a.size a.registry a.server a.resolved.items a.classes a.told.items a.switch a.programs.items in
+    let s : State = state_of a.phase a.base a.size a.registry a.server a.resolved.items a.classes a.adverts.told a.switch a.programs.items in
     let e = c.requires.0 in
     let r = c.requires.2 in
     let is_rebuilt = c.requires.3 in
@@ -37,25 +37,25 @@ commit-changes-requires g c =
     let here : Leads s e r is_rebuilt q = subst (λ (x : State). Leads x e r is_rebuilt q) (sym c.self.view_is) leads in
     let plans : IsPlan (base_of s q) r is_rebuilt plan = subst (λ (x : State). IsPlan (base_of x q) r is_rebuilt plan) (sym c.self.view_is) (c.in-Ok.ensures.plan e r is_rebuilt leads) in
     c.plans_are_committed.ensures.allowed (base_of s q) r is_rebuilt plan c.reserve-2.new.classes a.pool c.reserve-2.new.switch (planned_of s e r is_rebuilt q plan here plans)
-    (parts_of s q plan c.reserve-2.new.classes a.pool c.reserve-2.new.switch a.programs.items c.self.invariant c.in-Ok.ensures.named (sym c.reserve-2.ensures.tag) (sym c.reserve-2.ensures.kept) (sym c.reserve-2.ensures.table) (sym c.reserve-2.ensures.capacity))
+    (parts_of s q plan c.reserve-2.new.classes a.pool c.reserve-2.new.switch a.programs.items c.self.invariant.kept c.in-Ok.ensures.named (sym c.reserve-2.ensures.tag) (sym c.reserve-2.ensures.kept) (sym c.reserve-2.ensures.table) (sym c.reserve-2.ensures.capacity))
     (record { prefixes = c.in_ok-reserve-2.ensures.prefixes; tags = c.in_ok-reserve-2.ensures.tags; pairs = c.in_ok-reserve-2.ensures.pairs })
 
 pub carry_out-requires : goal.carry_out-requires
 carry_out-requires g c =
     let q = c.args.request in
     let a = c.self.inside in
-    let s : State = state_of a.phase a.base a.size a.registry a.server a.resolved.items a.classes a.told.items a.switch a.programs.items in
+    let s : State = state_of a.phase a.base a.size a.registry a.server a.resolved.items a.classes a.adverts.told a.switch a.programs.items in
     let e = c.requires.0 in
     let r = c.requires.2 in
     let is_rebuilt = c.requires.3 in
     let here : Leads s e r is_rebuilt q = subst (λ (x : State). Leads x e r is_rebuilt q) (sym c.self.view_is) c.requires.4 in
-    change_placed s a.pool a.programs.items q c.self.invariant refl here.placed
+    change_placed s a.pool a.programs.items q c.self.invariant.kept refl here.placed
 
 pub invariant_of-self-2 : goal.invariant_of-self-2
 invariant_of-self-2 g c =
     let q = c.args.request in
     let a = c.self.inside in
-    let s : State = state_of a.phase a.base a.size a.registry a.server a.resolved.items a.classes a.told.items a.switch a.programs.items in
+    let s : State = state_of a.phase a.base a.size a.registry a.server a.resolved.items a.classes a.adverts.told a.switch a.programs.items in
     let e = c.requires.0 in
     let r = c.requires.2 in
     let is_rebuilt = c.requires.3 in
@@ -64,32 +64,32 @@ invariant_of-self-2 g c =
     let here : Leads s e r is_rebuilt q = subst (λ (x : State). Leads x e r is_rebuilt q) (sym c.self.view_is) leads in
     let plans : IsPlan (base_of s q) r is_rebuilt plan = subst (λ (x : State). IsPlan (base_of x q) r is_rebuilt plan) (sym c.self.view_is) (c.in-Ok.ensures.plan e r is_rebuilt leads) in
     let to = c.plans_are_committed.ensures.reached (base_of s q) r is_rebuilt plan c.reserve-2.new.classes a.pool c.reserve-2.new.switch (planned_of s e r is_rebuilt q plan here plans)
-    (parts_of s q plan c.reserve-2.new.classes a.pool c.reserve-2.new.switch a.programs.items c.self.invariant c.in-Ok.ensures.named (sym c.reserve-2.ensures.tag) (sym c.reserve-2.ensures.kept) (sym c.reserve-2.ensures.table) (sym c.reserve-2.ensures.capacity)) in
+    (parts_of s q plan c.reserve-2.new.classes a.pool c.reserve-2.new.switch a.programs.items c.self.invariant.kept c.in-Ok.ensures.named (sym c.reserve-2.ensures.tag) (sym c.reserve-2.ensures.kept) (sym c.reserve-2.ensures.table) (sym c.reserve-2.ensures.capacity)) in
     let done = c.commit-changes.ensures in
     let routes = c.commit.ensures.routes r.routes (subst (λ m. Reaches q.proposal.changes m r.routes) (sym c.reserve.ensures.routes) here.proposes.routes) in
     let rules = c.commit.ensures.rules ∙ ap (unwrap_or q.proposal.rules) c.reserve.ensures.rules ∙ here.proposes.rules in
     let named = c.commit.ensures.named ∙ ap (named_with q.proposal.named) c.reserve.ensures.named ∙ here.named in
-    let then = state_then a.phase a.base a.size a.registry a.server a.resolved.items a.classes a.told.items a.switch a.programs.items r q plan c.commit.new.self c.commit-changes.new.classes c.commit-changes.new.switch c.carry_out.new.programs.items
+    let then = state_then a.phase a.base a.size a.registry a.server a.resolved.items a.classes a.adverts.told a.switch a.programs.items r q plan c.commit.new.self c.commit-changes.new.classes c.commit-changes.new.switch c.carry_out.new.programs.items
     here.alike routes rules named c.carry_out.ensures (done.tag ∙ to.tag) (done.kept ∙ to.kept) (done.table ∙ to.table) (done.capacity ∙ c.reserve-2.ensures.capacity) in
-    committed_kept c.plans_are_committed.ensures.replied s e r is_rebuilt q plan c.changes_reply.result _ a.pool a.programs.items c.self.invariant c.requires.1 here plans (says c.changes_reply.result c.commit-changes.result plan c.changes_reply.ensures done.changes) then
+    committed_kept c.plans_are_committed.ensures.replied s e r is_rebuilt q plan c.changes_reply.result _ a.pool a.programs.items c.self.invariant.kept c.requires.1 here plans (says c.changes_reply.result c.commit-changes.result plan c.changes_reply.ensures done.changes) then
     c.reserve-2.new.classes c.reserve-2.new.switch to c.commit-changes.new.pool done.pool c.carry_out.new.programs.items c.carry_out.ensures
 
 pub returns-clause-step : goal.returns-clause-step
 returns-clause-step g c = λ e r is_rebuilt formed leads.
     let q = c.args.request in
     let a = c.self.inside in
-    let s : State = state_of a.phase a.base a.size a.registry a.server a.resolved.items a.classes a.told.items a.switch a.programs.items in
+    let s : State = state_of a.phase a.base a.size a.registry a.server a.resolved.items a.classes a.adverts.told a.switch a.programs.items in
     let plan = c.in-Ok.plan in
     let here : Leads s e r is_rebuilt q = subst (λ (x : State). Leads x e r is_rebuilt q) (sym c.self.view_is) leads in
     let plans : IsPlan (base_of s q) r is_rebuilt plan = subst (λ (x : State). IsPlan (base_of x q) r is_rebuilt plan) (sym c.self.view_is) (c.in-Ok.ensures.plan e r is_rebuilt leads) in
     let to = c.plans_are_committed.ensures.reached (base_of s q) r is_rebuilt plan c.reserve-2.new.classes a.pool c.reserve-2.new.switch (planned_of s e r is_rebuilt q plan here plans)
-    (parts_of s q plan c.reserve-2.new.classes a.pool c.reserve-2.new.switch a.programs.items c.self.invariant c.in-Ok.ensures.named (sym c.reserve-2.ensures.tag) (sym c.reserve-2.ensures.kept) (sym c.reserve-2.ensures.table) (sym c.reserve-2.ensures.capacity)) in
+    (parts_of s q plan c.reserve-2.new.classes a.pool c.reserve-2.new.switch a.programs.items c.self.invariant.kept c.in-Ok.ensures.named (sym c.reserve-2.ensures.tag) (sym c.reserve-2.ensures.kept) (sym c.reserve-2.ensures.table) (sym c.reserve-2.ensures.capacity)) in
     let done = c.commit-changes.ensures in
     let routes = c.commit.ensures.routes r.routes (subst (λ m. Reaches q.proposal.changes m r.routes) (sym c.reserve.ensures.routes) here.proposes.routes) in
     let rules = c.commit.ensures.rules ∙ ap (unwrap_or q.proposal.rules) c.reserve.ensures.rules ∙ here.proposes.rules in
     let named = c.commit.ensures.named ∙ ap (named_with q.proposal.named) c.reserve.ensures.named ∙ here.named in
-    let then = state_then a.phase a.base a.size a.registry a.server a.resolved.items a.classes a.told.items a.switch a.programs.items r q plan c.commit.new.self c.commit-changes.new.classes c.commit-changes.new.switch c.carry_out.new.programs.items
+    let then = state_then a.phase a.base a.size a.registry a.server a.resolved.items a.classes a.adverts.told a.switch a.programs.items r q plan c.commit.new.self c.commit-changes.new.classes c.commit-changes.new.switch c.carry_out.new.programs.items
     here.alike routes rules named c.carry_out.ensures (done.tag ∙ to.tag) (done.kept ∙ to.kept) (done.table ∙ to.table) (done.capacity ∙ c.reserve-2.ensures.capacity) in
-    let s' : State = state_of Running a.base a.size a.registry c.commit.new.self a.resolved.items c.commit-changes.new.classes a.told.items c.commit-changes.new.switch c.carry_out.new.programs.items in
+    let s' : State = state_of Running a.base a.size a.registry c.commit.new.self a.resolved.items c.commit-changes.new.classes a.adverts.told c.commit-changes.new.switch c.carry_out.new.programs.items in
     subst (λ (x : State). IsStep x e c.changes_reply.result s') c.self.view_is
-    (committed_step c.plans_are_committed.ensures.replied s e r is_rebuilt q plan c.changes_reply.result s' a.pool a.programs.items c.self.invariant formed here plans (says c.changes_reply.result c.commit-changes.result plan c.changes_reply.ensures done.changes) then)
+    (committed_step c.plans_are_committed.ensures.replied s e r is_rebuilt q plan c.changes_reply.result s' a.pool a.programs.items c.self.invariant.kept formed here plans (says c.changes_reply.result c.commit-changes.result plan c.changes_reply.ensures done.changes) then)

@@ -17,7 +17,7 @@ pub taking-requires : goal.taking-requires
 taking-requires c =
     let pool = c.self.inside.pool in
     let s : State = c.args.self.now in
-    let kept : IsKept s pool c.self.inside.programs.items = subst (λ (x : State). IsKept x pool c.self.inside.programs.items) c.self.view_is c.self.invariant in
+    let kept : IsKept s pool c.self.inside.programs.items = subst (λ (x : State). IsKept x pool c.self.inside.programs.items) c.self.view_is c.self.invariant.kept in
     place s c.in-Ok.who pool c.args.name.now kept (sender_of s c.args.name.now c.in-Ok.who (sym c.session.ensures ∙ c.in-Ok.is))
 
 pub tell-requires : goal.tell-requires
@@ -37,7 +37,7 @@ returns-clause-step c =
     let pool = c.self.inside.pool in
     let s : State = c.args.self.now in
     let who = c.in-Ok.who in
-    let kept : IsKept s pool c.self.inside.programs.items = subst (λ (x : State). IsKept x pool c.self.inside.programs.items) c.self.view_is c.self.invariant in
+    let kept : IsKept s pool c.self.inside.programs.items = subst (λ (x : State). IsKept x pool c.self.inside.programs.items) c.self.view_is c.self.invariant.kept in
     let sender : IsSender s c.args.name.now who = sender_of s c.args.name.now who (sym c.session.ensures ∙ c.in-Ok.is) in
     let told : c.in_ok-taking.taking.told ≡ told_after s who c.args.limit = c.in_ok-taking.ensures.told in
     let drops : c.in_ok-taking.taking.drops ≡ all_pairs (ports_of (registered s) who) (gone_for s who (told_after s who c.args.limit)) =

@@ -17,22 +17,22 @@ use Rattle.sdx_core.proofs.sdx.Sdx.tell.Goals as goal
 pub index_mut-requires : goal.index_mut-requires
 index_mut-requires c =
     let a = c.self.inside in
-    let kept : IsKept c.args.self.now a.pool a.programs.items = subst (λ (x : State). IsKept x a.pool a.programs.items) c.self.view_is c.self.invariant in
+    let kept : IsKept c.args.self.now a.pool a.programs.items = subst (λ (x : State). IsKept x a.pool a.programs.items) c.self.view_is c.self.invariant.kept in
     let here : c.args.who.0 < length c.args.self.now.told = takers_place c.args.self.now c.args.who c.args.taking.told a.pool kept c.requires.taker in
-    let same : length a.told.items ≡ length c.args.self.now.told = ap (λ (x : State). length x.told) c.self.view_is in
+    let same : length a.adverts.told ≡ length c.args.self.now.told = ap (λ (x : State). length x.told) c.self.view_is in
     omega (arith, here, same, a.told.ok.0)
 
 pub forget_all-requires : goal.forget_all-requires
 forget_all-requires c =
     let a = c.self.inside in
-    let kept : IsKept c.args.self.now a.pool a.programs.items = subst (λ (x : State). IsKept x a.pool a.programs.items) c.self.view_is c.self.invariant in
+    let kept : IsKept c.args.self.now a.pool a.programs.items = subst (λ (x : State). IsKept x a.pool a.programs.items) c.self.view_is c.self.invariant.kept in
     λ t m. ap (λ (x : State). members x.tag t) c.self.view_is
     ∙ dead_unused c.args.self.now c.args.who c.args.taking.told a.pool kept c.requires.taker t (subst (Member t) (c.items-2.ensures ∙ c.requires.goes.dead) m)
 
 pub give_all-requires : goal.give_all-requires
 give_all-requires c =
     let a = c.self.inside in
-    let kept : IsKept c.args.self.now a.pool a.programs.items = subst (λ (x : State). IsKept x a.pool a.programs.items) c.self.view_is c.self.invariant in
+    let kept : IsKept c.args.self.now a.pool a.programs.items = subst (λ (x : State). IsKept x a.pool a.programs.items) c.self.view_is c.self.invariant.kept in
     subst (AreTaken a.pool) (sym (c.items-3.ensures ∙ c.requires.goes.dead)) (given_back c.args.self.now c.args.who c.args.taking.told a.pool kept c.requires.taker)
 
 pub returns-clause-state : goal.returns-clause-state
@@ -41,7 +41,7 @@ returns-clause-state c =
     let s : State = c.args.self.now in
     let who = c.args.who in
     let then = c.args.taking.told in
-    let kept : IsKept s a.pool a.programs.items = subst (λ (x : State). IsKept x a.pool a.programs.items) c.self.view_is c.self.invariant in
+    let kept : IsKept s a.pool a.programs.items = subst (λ (x : State). IsKept x a.pool a.programs.items) c.self.view_is c.self.invariant.kept in
     told_state who then c.self.view_is refl
     (c.remove_all.ensures.capacity ∙ ap (λ (x : State). x.capacity) c.self.view_is)
     (c.forget_all.ensures.tag ∙ ap (λ (x : State). x.tag) c.self.view_is)
@@ -57,7 +57,7 @@ invariant_of-self c =
     let s : State = c.args.self.now in
     let who = c.args.who in
     let then = c.args.taking.told in
-    let kept : IsKept s a.pool a.programs.items = subst (λ (x : State). IsKept x a.pool a.programs.items) c.self.view_is c.self.invariant in
+    let kept : IsKept s a.pool a.programs.items = subst (λ (x : State). IsKept x a.pool a.programs.items) c.self.view_is c.self.invariant.kept in
     let pool_is : c.give_all.new.pool ≡ marked_all a.pool (dead_tags s.tag s.told who.0 (gone_for s who then)) false = c.give_all.ensures ∙ ap (λ ts. marked_all a.pool ts false) (c.items-3.ensures ∙ c.requires.goes.dead) in
     subst (λ (x : State). IsKept x c.give_all.new.pool a.programs.items) (sym (returns-clause-state c))
     (subst (λ (p : Tags). IsKept (told_anew s who then) p a.programs.items) (sym pool_is) (telling_kept s who then a.pool kept c.requires.taker))
