@@ -1,2 +1,7 @@
 pub mod Telling
 pub mod News
+pub mod Advertised
+pub mod Taken
+pub mod Changes
+pub mod Counts
+pub mod Kept

@@ -25,7 +25,7 @@ use Rattle.fast_path.specs.LiveOnly.{group_tags}
 use Rattle.fast_path.specs.Planned.{IsPoolOf, group_kept}
 use Rattle.fast_path.specs.Plans.{IsPlan, pair_of, planned}
 use Rattle.fast_path.specs.declared.planned.Plan.{Plan}
-use Rattle.match_switch.specs.Installed.{Installed}
+use Rattle.block_build.specs.Installed.{Installed}
 use Rattle.next_hop_pool.specs.Free.{Tags}
 
 module _ (s : State) (r : Routing) (is_rebuilt : Pair → Bool) (plan : Plan) (base : IsBase s is_rebuilt) (alike : IsDeclaredAlike s.routing r) (is : IsPlan s r is_rebuilt plan) where

@@ -41,8 +41,8 @@ use Rattle.fast_path.specs.declared.planned.Class.{Class}
 use Rattle.fast_path.specs.declared.planned.FastFault.{FastFault}
 use Rattle.fast_path.specs.declared.planned.FastFault.TheVariants.{NoNextHop, TableFull, Memory}
 use Rattle.fast_path.specs.declared.planned.Plan.{Plan}
-use Rattle.match_switch.specs.Installed.{Installed}
-use Rattle.match_switch.specs.Installed as installed
+use Rattle.block_build.specs.Installed.{Installed}
+use Rattle.block_build.specs.Installed as installed
 use Rattle.net_types.proofs.FindLemmas.{cond_same}
 use Rattle.net_types.proofs.OrderLemmas.{pairs_total}
 use Rattle.net_types.proofs.OrderedLemmas.{ordered_same}

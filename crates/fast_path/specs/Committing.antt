@@ -13,10 +13,12 @@ use Rattle.events.specs.After.{without_pairs}
 use Rattle.events.specs.Tags.{same_tag}
 use Rattle.events.specs.declared.TagChange.{TagChange}
 use Rattle.next_hop_pool.specs.Free.{IsTag, Tags, is_taken, marked}
-use Rattle.match_switch.specs.Installed.{Installed, rule_count}
+use Rattle.block_build.specs.Installed.{Installed, rule_count}
 use Rattle.prefix_classes.specs.Classes.{Classes, given, members}
 use Rattle.prefix_classes.specs.Laws.{AreRising, changed}
+use Rattle.advert_queue.specs.Advertised.{Advertised}
 use Rattle.fast_path.specs.Grouping.{known_by}
+use Rattle.fast_path.specs.Offers.{AreTo, HaveRoom}
 use Rattle.fast_path.specs.declared.planned.Class.{Class}
 use Rattle.fast_path.specs.declared.planned.Plan.{Plan}
 
@@ -142,8 +144,9 @@ abbrev pub block_count : List Block → ℕ
 block_count bs = sum_by (λ (b : Block). length b.1) bs
 
 -- The plan can be committed: its fresh tags are free and not kept, each prefix whose tag becomes another is a member of the
--- fresh tag that it gets, or gets none, its dead tags will be taken and no prefix's, and there is room for all that is put in.
-pub record CanCommit (plan : Plan) (classes : Classes) (pool : Tags) (switch : Installed) : Type 0 where
+-- fresh tag that it gets, or gets none, its dead tags will be taken and no prefix's, and there is room for all that is put in
+-- and for all that is offered.
+pub record CanCommit (plan : Plan) (classes : Classes) (pool : Tags) (switch : Installed) (adverts : Advertised) : Type 0 where
   pub unkept : AreUnkept (known_by plan.named classes).kept (signed plan.fresh.items)
   pub tags_room : length plan.fresh.items ≤ classes.tags
   pub rising : AreRising (map change_of plan.tags)
@@ -155,3 +158,5 @@ pub record CanCommit (plan : Plan) (classes : Classes) (pool : Tags) (switch : I
   pub taken : AreTaken (marked_all pool (tags_of (signed plan.fresh.items)) true) plan.dead.items
   pub pairs_room : length plan.blocks.items ≤ switch.room
   pub few : rule_count (without_pairs switch.table plan.drops) + block_count plan.blocks.items ≤ switch.capacity
+  pub known : AreTo (length adverts.told) plan.offers.items
+  pub offers_room : HaveRoom adverts.room (length adverts.told) plan.offers.items

@@ -3,9 +3,11 @@ use Rattle.std.specs.Prelude.{◌≡◌, List, length, map, take}
 use Rattle.std.specs.FinMap.{FinMap}
 use Rattle.events.specs.Fits.{flows_of}
 use Rattle.events.specs.declared.Entry.{Entry}
+use Rattle.events.specs.declared.TagChange.{TagChange}
 use Rattle.fast_path.specs.Committing.{Block, classes_of, kept_of}
 use Rattle.fast_path.specs.Emptied.{emptied}
-use Rattle.fast_path.specs.Grouping.{changes_of, known_by}
+use Rattle.fast_path.specs.Grouping.{known_by}
+use Rattle.fast_path.specs.Offers.{adverts_from, declared_pids, others, tagged}
 use Rattle.fast_path.specs.Pairs.{built_pairs, dropped_pairs, gone_pairs, untold}
 use Rattle.fast_path.specs.declared.draft.Draft.{Draft}
 use Rattle.fast_path.specs.declared.fresh.Fresh.{Fresh}
@@ -23,13 +25,18 @@ use Rattle.route_server.specs.Proposed.{Proposed}
 abbrev pub given_tags : Tags → List Fresh → List Tag
 given_tags pool groups = take (length groups) (free_tags pool)
 
+-- the touched prefixes, each with the tag that it has afterwards
+abbrev pub tagged_by : Classes → Tags → Proposed → List Fresh → List TagChange
+tagged_by classes pool proposal groups = tagged (known_by proposal.named classes) groups (given_tags pool groups) proposal.touched proposal.sigs
+
 -- what is drafted for a proposal, by the groups that get fresh tags and the pairs that are built anew
 pub record IsDraft (names : Registered) (classes : Classes) (pool : Tags) (was_told : List (FinMap prefix_cmp Entry)) (proposal : Proposed) (groups : List Fresh) (rebuild : List Pair) (draft : Draft) : Type 0 where
-  pub tags : draft.tags ≡ changes_of (known_by proposal.named classes) groups (given_tags pool groups) proposal.touched proposal.sigs
+  pub tags : draft.tags ≡ others (known_by proposal.named classes) (tagged_by classes pool proposal groups)
   pub fresh : draft.fresh.items ≡ classes_of draft.tags (kept_of (given_tags pool groups) (map (λ (f : Fresh). f.sig) groups))
   pub drops : draft.drops ≡ dropped_pairs (gone_pairs names classes.kept was_told (emptied classes.tag draft.tags)) rebuild
   pub built : draft.built ≡ built_pairs names draft.fresh.items (gone_pairs names classes.kept was_told (emptied classes.tag draft.tags)) rebuild
   pub dead : draft.dead.items ≡ untold was_told (emptied classes.tag draft.tags)
+  pub offers : draft.offers.items ≡ adverts_from proposal (declared_pids names) 0 (tagged_by classes pool proposal groups)
 
 -- the plan is the draft with the blocks of its pairs
 pub record IsDrafted (draft : Draft) (proposal : Proposed) (built : List Block) (plan : Plan) : Type 0 where
@@ -39,4 +46,5 @@ pub record IsDrafted (draft : Draft) (proposal : Proposed) (built : List Block) 
   pub blocks : plan.blocks.items ≡ built
   pub fresh : plan.fresh.items ≡ draft.fresh.items
   pub dead : plan.dead.items ≡ draft.dead.items
+  pub offers : plan.offers.items ≡ draft.offers.items
   pub named : plan.named ≡ proposal.named

@@ -3,6 +3,7 @@ pub mod LiveOnly
 pub mod Emptied
 pub mod Grouping
 pub mod Shown
+pub mod Offers
 pub mod Committing
 pub mod Plans
 pub mod Planned

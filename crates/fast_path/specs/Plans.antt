@@ -17,12 +17,13 @@ use Rattle.exchange_laws.specs.Rules.{IsDeclaredAlike, IsRightAt}
 use Rattle.fast_path.specs.Committing.{Block, classes_of, with_blocks}
 use Rattle.fast_path.specs.Grouping.{known_by}
 use Rattle.fast_path.specs.LiveOnly.{AreDead}
+use Rattle.fast_path.specs.Offers.{AreOffers}
 use Rattle.fast_path.specs.Planned.{group_kept, is_tag_below}
 use Rattle.fast_path.specs.Shown.{AreShown}
 use Rattle.fast_path.specs.declared.planned.FastFault.{FastFault}
 use Rattle.fast_path.specs.declared.planned.FastFault.TheVariants.{NoNextHop, TableFull, Memory}
 use Rattle.fast_path.specs.declared.planned.Plan.{Plan}
-use Rattle.match_switch.specs.Installed.{Installed}
+use Rattle.block_build.specs.Installed.{Installed}
 use Rattle.net_types.specs.Answers.{Policies}
 use Rattle.net_types.specs.Exports.{Routing}
 use Rattle.net_types.specs.Keys.{prefix_cmp}
@@ -63,8 +64,8 @@ pair_of b = b.0
 abbrev pub planned : State → Routing → Plan → State
 planned s r plan = record (retagged s r) { table = with_blocks (without_pairs s.table plan.drops) plan.blocks.items }
 
--- The plan has what becomes of tags and rules, the fresh tags with their signatures and members, and the tags that are live
--- no more. The rules that come are right, and fit the table.
+-- The plan has what becomes of tags and rules, the fresh tags with their signatures and members, the tags that are live no
+-- more, and what becomes present for each participant. The rules that come are right, and fit the table.
 pub record IsPlan (s : State) (r : Routing) (is_rebuilt : Pair → Bool) (plan : Plan) : Type 0 where
   pub tags : plan.tags ≡ tag_changes s.tag (retagged s r).tag
   pub gone : AreThose (goes s (retagged s r) is_rebuilt) plan.drops
@@ -74,6 +75,7 @@ pub record IsPlan (s : State) (r : Routing) (is_rebuilt : Pair → Bool) (plan :
   pub fresh : plan.fresh.items ≡ classes_of plan.tags (group_kept s r)
   pub dead : AreDead s (retagged s r) plan.dead.items
   pub rising : IsRising is_tag_below plan.dead.items
+  pub offers : AreOffers s (retagged s r) plan.offers.items
   pub enough : HasEnoughTags s r
   pub fits : rule_count (planned s r plan) ≤ s.capacity
 

@@ -15,10 +15,9 @@ ghost use Rattle.fast_path.specs.Building.{AreBlocksFor, AreInOrder, HasPart, Is
 use crate::known::{KnownClasses, part_in};
 use crate::planned::{Class, FastFault};
 use block_build::{
-    Block, BuildFault, Views, build, no_more_cells, right_for_policies, views_are_of,
+    Block, Blocks, BuildFault, Views, build, no_more_cells, right_for_policies, views_are_of,
 };
 use events::{Flow, Flows};
-use match_switch::Switch;
 use net_types::{Items, Memory, Pair, Part, Pid, PortNo, Rule, Steps, Tag, TryCopy};
 use registry::Registry;
 use rule_laws::offers_differ;
@@ -170,8 +169,8 @@ fn blocks_for<L: Ledger>(
 }
 
 /// How many rules a pair has in the table.
-fn count_at(switch: &Switch, pair: Pair) -> usize
-    ensures { result ≡ count_at switch.now.table pair }
+fn count_at<B: Blocks>(switch: &B, pair: Pair) -> usize
+    ensures { result ≡ count_at (B.installed switch.now).table pair }
 {
     match switch.rules_of(pair) {
         None => 0,
@@ -180,8 +179,8 @@ fn count_at(switch: &Switch, pair: Pair) -> usize
 }
 
 /// How many rules the table has beside those of the pairs.
-fn rules_left(switch: &Switch, drops: &[Pair]) -> usize
-    ensures { result ≡ rules_left switch.now.table drops.now }
+fn rules_left<B: Blocks>(switch: &B, drops: &[Pair]) -> usize
+    ensures { result ≡ rules_left (B.installed switch.now).table drops.now }
 {
     let mut left = switch.rules();
     for &pair in drops {
@@ -204,23 +203,23 @@ fn refused(fault: BuildFault, left: usize, capacity: usize) -> FastFault
 }
 
 /// The rules of each of the pairs, where the table has room for all once the rules of others are taken out.
-pub fn rules_for<L: Ledger>(
+pub fn rules_for<B: Blocks, L: Ledger>(
     alloc: Global,
     names: &Registry,
     known: &KnownClasses<'_>,
     fresh: &[Class],
     views: &Views<'_>,
-    switch: &Switch,
+    switch: &B,
     drops: &[Pair],
     pairs: &[Pair],
     steps: &mut Steps<L>,
 ) -> Result<Vec<(Pair, Block)>, FastFault>
     requires parts { (pair : AnyPair) → Member pair pairs.now → HasPart (site_of names.now known.now fresh.now views.now) pair }
     requires rising { AreInOrder fresh.now }
-    requires small { switch.now.capacity < 2 ^ 32 }
+    requires small { (B.installed switch.now).capacity < 2 ^ 32 }
     ensures steps { steps.new ≤ steps.old + length pairs.now }
-    ensures built { IfOk result (λ blocks. AreBlocksFor (site_of names.now known.now fresh.now views.now) pairs.now (switch.now.capacity - rules_left switch.now.table drops.now) blocks.items) }
-    ensures full { IfErr result (IsRefusedFor (site_of names.now known.now fresh.now views.now) pairs.now (rules_left switch.now.table drops.now) switch.now.capacity) }
+    ensures built { IfOk result (λ blocks. AreBlocksFor (site_of names.now known.now fresh.now views.now) pairs.now ((B.installed switch.now).capacity - rules_left (B.installed switch.now).table drops.now) blocks.items) }
+    ensures full { IfErr result (IsRefusedFor (site_of names.now known.now fresh.now views.now) pairs.now (rules_left (B.installed switch.now).table drops.now) (B.installed switch.now).capacity) }
 {
     let left = rules_left(switch, drops);
     let capacity = switch.capacity();

@@ -4,38 +4,61 @@ ghost use Rattle.std.specs.Prelude.{◌≡◌, ◌≤◌, length, true, false, O
 ghost use Rattle.events.specs.After.{without_pairs};
 ghost use Rattle.fast_path.specs.Committing.{CanCommit, kept_with, kept_without, marked_all, signed, tags_of, tags_with, with_blocks};
 ghost use Rattle.fast_path.specs.Grouping.{known_by};
+ghost use Rattle.fast_path.specs.Offers.{AreTo, HaveRoom, offered_all};
 
+use crate::offering::{offer_all, reserve_all};
 use crate::parts::{
     forget_all, give_all, give_members, put_all, remove_all, take_all, trim_named, untag_all,
 };
 use crate::planned::{Changes, Plan};
-use match_switch::Switch;
+use advert_queue::Adverts;
+use block_build::Blocks;
 use net_types::Memory;
 use next_hop_pool::Pool;
 use prefix_classes::ClassMap;
+use registry::Registry;
+use std::alloc::Global;
 
-/// Makes room for what a plan puts in, and changes nothing else.
-pub fn reserve(plan: &Plan, classes: &mut ClassMap, switch: &mut Switch) -> Result<(), Memory>
+/// Makes room for what a plan puts into the classes and offers to the participants, and changes nothing else. The rules need
+/// room in the table besides, for as many new pairs as the plan has blocks.
+pub fn reserve(
+    alloc: Global,
+    names: &Registry,
+    plan: &Plan,
+    classes: &mut ClassMap,
+    adverts: &mut Adverts,
+) -> Result<(), Memory>
+    requires declared { length names.now.participants ≡ length adverts.old.told }
+    requires known { AreTo (length adverts.old.told) plan.now.offers.items }
     ensures tag { classes.new.tag ≡ classes.old.tag }
     ensures kept { classes.new.kept ≡ classes.old.kept }
-    ensures table { switch.new.table ≡ switch.old.table }
-    ensures capacity { switch.new.capacity ≡ switch.old.capacity }
+    ensures told { adverts.new.told ≡ adverts.old.told }
+    ensures present { adverts.new.present ≡ adverts.old.present }
     ensures prefixes { OnOk result (length plan.now.tags ≤ classes.new.prefixes) }
     ensures tags { OnOk result (length plan.now.fresh.items ≤ classes.new.tags) }
-    ensures pairs { OnOk result (length plan.now.blocks.items ≤ switch.new.room) }
+    ensures offers { OnOk result (HaveRoom adverts.new.room (length adverts.new.told) plan.now.offers.items) }
 {
     classes.reserve(plan.tags.len(), plan.fresh.len())?;
-    switch.reserve(plan.blocks.len())
+    reserve_all(alloc, names, adverts, &plan.offers)
 }
 
-/// The classes, the pool and the table become those that were planned. What the plan says of tags and rules is given back.
-pub fn commit(plan: Plan, classes: &mut ClassMap, pool: &mut Pool, switch: &mut Switch) -> Changes
-    requires { CanCommit plan classes.old pool.old switch.old }
+/// The classes, the pool, the table and the adverts become those that were planned. What the plan says of tags and rules is
+/// given back.
+pub fn commit<B: Blocks>(
+    plan: Plan,
+    classes: &mut ClassMap,
+    pool: &mut Pool,
+    switch: &mut B,
+    adverts: &mut Adverts,
+) -> Changes
+    requires { CanCommit plan classes.old pool.old (B.installed switch.old) adverts.old }
     ensures tag { classes.new.tag ≡ tags_with classes.old.tag plan.tags }
     ensures kept { classes.new.kept ≡ kept_without (kept_with (known_by plan.named classes.old).kept (signed plan.fresh.items)) plan.dead.items }
     ensures pool { pool.new ≡ marked_all (marked_all pool.old (tags_of (signed plan.fresh.items)) true) plan.dead.items false }
-    ensures table { switch.new.table ≡ with_blocks (without_pairs switch.old.table plan.drops) plan.blocks.items }
-    ensures capacity { switch.new.capacity ≡ switch.old.capacity }
+    ensures table { (B.installed switch.new).table ≡ with_blocks (without_pairs (B.installed switch.old).table plan.drops) plan.blocks.items }
+    ensures capacity { (B.installed switch.new).capacity ≡ (B.installed switch.old).capacity }
+    ensures told { adverts.new.told ≡ adverts.old.told }
+    ensures present { adverts.new.present ≡ offered_all adverts.old.present plan.offers.items }
     ensures changes { result ≡ record { tags = plan.tags; drops = plan.drops; adds = plan.adds } }
 {
     let Plan {
@@ -45,6 +68,7 @@ pub fn commit(plan: Plan, classes: &mut ClassMap, pool: &mut Pool, switch: &mut 
         blocks,
         fresh,
         dead,
+        offers,
         named,
     } = plan;
     trim_named(classes, named);
@@ -55,5 +79,6 @@ pub fn commit(plan: Plan, classes: &mut ClassMap, pool: &mut Pool, switch: &mut 
     forget_all(classes, &dead);
     remove_all(switch, drops.items());
     put_all(switch, blocks);
+    offer_all(adverts, offers);
     Changes { tags, drops, adds }
 }

@@ -1,6 +1,6 @@
 //! What becomes of tags and pairs, before rules are built.
 
-use crate::planned::Class;
+use crate::planned::{Advert, Class};
 use events::TagChanges;
 use net_types::{Pairs, Tag};
 
@@ -17,4 +17,6 @@ pub struct Draft {
     pub fresh: Vec<Class>,
     /// The tags that are live no more.
     pub dead: Vec<Tag>,
+    /// What becomes present for the participants of the touched prefixes.
+    pub offers: Vec<Advert>,
 }

@@ -3,25 +3,15 @@
 ghost use Rattle.std.specs.Prelude.{◌≡◌, ◌∷◌, ◌++◌, [], IfOk, OnOk, map};
 ghost use Rattle.net_types.specs.Sets.{IsRising, union_over};
 ghost use Rattle.exchange_laws.specs.Listed.{is_pair_before};
-ghost use Rattle.fast_path.specs.Pairs.{built_pairs, class_pairs, dropped_pairs, fresh_pairs, gone_pairs, is_among, is_told, pair_at, part_pairs, staying, untold, was_told};
+ghost use Rattle.fast_path.specs.Pairs.{built_pairs, class_pairs, dropped_pairs, fresh_pairs, gone_pairs, is_among, pair_at, part_pairs, staying, untold};
 
 use crate::ascending::ascending_pairs;
 use crate::planned::Class;
-use advert_queue::Told;
-use net_types::{Items, Memory, Pair, Pairs, Part, Pid, PortNo, Tag};
+use advert_queue::Adverts;
+use net_types::{Items, Memory, Pair, Pairs, Part, PortNo, Tag};
 use prefix_classes::ClassMap;
 use registry::Registry;
 use std::alloc::Global;
-
-/// Whether the participant was told the tag. One that has no place in the list was told nothing.
-fn was_told(told: &[Told], who: Pid, tag: Tag) -> bool
-    ensures { result ≡ was_told told.now who tag }
-{
-    match told.get(who.0 as usize) {
-        Some(entries) => entries.tells(tag),
-        None => false,
-    }
-}
 
 /// Puts the pair of each of the ports with the tag last, in their order. Memory is the only refusal.
 pub fn push_pairs(ports: &[PortNo], tag: Tag, pairs: &mut Vec<Pair>) -> Result<(), Memory>
@@ -36,15 +26,15 @@ pub fn push_pairs(ports: &[PortNo], tag: Tag, pairs: &mut Vec<Pair>) -> Result<(
 /// Puts the tag at the ports of the parts' senders, but for those that were told it.
 fn push_gone(
     names: &Registry,
-    told: &[Told],
+    adverts: &Adverts,
     tag: Tag,
     parts: &[Part],
     pairs: &mut Vec<Pair>,
 ) -> Result<(), Memory>
-    ensures { OnOk result (pairs.new.items ≡ pairs.old.items ++ union_over (part_pairs names.now told.now tag) parts.now) }
+    ensures { OnOk result (pairs.new.items ≡ pairs.old.items ++ union_over (part_pairs names.now adverts.now.told tag) parts.now) }
 {
     for part in parts {
-        if !was_told(told, part.sender, tag) {
+        if !adverts.tells(part.sender, tag) {
             push_pairs(names.ports_of(part.sender), tag, pairs)?;
         }
     }
@@ -57,15 +47,15 @@ pub fn gone_pairs(
     alloc: Global,
     names: &Registry,
     classes: &ClassMap,
-    told: &[Told],
+    adverts: &Adverts,
     emptied: &[Tag],
 ) -> Result<Pairs, Memory>
-    ensures { IfOk result (λ pairs. pairs ≡ gone_pairs names.now classes.now.kept told.now emptied.now) }
+    ensures { IfOk result (λ pairs. pairs ≡ gone_pairs names.now classes.now.kept adverts.now.told emptied.now) }
 {
     let mut pairs = Vec::new(alloc);
     for &tag in emptied {
         if let Some(sig) = classes.sig_of(tag) {
-            push_gone(names, told, tag, sig.items(), &mut pairs)?;
+            push_gone(names, adverts, tag, sig.items(), &mut pairs)?;
         }
     }
     Ok(Items::from_vec(ascending_pairs(pairs)))
@@ -140,25 +130,13 @@ pub fn dropped_pairs(alloc: Global, gone: &[Pair], rebuild: &[Pair]) -> Result<P
     Ok(Items::from_vec(ascending_pairs(pairs)))
 }
 
-/// Whether somebody was told the tag.
-fn is_told(told: &[Told], tag: Tag) -> bool
-    ensures { result ≡ is_told told.now tag }
-{
-    for entries in told {
-        if entries.tells(tag) {
-            return true;
-        }
-    }
-    false
-}
-
 /// Those of the tags that nobody was told, in their order. Memory is the only refusal.
-pub fn untold(alloc: Global, told: &[Told], tags: &[Tag]) -> Result<Vec<Tag>, Memory>
-    ensures { IfOk result (λ dead. dead.items ≡ untold told.now tags.now) }
+pub fn untold(alloc: Global, adverts: &Adverts, tags: &[Tag]) -> Result<Vec<Tag>, Memory>
+    ensures { IfOk result (λ dead. dead.items ≡ untold adverts.now.told tags.now) }
 {
     let mut dead = Vec::new(alloc);
     for &tag in tags {
-        if !is_told(told, tag) {
+        if !adverts.is_told(tag) {
             dead.push(tag)?;
         }
     }

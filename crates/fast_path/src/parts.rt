@@ -2,14 +2,13 @@
 
 ghost use Rattle.std.specs.Prelude.{◌≡◌, ◌≤◌, ◌+◌, length, true, false};
 ghost use Rattle.events.specs.After.{without_pairs};
-ghost use Rattle.match_switch.specs.Installed.{rule_count};
+ghost use Rattle.block_build.specs.Installed.{rule_count};
 ghost use Rattle.fast_path.specs.Committing.{AreFree, AreTaken, AreUnkept, AreUnused, block_count, given_all, kept_with, kept_without, marked_all, member_count, signed, tags_of, untagged, untagged_one, with_blocks};
 ghost use Rattle.fast_path.specs.Grouping.{known_by};
 
 use crate::planned::Class;
-use block_build::Block;
+use block_build::{Block, Blocks};
 use events::TagChange;
-use match_switch::Switch;
 use net_types::{Pair, Pid, Pids, Tag};
 use next_hop_pool::Pool;
 use prefix_classes::{ClassMap, new_ones_are_few};
@@ -93,11 +92,11 @@ pub fn give_all(pool: &mut Pool, dead: &[Tag])
 }
 
 /// Takes the rules of pairs out.
-pub fn remove_all(switch: &mut Switch, drops: &[Pair])
-    ensures table { switch.new.table ≡ without_pairs switch.old.table drops.now }
-    ensures capacity { switch.new.capacity ≡ switch.old.capacity }
-    ensures room { switch.old.room ≤ switch.new.room }
-    ensures count { rule_count switch.new.table ≤ rule_count switch.old.table }
+pub fn remove_all<B: Blocks>(switch: &mut B, drops: &[Pair])
+    ensures table { (B.installed switch.new).table ≡ without_pairs (B.installed switch.old).table drops.now }
+    ensures capacity { (B.installed switch.new).capacity ≡ (B.installed switch.old).capacity }
+    ensures room { (B.installed switch.old).room ≤ (B.installed switch.new).room }
+    ensures count { rule_count (B.installed switch.new).table ≤ rule_count (B.installed switch.old).table }
 {
     for pair in drops {
         switch.drop_block(*pair);
@@ -105,11 +104,11 @@ pub fn remove_all(switch: &mut Switch, drops: &[Pair])
 }
 
 /// Puts the rules of pairs in.
-pub fn put_all(switch: &mut Switch, blocks: Vec<(Pair, Block)>)
-    requires room { length blocks.items ≤ switch.old.room }
-    requires few { rule_count switch.old.table + block_count blocks.items ≤ switch.old.capacity }
-    ensures table { switch.new.table ≡ with_blocks switch.old.table blocks.items }
-    ensures capacity { switch.new.capacity ≡ switch.old.capacity }
+pub fn put_all<B: Blocks>(switch: &mut B, blocks: Vec<(Pair, Block)>)
+    requires room { length blocks.items ≤ (B.installed switch.old).room }
+    requires few { rule_count (B.installed switch.old).table + block_count blocks.items ≤ (B.installed switch.old).capacity }
+    ensures table { (B.installed switch.new).table ≡ with_blocks (B.installed switch.old).table blocks.items }
+    ensures capacity { (B.installed switch.new).capacity ≡ (B.installed switch.old).capacity }
 {
     for block in blocks {
         switch.swap_block(block.0, block.1);

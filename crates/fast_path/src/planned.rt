@@ -4,8 +4,8 @@ ghost use Rattle.std.specs.Prelude.{◌≡◌};
 ghost use Rattle.fast_path.specs.declared.planned.FastFault.TheVariants as fault;
 
 use block_build::Block;
-use events::{Flows, TagChanges};
-use net_types::{Memory, Pair, Pairs, Pid, Pids, Prefixes, Sig, Tag};
+use events::{Entry, Flows, TagChanges};
+use net_types::{Memory, Pair, Pairs, Pid, Pids, Prefix, Prefixes, Sig, Tag};
 
 /// What a line that builds rules does to tags and rules. It changes nothing until it is committed.
 #[derive(Drop)]
@@ -22,9 +22,19 @@ pub struct Plan {
     pub fresh: Vec<Class>,
     /// The tags that are live no more.
     pub dead: Vec<Tag>,
+    /// What becomes present for the participants of the prefixes that the line touches.
+    pub offers: Vec<Advert>,
     /// Whom the policy of a participant names from now on, where the line is one that says so: the signatures that are
     /// kept are trimmed by it first.
     pub named: Option<(Pid, Pids)>,
+}
+
+/// What is present of a prefix for a participant once a plan is committed; no entry where nothing is.
+#[derive(Drop)]
+pub struct Advert {
+    pub who: Pid,
+    pub prefix: Prefix,
+    pub entry: Option<Entry>,
 }
 
 /// A fresh tag, with its signature and the prefixes that get it.

@@ -17,13 +17,13 @@ use crate::emptied::emptied;
 use crate::fresh::Fresh;
 use crate::grouping::{groups, same_tags};
 use crate::known::KnownClasses;
+use crate::offering::adverts as offers_of;
 use crate::pairs::{built_pairs, dropped_pairs, gone_pairs, untold};
 use crate::planned::{Class, FastFault, Plan};
-use crate::tagging::{fresh_tags, tag_changes};
-use advert_queue::Told;
-use block_build::{Block, Views};
+use crate::tagging::{fresh_tags, tag_changes, tagged};
+use advert_queue::Adverts;
+use block_build::{Block, Blocks, Views};
 use events::TagChange;
-use match_switch::Switch;
 use net_types::{Items, Memory, Pair, Pid, Pids, Prefixes, Steps, Tag, TryCopy};
 use next_hop_pool::Pool;
 use prefix_classes::ClassMap;
@@ -78,29 +78,32 @@ fn drafted(
     names: &Registry,
     classes: &ClassMap,
     pool: &Pool,
-    told: &[Told],
+    adverts: &Adverts,
     proposal: &Proposal,
     groups: &[Fresh],
     rebuild: &[Pair],
 ) -> Result<Draft, Memory>
     requires { length groups.now ≤ length (free_tags pool.now) }
-    ensures { IfOk result (IsDraft names.now classes.now pool.now told.now proposal.now groups.now rebuild.now) }
+    ensures { IfOk result (IsDraft names.now classes.now pool.now adverts.now.told proposal.now groups.now rebuild.now) }
 {
     let known = KnownClasses::of(classes, proposal);
     let given = fresh_tags(alloc, pool, groups.len())?;
-    let tags = tag_changes(alloc, &known, proposal, groups, &given)?;
+    let after = tagged(alloc, &known, proposal, groups, &given)?;
+    let tags = tag_changes(alloc, &known, after.items())?;
     let left = emptied(alloc, classes, tags.items())?;
-    let gone = gone_pairs(alloc, names, classes, told, &left)?;
+    let gone = gone_pairs(alloc, names, classes, adverts, &left)?;
     let drops = dropped_pairs(alloc, gone.items(), rebuild)?;
     let fresh = with_tags(alloc, groups, &given, tags.items())?;
     let built = built_pairs(alloc, names, &fresh, gone.items(), rebuild)?;
-    let dead = untold(alloc, told, &left)?;
+    let dead = untold(alloc, adverts, &left)?;
+    let offers = offers_of(alloc, names, proposal, after.items())?;
     Ok(Draft {
         tags,
         drops,
         built,
         fresh,
         dead,
+        offers,
     })
 }
 
@@ -149,28 +152,29 @@ fn joined(
         blocks,
         fresh: draft.fresh,
         dead: draft.dead,
+        offers: draft.offers,
         named,
     })
 }
 
 /// What a line that builds rules does, by a proposal and the pairs that are built anew, which rise. More fresh tags than are
 /// free are refused first, and then more rules than the table has room for. Each pair that is built counts one step at most.
-pub fn plan<L: Ledger>(
+pub fn plan<B: Blocks, L: Ledger>(
     alloc: Global,
     names: &Registry,
     classes: &ClassMap,
     pool: &Pool,
-    told: &[Told],
-    switch: &Switch,
+    adverts: &Adverts,
+    switch: &B,
     views: &Views<'_>,
     proposal: &Proposal,
     rebuild: &[Pair],
     steps: &mut Steps<L>,
 ) -> Result<Plan, FastFault>
-    requires { IsAskedFor names.now classes.now pool.now told.now switch.now views.now proposal.now rebuild.now }
-    ensures plan { (s : State) (r : Routing) (is_rebuilt : AnyPair → Bool) → IsAsked s r is_rebuilt names.now classes.now pool.now told.now switch.now views.now proposal.now rebuild.now → MatchResult result (IsPlan s r is_rebuilt) (IsFault s r) }
+    requires { IsAskedFor names.now classes.now pool.now adverts.now.told (B.installed switch.now) views.now proposal.now rebuild.now }
+    ensures plan { (s : State) (r : Routing) (is_rebuilt : AnyPair → Bool) → IsAsked s r is_rebuilt names.now classes.now pool.now adverts.now.told (B.installed switch.now) views.now proposal.now rebuild.now → MatchResult result (IsPlan s r is_rebuilt) (IsFault s r) }
     ensures named { IfOk result (λ p. p.named ≡ proposal.now.named) }
-    ensures steps { (s : State) (r : Routing) (is_rebuilt : AnyPair → Bool) → IsAsked s r is_rebuilt names.now classes.now pool.now told.now switch.now views.now proposal.now rebuild.now → IsWithinSteps s r is_rebuilt steps.old steps.new }
+    ensures steps { (s : State) (r : Routing) (is_rebuilt : AnyPair → Bool) → IsAsked s r is_rebuilt names.now classes.now pool.now adverts.now.told (B.installed switch.now) views.now proposal.now rebuild.now → IsWithinSteps s r is_rebuilt steps.old steps.new }
 {
     right_rules_are_few();
     let known = KnownClasses::of(classes, proposal);
@@ -179,7 +183,7 @@ pub fn plan<L: Ledger>(
         return Err(FastFault::NoNextHop { need, free });
     }
     let draft = drafted(
-        alloc, names, classes, pool, told, proposal, &groups, rebuild,
+        alloc, names, classes, pool, adverts, proposal, &groups, rebuild,
     )?;
     let drops = draft.drops.items();
     let built = draft.built.items();

@@ -1,8 +1,9 @@
-//! The fresh tags of groups, and the prefixes whose tag becomes another.
+//! The fresh tags of groups, the tags of the touched prefixes afterwards, and those that become others.
 
-ghost use Rattle.std.specs.Prelude.{◌≡◌, ◌≤◌, ◌++◌, [], length, take, IfOk, OnOk};
+ghost use Rattle.std.specs.Prelude.{◌≡◌, ◌≤◌, length, take, IfOk};
 ghost use Rattle.next_hop_pool.specs.Free.{free_tags};
-ghost use Rattle.fast_path.specs.Grouping.{change_before, changes_of, tag_after};
+ghost use Rattle.fast_path.specs.Grouping.{tag_after};
+ghost use Rattle.fast_path.specs.Offers.{others, tagged};
 
 use crate::fresh::Fresh;
 use crate::grouping::{group_place, same_tags};
@@ -52,35 +53,37 @@ fn tag_after(
     tags.get(place).copied()
 }
 
-/// A change more, where the tag is another.
-fn note(
-    changes: &mut TagChanges,
-    prefix: Prefix,
-    old: Option<Tag>,
-    new: Option<Tag>,
-) -> Result<(), Memory>
-    ensures { OnOk result (changes.new ≡ changes.old ++ change_before prefix old new []) }
-{
-    if !same_tags(old, new) {
-        changes.push(TagChange { prefix, tag: new })?;
-    }
-    Ok(())
-}
-
-/// The touched prefixes whose tag becomes another, in order.
-pub fn tag_changes(
+/// The touched prefixes, each with its tag afterwards, in order.
+pub fn tagged(
     alloc: Global,
     known: &KnownClasses<'_>,
     proposal: &Proposal,
     groups: &[Fresh],
     tags: &[Tag],
 ) -> Result<TagChanges, Memory>
-    ensures { IfOk result (λ changes. changes ≡ changes_of known.now groups.now tags.now proposal.now.touched proposal.now.sigs) }
+    ensures { IfOk result (λ all. all ≡ tagged known.now groups.now tags.now proposal.now.touched proposal.now.sigs) }
+{
+    let mut all = Items::new(alloc);
+    for (at, &prefix) in proposal.touched().iter().enumerate() {
+        let tag = tag_after(known, groups, tags, prefix, proposal.sig(at));
+        all.push(TagChange { prefix, tag })?;
+    }
+    Ok(all)
+}
+
+/// Those of the prefixes whose tag becomes another, in order.
+pub fn tag_changes(
+    alloc: Global,
+    known: &KnownClasses<'_>,
+    tagged: &[TagChange],
+) -> Result<TagChanges, Memory>
+    ensures { IfOk result (λ changes. changes ≡ others known.now tagged.now) }
 {
     let mut changes = Items::new(alloc);
-    for (at, prefix) in proposal.touched().iter().enumerate() {
-        let after = tag_after(known, groups, tags, *prefix, proposal.sig(at));
-        note(&mut changes, *prefix, known.tag_of(*prefix), after)?;
+    for &change in tagged {
+        if !same_tags(known.tag_of(change.prefix), change.tag) {
+            changes.push(change)?;
+        }
     }
     Ok(changes)
 }

@@ -20,7 +20,7 @@ use crate::effect::Effect;
 use crate::effects::effects_of;
 use crate::server::RouteServer;
 use crate::terms::Terms;
-use net_types::{Attrs, ExportRules, Memory, Pid, Pids, Prefix, Sig};
+use net_types::{Attrs, ExportRules, Memory, Pid, Pids, Prefix, SharedAttrs, Sig};
 use registry::Registry;
 use std::alloc::{AllocError, Global};
 use std::marker::Model;
@@ -150,6 +150,15 @@ impl Proposal {
 
     /// A participant's best attributes for a touched prefix afterwards; none where it has no best route for it.
     pub fn best(&self, at: usize, who: Pid) -> Option<&Attrs>
+        requires { at < length self.now.touched }
+        ensures { option_copied result ≡ option_and_then (λ o. o) (slice_get (unwrap_or (slice_get self.now.bests at) []) who.0) }
+    {
+        let shared = self.best_shared(at, who)?;
+        Some(shared.get())
+    }
+
+    /// The same attributes, of which further owners can be made.
+    pub fn best_shared(&self, at: usize, who: Pid) -> Option<&SharedAttrs>
         requires { at < length self.now.touched }
         ensures { option_copied result ≡ option_and_then (λ o. o) (slice_get (unwrap_or (slice_get self.now.bests at) []) who.0) }
     {

@@ -73,11 +73,12 @@ fn seen_of(terms: Terms<'_>, held: &Held) -> Candidate
         Some(port) => port.ip,
         None => Ip(0),
     };
+    let attrs = held.attrs.get();
     Candidate {
         hops: held.hops,
-        origin: held.attrs.origin,
+        origin: attrs.origin,
         asn,
-        med: held.attrs.med,
+        med: attrs.med,
         id,
         peer,
     }
@@ -88,7 +89,7 @@ pub fn is_given(terms: Terms<'_>, held: &Held, to: Pid, prefix: Prefix) -> bool
     ensures { result ≡ is_given (settled_by terms.entry) held.now.from to prefix held.now.attrs }
 {
     held.from.0 != to.0
-        && !is_in_path(asn_of(terms.names, to), held.attrs.path.items())
+        && !is_in_path(asn_of(terms.names, to), held.attrs.get().path.items())
         && allowed(terms.rules, held.from, to, prefix)
 }
 
@@ -124,5 +125,5 @@ pub fn best_attrs_in<'a>(
     ensures { option_copied result ≡ option_map (λ (c : definition.Candidate). c.attrs) (best_of (offered (settled_by terms.entry) to prefix row.now)) }
 {
     let place = best_in(terms, row, to, prefix)?;
-    Some(&row[place].attrs)
+    Some(row[place].attrs.get())
 }

@@ -87,8 +87,8 @@ fn offers_in(
         if is_offered(terms, held, to, chosen, prefix) {
             offers.push(Offer {
                 exporter: held.from,
-                port: port_with(terms.names, held.attrs.next_hop),
-                hole: is_hole(&held.attrs),
+                port: port_with(terms.names, held.attrs.get().next_hop),
+                hole: is_hole(held.attrs.get()),
             })?;
         }
     }

@@ -19,7 +19,7 @@ use crate::change::Change;
 use crate::edits::{row_with, row_without};
 use crate::held::Held;
 use crate::server::RouteServer;
-use net_types::{Attrs, Memory, Pid, Prefix, TryCopy, Update};
+use net_types::{Memory, Pid, Prefix, SharedAttrs, TryCopy, Update};
 
 /// The row of a prefix without a participant's route.
 fn withdrawal(server: &RouteServer, from: Pid, prefix: Prefix) -> Result<Change, Memory>
@@ -30,11 +30,11 @@ fn withdrawal(server: &RouteServer, from: Pid, prefix: Prefix) -> Result<Change,
     Ok(Change { prefix, row })
 }
 
-/// The row of a prefix with a route of a participant.
+/// The row of a prefix with a route of a participant, which is a further owner of the attributes.
 fn announcement(
     server: &RouteServer,
     from: Pid,
-    attrs: &Attrs,
+    attrs: &SharedAttrs,
     prefix: Prefix,
 ) -> Result<Change, Memory>
     requires declared { from.0 < 256 }
@@ -44,7 +44,7 @@ fn announcement(
 {
     let own = Held {
         from,
-        hops: hops(attrs.path.items()),
+        hops: hops(attrs.get().path.items()),
         attrs: attrs.copy()?,
     };
     let row = row_with(server.allocator(), server.row(prefix), own)?;
@@ -68,7 +68,7 @@ pub fn withdrawals(server: &RouteServer, from: Pid, gone: &[Prefix]) -> Result<V
 fn announcements(
     server: &RouteServer,
     from: Pid,
-    attrs: &Attrs,
+    attrs: &SharedAttrs,
     here: &[Prefix],
     earlier: Vec<Change>,
 ) -> Result<Vec<Change>, Memory>
@@ -95,7 +95,7 @@ fn sorted(changes: Vec<Change>) -> Vec<Change>
     sorted
 }
 
-/// Changes for all prefixes of an update, the withdrawn ones first.
+/// Changes for all prefixes of an update, the withdrawn ones first. The announced ones share one copy of the attributes.
 fn edits(server: &RouteServer, from: Pid, update: &Update) -> Result<Vec<Change>, Memory>
     requires declared { from.0 < 256 }
     requires sound { HasSoundAttrs update.now.announced update.now.attrs }
@@ -106,7 +106,8 @@ fn edits(server: &RouteServer, from: Pid, update: &Update) -> Result<Vec<Change>
     let gone = withdrawals(server, from, update.withdrawn.items())?;
     match &update.attrs {
         Some(attrs) => {
-            let all = announcements(server, from, attrs, update.announced.items(), gone)?;
+            let shared = SharedAttrs::new(server.allocator(), attrs.copy()?)?;
+            let all = announcements(server, from, &shared, update.announced.items(), gone)?;
             Ok(all)
         }
         None => Ok(gone),

@@ -1,0 +1,36 @@
+-- What is kept of one participant.
+use Rattle.std.specs.Prelude.{ℕ, ◌+◌, ◌≤◌, ◌<◌, ◌^◌, IsTrue, List, map, Option, length}
+use Rattle.std.specs.FinMap.{FinMap, entries}
+use Rattle.std.specs.FinMap.Entries.{is_sorted}
+use Rattle.events.specs.declared.Entry.{Entry}
+use Rattle.net_types.specs.Keys.{prefix_cmp}
+use Rattle.net_types.specs.declared.address.Tag.{Tag}
+use Rattle.net_types.specs.declared.prefix.Prefix.{Prefix}
+use Rattle.ordered_map.specs.Held.{Held}
+use Rattle.prefix_map.specs.Held as prefixes
+use Rattle.advert_queue.specs.Advertised.{Advertised}
+use Rattle.advert_queue.specs.Changes.{AreNews, changed}
+use Rattle.advert_queue.specs.Counts.{AreCounts, uses}
+
+-- what a participant was told, what is present for it, and for how many offers there is room
+pub record Queued : Type 0 where
+  pub told : FinMap prefix_cmp Entry
+  pub present : FinMap prefix_cmp Entry
+  pub room : ℕ
+
+-- The news are in order and are news, the tags of what was told and of what is present are counted, and there is room for
+-- all that is pending and for so many offers.
+pub record IsKept (told : prefixes.Held Entry) (news : Held Prefix (Option Entry)) (told_tags present_tags : Held Tag ℕ) (room : ℕ) : Type 0 where
+  pub rising : IsTrue (is_sorted prefix_cmp news.items)
+  pub differ : AreNews told.map news.items
+  pub told_counts : AreCounts told_tags.items (uses told.map)
+  pub present_counts : AreCounts present_tags.items (uses (changed told.map news.items))
+  pub told_room : room + length news.items ≤ told.room
+  pub told_tags_room : room + length news.items ≤ told_tags.room
+  pub news_room : room ≤ news.room
+  pub present_tags_room : room ≤ present_tags.room
+  pub fits : length (entries told.map) + length news.items + room < 2 ^ 64
+
+-- what the participants are seen as
+abbrev pub advertised_by : List Queued → Advertised
+advertised_by qs = record { told = map (λ (q : Queued). q.told) qs; present = map (λ (q : Queued). q.present) qs; room = map (λ (q : Queued). q.room) qs }
