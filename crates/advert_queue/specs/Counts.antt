@@ -21,16 +21,34 @@ abbrev pub has_tag : Tag → Option Tag → ℕ
 has_tag t None = 0
 has_tag t (Some u) = is_tag t u
 
+-- 1 where it is the entry's tag, else 0
+abbrev pub is_tag_of : Tag → Entry → ℕ
+is_tag_of t e = is_tag t e.tag
+
 -- how many entries have the tag
 abbrev pub uses : FinMap prefix_cmp Entry → Tag → ℕ
-uses m t = total (λ (e : Entry). is_tag t e.tag) (entries m)
+uses m t = total (is_tag_of t) (entries m)
 
 -- the number that is kept for a tag, 0 where none is
 abbrev pub counted : List (Tag × ℕ) → Tag → ℕ
 counted cs t = unwrap_or (find tag_cmp t cs) 0
 
--- The tags rise, those that have a number are in use, and the number of each tag, kept or not, is this one.
+-- the tag of a number
+abbrev pub entry_tag : Tag × ℕ → Tag
+entry_tag c = c.0
+
+-- each tag that has a number is in use
+abbrev pub AreUsed : List (Tag × ℕ) → Type 0
+AreUsed cs = (t : Tag) (n : ℕ) → find tag_cmp t cs ≡ Some n → 0 < n
+
+-- The tags rise, those that have a number are in use, and each tag, whether it has one or not, is counted rightly.
 pub record AreCounts (cs : List (Tag × ℕ)) (number : Tag → ℕ) : Type 0 where
   pub rising : IsTrue (is_sorted tag_cmp cs)
-  pub used : (t : Tag) (n : ℕ) → find tag_cmp t cs ≡ Some n → 0 < n
+  pub used : AreUsed cs
   pub counts : (t : Tag) → counted cs t ≡ number t
+
+-- what had one tag, or none, has another one, or none
+pub record IsRecounted (cs ds : List (Tag × ℕ)) (before after : Option Tag) : Type 0 where
+  pub rising : IsTrue (is_sorted tag_cmp ds)
+  pub used : AreUsed ds
+  pub counts : (t : Tag) → counted ds t + has_tag t before ≡ counted cs t + has_tag t after

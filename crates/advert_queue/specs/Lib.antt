@@ -4,4 +4,5 @@ pub mod Advertised
 pub mod Taken
 pub mod Changes
 pub mod Counts
+pub mod Leaving
 pub mod Kept

@@ -2,10 +2,17 @@
 #![tactic(auto)]
 
 mod ascending;
+mod changes;
+mod counts;
+mod leaving;
 mod news;
+mod participants;
 mod queue;
+mod session;
 mod told;
 
+pub use changes::Entries;
+pub use participants::Adverts;
 pub use news::with_news;
 pub use queue::{adverts, pending};
 pub use told::Told;

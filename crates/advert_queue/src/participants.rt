@@ -11,7 +11,8 @@ ghost use Rattle.advert_queue.specs.Advertised.{HasQueue, first_pending, is_told
 ghost use Rattle.advert_queue.specs.Taken.{gone_tags, news_of, told_then};
 ghost use Rattle.advert_queue.specs.Telling.{adverts, tags_of};
 
-use crate::session::{Entries, Session};
+use crate::changes::Entries;
+use crate::session::Session;
 use events::{Entry, Messages};
 use net_types::{Ip, Memory, Pid, Prefix, Tag};
 use std::alloc::Global;

@@ -46,7 +46,7 @@ pub fn adverts(
 }
 
 /// A withdrawal, or an announcement with the address of the entry's tag as NEXT_HOP.
-fn advert(alloc: Global, base: Ip, prefix: Prefix, entry: Option<&Entry>) -> Result<Bytes, Memory>
+pub(crate) fn advert(alloc: Global, base: Ip, prefix: Prefix, entry: Option<&Entry>) -> Result<Bytes, Memory>
     requires low { base.0 ≤ 3758096383 }
     requires small { IfSome (option_copied entry) (λ e. e.tag.0 ≤ 65536) }
     ensures { IfOk result (λ message. message ≡ advert_with base prefix (option_copied entry.entry)) }

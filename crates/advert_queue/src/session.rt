@@ -11,11 +11,13 @@ ghost use Rattle.advert_queue.specs.Advertised.{first_pending};
 ghost use Rattle.advert_queue.specs.Taken.{gone_tags, news_of, told_then};
 ghost use Rattle.advert_queue.specs.Telling.{adverts, tags_of};
 
-use crate::counts::{count_of, recount, tags_of};
-use crate::news::{Entries, first_entries, first_messages, note, tag_at, tell};
+use crate::counts::{Counts, count_of, recount, used_tags};
+use crate::leaving::{gone, leaving};
+use crate::changes::{
+    Entries, News, first_entries, first_messages, limited, note, present_tag, tag_of, tell,
+};
 use events::{Entry, Messages};
 use net_types::{Ip, Memory, Prefix, Tag};
-use ordered_map::OrderedMap;
 use prefix_map::PrefixMap;
 use std::alloc::Global;
 use std::marker::Model;
@@ -25,10 +27,11 @@ use std::marker::Model;
 #[derive(Drop)]
 pub(crate) struct Session {
     told: PrefixMap<Entry>,
-    news: OrderedMap<Prefix, Option<Entry>>,
+    news: News,
     // how many entries that were told have each tag, and how many of those that are present
-    told_tags: OrderedMap<Tag, usize>,
-    present_tags: OrderedMap<Tag, usize>,
+    told_tags: Counts,
+    present_tags: Counts,
+    // for how many offers there is room
     room: usize,
 }
 
@@ -45,4 +48,135 @@ impl Model for Session {
     ghost view = { λ a. record { told = a.told.map; present = changed a.told.map a.news.items; room = a.room } };
 
     ghost invariant = { λ a. IsKept a.told a.news a.told_tags a.present_tags a.room };
+}
+
+impl Session {
+    /// Nothing was told, and nothing is present.
+    pub(crate) fn new(alloc: Global) -> Session
+        ensures told { result.told ≡ map.empty }
+        ensures present { result.present ≡ map.empty }
+        ensures room { result.room ≡ 0 }
+    {
+        Session {
+            told: PrefixMap::new(alloc),
+            news: News::new(alloc),
+            told_tags: Counts::new(alloc),
+            present_tags: Counts::new(alloc),
+            room: 0,
+        }
+    }
+
+    /// Makes room for so many offers. It takes memory only where there is less.
+    pub(crate) fn reserve(&mut self, entries: usize) -> Result<(), Memory>
+        ensures told { self.new.told ≡ self.old.told }
+        ensures present { self.new.present ≡ self.old.present }
+        ensures room { OnOk result (entries ≤ self.new.room) }
+        ensures kept { self.old.room ≤ self.new.room }
+    {
+        if entries <= self.room {
+            return Ok(());
+        }
+        let pending = self.news.len();
+        if entries > usize::MAX - self.told.len() - pending {
+            return Err(Memory);
+        }
+        self.told.reserve(entries + pending)?;
+        self.told_tags.reserve(entries + pending)?;
+        self.news.reserve(entries)?;
+        self.present_tags.reserve(entries)?;
+        self.room = entries;
+        Ok(())
+    }
+
+    /// Makes this entry present at a prefix, or none. It uses one place of the room.
+    pub(crate) fn offer(&mut self, prefix: Prefix, entry: Option<Entry>)
+        requires room { 0 < self.old.room }
+        ensures told { self.new.told ≡ self.old.told }
+        ensures present { self.new.present ≡ with_news self.old.present prefix entry }
+        ensures room { self.old.room ≡ self.new.room + 1 }
+    {
+        let before = present_tag(&self.told, &self.news, prefix);
+        let after = tag_of(entry.as_ref());
+        note(&self.told, &mut self.news, prefix, entry);
+        recount(&mut self.present_tags, before, after);
+        self.room -= 1;
+    }
+
+    /// The first of what is pending, so many at most, by prefix.
+    pub(crate) fn peek(&self, alloc: Global, count: usize) -> Result<Entries, Memory>
+        ensures { IfOk result (λ entries. entries ≡ first_pending count self.now.told self.now.present) }
+    {
+        first_entries(alloc, &self.news, count)
+    }
+
+    /// The messages by which the first of what is pending is told, so many at most, or all.
+    pub(crate) fn messages(
+        &self,
+        alloc: Global,
+        base: Ip,
+        limit: Option<u32>,
+    ) -> Result<Messages, Memory>
+        requires low { base.0 ≤ 3758096383 }
+        requires small { (p : AnyPrefix) → IfSome (map.get self.now.present p) (λ e. e.tag.0 ≤ 65536) }
+        ensures { IfOk result (λ messages. messages ≡ adverts base self.now.present (news_of limit self.now.told self.now.present)) }
+    {
+        let count = limited(limit, self.news.len());
+        first_messages(alloc, base, &self.news, count)
+    }
+
+    /// The tags that were told, and that are neither told nor present once the first of what is pending is taken, so many
+    /// at most, or all.
+    pub(crate) fn gone(&self, alloc: Global, limit: Option<u32>) -> Result<Vec<Tag>, Memory>
+        ensures { IfOk result (λ tags. tags.items ≡ gone_tags self.now.told (told_then limit self.now.told self.now.present) self.now.present) }
+    {
+        let count = limited(limit, self.news.len());
+        let leaving = leaving(alloc, &self.told, &self.news, count)?;
+        gone(alloc, &leaving, &self.told_tags, &self.present_tags)
+    }
+
+    /// Tells the first of what is pending, so many at most, or all.
+    pub(crate) fn take(&mut self, limit: Option<u32>)
+        ensures told { self.new.told ≡ told_then limit self.old.told self.old.present }
+        ensures present { self.new.present ≡ self.old.present }
+        ensures room { self.new.room ≡ self.old.room }
+    {
+        let count = limited(limit, self.news.len());
+        tell(&mut self.told, &mut self.news, &mut self.told_tags, count);
+    }
+
+    /// Whether some entry that was told, or that is present, has the tag.
+    pub(crate) fn holds(&self, tag: Tag) -> bool
+        ensures { result ≡ (tells self.now.told tag || tells self.now.present tag) }
+    {
+        count_of(&self.told_tags, tag) > 0 || count_of(&self.present_tags, tag) > 0
+    }
+
+    /// Whether some entry that was told has the tag.
+    pub(crate) fn tells(&self, tag: Tag) -> bool
+        ensures { result ≡ tells self.now.told tag }
+    {
+        count_of(&self.told_tags, tag) > 0
+    }
+
+    /// What was told of a prefix, if anything.
+    pub(crate) fn told(&self, prefix: Prefix) -> Option<&Entry>
+        ensures { option_copied result ≡ map.get self.now.told prefix }
+    {
+        self.told.get(prefix)
+    }
+
+    /// The longest prefix of which something was told that covers an address, with its entry; none where there is none.
+    pub(crate) fn longest(&self, ip: Ip) -> Option<(Prefix, &Entry)>
+        ensures key { option_map (λ entry. entry.0) result ≡ longest_of (map.keys self.now.told) ip }
+        ensures value { IfSome result (λ entry. Some entry.1.now ≡ map.get self.now.told entry.0) }
+    {
+        self.told.longest(ip)
+    }
+
+    /// The different tags that were told, ascending.
+    pub(crate) fn told_tags(&self, alloc: Global) -> Result<Vec<Tag>, Memory>
+        ensures { IfOk result (λ tags. tags.items ≡ tags_of self.now.told) }
+    {
+        used_tags(alloc, &self.told_tags)
+    }
 }
