@@ -71,7 +71,13 @@ impl Sdx {
         };
         plans_are_committed();
         self.server.reserve(&request.proposal)?;
-        reserve(self.alloc, &plan, &mut self.classes, &mut self.adverts)?;
+        reserve(
+            self.alloc,
+            &self.registry,
+            &plan,
+            &mut self.classes,
+            &mut self.adverts,
+        )?;
         self.switch.reserve(plan.blocks.len())?;
         let Request {
             proposal,

@@ -53,8 +53,11 @@ invariant_of-self-then-not-asks_as c =
     let place : port_place s c.args.port ≡ Some c.in-Some.place = sym c.port_place.ensures.place ∙ c.in-Some.is in
     let here : slice_get a.registry.ports c.in-Some.place ≡ Some q = slice_get-get_or a.registry.ports c.in-Some.place no_port c.in-Some.ensures.within in
     let is_asked = rw c.items.ensures at (sym c.pool_request.ensures ∙ c.in-Some-pool_request.is) in
-    arp_kept c.self.invariant.kept (sym c.is_declared.ensures ∙ c.if-not-is_declared.false) c.args.port c.args.bytes.now q c.requires (port_at s c.args.port c.in-Some.place q place here) a.resolved.items
-    (other_state s c.args.bytes.now c.in-Some-pool_request.asked is_asked q (rw c.ports.ensures at (sym c.asks_as.ensures ∙ c.if-not-asks_as.true)))
+    record {
+      kept = arp_kept c.self.invariant.kept (sym c.is_declared.ensures ∙ c.if-not-is_declared.false) c.args.port c.args.bytes.now q c.requires (port_at s c.args.port c.in-Some.place q place here) a.resolved.items
+          (other_state s c.args.bytes.now c.in-Some-pool_request.asked is_asked q (rw c.ports.ensures at (sym c.asks_as.ensures ∙ c.if-not-asks_as.true)));
+      present = c.self.invariant.present;
+    }
 
 pub invariant_of-self-2 : goal.invariant_of-self-2
 invariant_of-self-2 c =
@@ -67,12 +70,15 @@ invariant_of-self-2 c =
     let is_asked = rw c.items.ensures at (sym c.pool_request.ensures ∙ c.in-Some-pool_request.is) in
     let even : length a.resolved.items ≡ length a.registry.ports = c.self.invariant.kept.steady.resolved in
     let less : c.in-Some.place < length a.registry.ports = c.in-Some.ensures.within in
-    let set = c.index-as_slice-place.result in
-    let set_is : set ≡ get_or a.resolved.items c.in-Some.place set = c.index-as_slice-place.is ∙ ap (λ xs. get_or xs c.in-Some.place set) c.as_slice.ensures.value in
-    let lists = slice_set a.resolved.items c.in-Some.place c.in_ok-more.more in
+    let set = c.index_mut.result.now in
+    let set_is : set ≡ get_or a.resolved.items c.in-Some.place set = c.index_mut.ensures.value in
+    let lists = slice_set a.resolved.items c.in-Some.place c.insert_all.new.self in
     let then = own_state s c.args.bytes.now asked is_asked c.args.port c.in-Some.place q place here (rw c.ports.ensures at (sym c.asks_as.ensures ∙ c.if-not-asks_as.false))
-    set (slice_get-get_or a.resolved.items c.in-Some.place set (omega arith) ∙ ap Some (sym set_is)) lists (ap (slice_set a.resolved.items c.in-Some.place) c.in_ok-more.ensures) in
-    arp_kept c.self.invariant.kept (sym c.is_declared.ensures ∙ c.if-not-is_declared.false) c.args.port c.args.bytes.now q c.requires (port_at s c.args.port c.in-Some.place q place here) lists then
+    set (slice_get-get_or a.resolved.items c.in-Some.place set (omega arith) ∙ ap Some (sym set_is)) lists (ap (slice_set a.resolved.items c.in-Some.place) c.in_ok-insert_all.ensures.ok) in
+    record {
+      kept = arp_kept c.self.invariant.kept (sym c.is_declared.ensures ∙ c.if-not-is_declared.false) c.args.port c.args.bytes.now q c.requires (port_at s c.args.port c.in-Some.place q place here) lists then;
+      present = c.self.invariant.present;
+    }
 
 pub returns-clause-step : goal.returns-clause-step
 returns-clause-step c =
@@ -87,11 +93,11 @@ returns-clause-step c =
     let asks = c.in_ok-push.ensures.ok ∙ (λ i. (plain i).asks ++ (let x : Exchange = record { request = None; reply = c.in_ok-answer.ensures i } in x) ∷ []) in
     let even : length a.resolved.items ≡ length a.registry.ports = c.self.invariant.kept.steady.resolved in
     let less : c.in-Some.place < length a.registry.ports = c.in-Some.ensures.within in
-    let set = c.index-as_slice-place.result in
-    let set_is : set ≡ get_or a.resolved.items c.in-Some.place set = c.index-as_slice-place.is ∙ ap (λ xs. get_or xs c.in-Some.place set) c.as_slice.ensures.value in
-    let lists = slice_set a.resolved.items c.in-Some.place c.in_ok-more.more in
+    let set = c.index_mut.result.now in
+    let set_is : set ≡ get_or a.resolved.items c.in-Some.place set = c.index_mut.ensures.value in
+    let lists = slice_set a.resolved.items c.in-Some.place c.insert_all.new.self in
     let then = own_state s c.args.bytes.now asked is_asked c.args.port c.in-Some.place q place here (rw c.ports.ensures at (sym c.asks_as.ensures ∙ c.if-not-asks_as.false))
-    set (slice_get-get_or a.resolved.items c.in-Some.place set (omega arith) ∙ ap Some (sym set_is)) lists (ap (slice_set a.resolved.items c.in-Some.place) c.in_ok-more.ensures) in
+    set (slice_get-get_or a.resolved.items c.in-Some.place set (omega arith) ∙ ap Some (sym set_is)) lists (ap (slice_set a.resolved.items c.in-Some.place) c.in_ok-insert_all.ensures.ok) in
     step_from s c.args.self.now (Arp c.args.port c.args.bytes.now) _ _ c.self.view_is
     (arp_step c.self.invariant.kept (sym c.is_declared.ensures ∙ c.if-not-is_declared.false) c.args.port c.args.bytes.now q c.requires (port_at s c.args.port c.in-Some.place q place here)
     _ (answer_reply s c.args.bytes.now asked is_asked _ (λ i. record (plain i) { asks = asks i })) lists then)
