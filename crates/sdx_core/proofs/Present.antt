@@ -35,6 +35,7 @@ pub kept_present : (s : State) (all : Present) (who : Pid) → all ≡ all_prese
 kept_present s all who kept declared =
     ap (λ ps. present_to ps who) (kept ∙ map-map (present s) pid_at (λ n. present s (pid_at n)) (λ n. refl) (numbers 0 (length s.routing.participants)))
     ∙ ap (λ o. unwrap_or o empty) (number_at (λ n. present s (pid_at n)) 0 (length s.routing.participants) who.0 declared)
+    ∙ ap (λ n. present s (pid_at n)) (let same : 0 + who.0 ≡ who.0 = omega arith in same)
 
 -- ---- no routes
 

@@ -114,7 +114,7 @@ fn nothing_told(alloc: Global, participants: usize) -> Result<Adverts, Memory>
     ensures present { IfOk result (λ adverts. adverts.present ≡ replicate participants map.empty) }
 {
     let mut adverts = Adverts::new(alloc);
-    for _ in 0..participants {
+    for joined in 0..participants {
         adverts.push()?;
     }
     Ok(adverts)
