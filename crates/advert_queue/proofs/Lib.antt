@@ -2,3 +2,11 @@ pub mod SortedLists
 pub mod EntryLists
 pub mod PendingLemmas
 pub mod NewsLemmas
+pub mod RisingEntries
+pub mod ChangedMaps
+pub mod CountLemmas
+pub mod TakenLemmas
+pub mod Fronts
+pub mod GoneLemmas
+pub mod SessionLemmas
+pub mod PlacesOf

@@ -1,5 +1,5 @@
 -- What each participant was told and what is present for it, in order of declaration (this exchange's own rule).
-use Rattle.std.specs.Prelude.{ℕ, ◌<◌, Bool, List, [], ◌∷◌, map, length, slice_get, slice_set, unwrap_or, Option, Some, None, take}
+use Rattle.std.specs.Prelude.{ℕ, ◌<◌, Bool, List, map, length, slice_get, slice_set, unwrap_or, Option, take}
 use Rattle.std.specs.FinMap.{FinMap, empty, get}
 use Rattle.std.specs.List.{list_any}
 use Rattle.events.specs.Pending.{with_news}

@@ -1,11 +1,12 @@
 -- What is present, where it is kept as what was told and what is news.
-use Rattle.std.specs.Prelude.{◌≡◌, ℕ, ◌≤◌, min, List, [], ◌∷◌, Option, Some, None}
+use Rattle.std.specs.Prelude.{◌≡◌, ℕ, ◌≤◌, min, List, [], ◌∷◌, Option, Some, None, IfSome}
 use Rattle.std.specs.FinMap.{FinMap, get}
 use Rattle.std.specs.FinMap.Entries.{find}
 use Rattle.std.specs.Option.{option_map}
 use Rattle.events.specs.Pending.{with_news}
 use Rattle.events.specs.declared.Entry.{Entry}
 use Rattle.net_types.specs.Keys.{prefix_cmp}
+use Rattle.net_types.specs.Sets.{Member}
 use Rattle.net_types.specs.declared.address.Ip.{Ip}
 use Rattle.net_types.specs.declared.address.Tag.{Tag}
 use Rattle.net_types.specs.declared.prefix.Prefix.{Prefix}
@@ -26,7 +27,7 @@ AreNews told cs = (p : Prefix) (now : Option Entry) → find prefix_cmp p cs ≡
 
 -- no entry has a tag above 65536
 abbrev pub AreSmall : List Change → Type 0
-AreSmall cs = (p : Prefix) (e : Entry) → find prefix_cmp p cs ≡ Some (Some e) → e.tag.0 ≤ 65536
+AreSmall cs = (c : Change) → Member c cs → IfSome c.1 (λ (e : Entry). e.tag.0 ≤ 65536)
 
 -- the message that tells a change
 abbrev pub message_of : Ip → Change → List ℕ
@@ -39,4 +40,4 @@ tag_in entry = option_map (λ (e : Entry). e.tag) entry
 -- how many of so many are taken
 abbrev pub limited : Option ℕ → ℕ → ℕ
 limited None n = n
-limited (Some count) n = min n count
+limited (Some count) n = min count n

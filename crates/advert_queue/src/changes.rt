@@ -31,7 +31,7 @@ pub(crate) fn limited(limit: Option<u32>, pending: usize) -> usize
 {
     match limit {
         None => pending,
-        Some(count) => pending.min(count as usize),
+        Some(count) => (count as usize).min(pending),
     }
 }
 
@@ -71,12 +71,7 @@ fn is_same(one: Option<&Entry>, other: Option<&Entry>) -> bool
 }
 
 /// Makes an entry present at a prefix, or none: it is news unless it is what was told.
-pub(crate) fn note(
-    told: &PrefixMap<Entry>,
-    news: &mut News,
-    prefix: Prefix,
-    entry: Option<Entry>,
-)
+pub(crate) fn note(told: &PrefixMap<Entry>, news: &mut News, prefix: Prefix, entry: Option<Entry>)
     requires rising { IsTrue (is_sorted prefix_cmp news.old.items) }
     requires differ { AreNews told.now.map news.old.items }
     requires room { 0 < news.old.room }
@@ -112,6 +107,7 @@ fn tell_first(told: &mut PrefixMap<Entry>, news: &mut News, counts: &mut Counts)
     requires kept { IsTellable told.old news.old counts.old 0 }
     ensures told { told.new.map ≡ changed told.old.map (take 1 news.old.items) }
     ensures news { news.new.items ≡ drop 1 news.old.items }
+    ensures room { news.old.room ≤ news.new.room }
     ensures kept { (more : ℕ) → IsTellable told.old news.old counts.old more → IsTellable told.new news.new counts.new more }
 {
     let Some((prefix, _)) = news.first() else {
@@ -127,19 +123,15 @@ fn tell_first(told: &mut PrefixMap<Entry>, news: &mut News, counts: &mut Counts)
 }
 
 /// Tells the first of what is news, so many.
-pub(crate) fn tell(
-    told: &mut PrefixMap<Entry>,
-    news: &mut News,
-    counts: &mut Counts,
-    count: usize,
-)
+pub(crate) fn tell(told: &mut PrefixMap<Entry>, news: &mut News, counts: &mut Counts, count: usize)
     requires enough { count ≤ length news.old.items }
     requires kept { IsTellable told.old news.old counts.old 0 }
     ensures told { told.new.map ≡ changed told.old.map (take count news.old.items) }
     ensures news { news.new.items ≡ drop count news.old.items }
+    ensures room { news.old.room ≤ news.new.room }
     ensures kept { (more : ℕ) → IsTellable told.old news.old counts.old more → IsTellable told.new news.new counts.new more }
 {
-    for _ in 0..count {
+    for _done in 0..count {
         tell_first(told, news, counts);
     }
 }

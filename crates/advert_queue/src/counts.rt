@@ -1,7 +1,7 @@
 //! How many entries have each tag.
 
-ghost use Rattle.std.specs.Prelude.{◌≡◌, ◌≤◌, ◌<◌, ◌+◌, ◌^◌, None, Some, IfOk, IfSome, IsTrue, map};
-ghost use Rattle.std.specs.FinMap.Entries.{is_sorted};
+ghost use Rattle.std.specs.Prelude.{◌≡◌, ◌≤◌, ◌<◌, ◌+◌, ◌^◌, None, Some, IfOk, IfSome, IsTrue, is_some, map};
+ghost use Rattle.std.specs.FinMap.Entries.{find, is_sorted};
 ghost use Rattle.net_types.specs.Keys.{tag_cmp};
 ghost use Rattle.net_types.specs.declared.address.Tag.{Tag as AnyTag};
 ghost use Rattle.advert_queue.specs.Counts.{AreUsed, IsRecounted, counted, entry_tag};
@@ -21,6 +21,13 @@ pub(crate) fn count_of(counts: &Counts, tag: Tag) -> usize
         Some(count) => *count,
         None => 0,
     }
+}
+
+/// Whether a tag is in use.
+pub(crate) fn is_used(counts: &Counts, tag: Tag) -> bool
+    ensures { result ≡ is_some (find tag_cmp tag counts.now.items) }
+{
+    counts.get(&tag).is_some()
 }
 
 /// Counts a use of a tag more.

@@ -1,15 +1,35 @@
 //! The tags that go with what a participant was told.
 
-ghost use Rattle.std.specs.Prelude.{◌≡◌, IfOk, map, filter, take};
-ghost use Rattle.advert_queue.specs.Counts.{AreCounts, entry_tag};
+ghost use Rattle.std.specs.Prelude.{◌≡◌, ◌<◌, ◌+◌, ◌^◌, None, IfOk, IsTrue, OnOk, map, filter, take};
+ghost use Rattle.std.specs.FinMap.{get};
+ghost use Rattle.std.specs.FinMap.Entries.{is_sorted};
+ghost use Rattle.net_types.specs.Keys.{tag_cmp};
+ghost use Rattle.net_types.specs.declared.address.Tag.{Tag as AnyTag};
+ghost use Rattle.advert_queue.specs.Changes.{tag_in};
+ghost use Rattle.advert_queue.specs.Counts.{AreCounts, AreUsed, IsRecounted, counted, entry_tag};
 ghost use Rattle.advert_queue.specs.Leaving.{is_gone, left};
 
-use crate::counts::{Counts, count_of, raise};
 use crate::changes::News;
+use crate::counts::{Counts, count_of, raise};
 use events::Entry;
-use net_types::{Memory, Tag};
+use net_types::{Memory, Prefix, Tag};
 use prefix_map::PrefixMap;
 use std::alloc::Global;
+
+/// Counts the tag that a prefix was told, if any.
+fn count_told(counts: &mut Counts, told: &PrefixMap<Entry>, prefix: Prefix) -> Result<(), Memory>
+    requires rising { IsTrue (is_sorted tag_cmp counts.old.items) }
+    requires used { AreUsed counts.old.items }
+    requires small { (tag : AnyTag) → counted counts.old.items tag + 1 < 2 ^ 64 }
+    ensures { OnOk result (IsRecounted counts.old.items counts.new.items None (tag_in (get told.now.map prefix))) }
+{
+    let Some(entry) = told.get(prefix) else {
+        return Ok(());
+    };
+    counts.reserve(1)?;
+    raise(counts, entry.tag);
+    Ok(())
+}
 
 /// How many of the first prefixes that are news, so many, were told each tag.
 pub(crate) fn leaving(
@@ -26,13 +46,19 @@ pub(crate) fn leaving(
         if seen == count {
             return Ok(counts);
         }
+        count_told(&mut counts, told, *prefix)?;
         seen += 1;
-        if let Some(entry) = told.get(*prefix) {
-            counts.reserve(1)?;
-            raise(&mut counts, entry.tag);
-        }
     }
     Ok(counts)
+}
+
+/// Whether a tag that leaves so often is in use nowhere else.
+fn is_gone(told: &Counts, present: &Counts, tag: Tag, count: usize) -> bool
+    ensures { result ≡ is_gone told.now.items present.now.items (tag, count) }
+{
+    let in_told = count_of(told, tag);
+    let in_present = count_of(present, tag);
+    in_told == count && in_present == 0
 }
 
 /// Those of the tags that are in use nowhere else.
@@ -46,7 +72,7 @@ pub(crate) fn gone(
 {
     let mut tags = Vec::new(alloc);
     for (tag, count) in leaving.iter() {
-        if count_of(told, *tag) == *count && count_of(present, *tag) == 0 {
+        if is_gone(told, present, *tag, *count) {
             tags.push(*tag)?;
         }
     }

@@ -12,7 +12,7 @@ mod session;
 mod told;
 
 pub use changes::Entries;
-pub use participants::Adverts;
 pub use news::with_news;
+pub use participants::Adverts;
 pub use queue::{adverts, pending};
 pub use told::Told;

@@ -2,12 +2,14 @@
 
 ghost use Rattle.std.specs.Prelude.{◌≡◌, ◌≤◌, ◌<◌, ◌+◌, ◌++◌, ◌∷◌, [], ◌||◌, Some, IfOk, IfSome, OnOk, OnErr, length, option_copied, slice_set};
 ghost use Rattle.std.specs.FinMap as map;
+ghost use Rattle.std.specs.List.{list_any};
 ghost use Rattle.std.specs.Option.{option_map};
 ghost use Rattle.events.specs.Tags.{tells};
 ghost use Rattle.net_types.specs.Routes.{longest_of};
 ghost use Rattle.net_types.specs.declared.address.Pid.{Pid as AnyPid};
 ghost use Rattle.net_types.specs.declared.prefix.Prefix.{Prefix as AnyPrefix};
 ghost use Rattle.advert_queue.specs.Advertised.{HasQueue, first_pending, is_told, offered, present_of, room_of, told_of};
+ghost use Rattle.advert_queue.specs.Kept.{Queued};
 ghost use Rattle.advert_queue.specs.Taken.{gone_tags, news_of, told_then};
 ghost use Rattle.advert_queue.specs.Telling.{adverts, tags_of};
 
@@ -102,7 +104,7 @@ impl Adverts {
         requires declared { HasQueue self.now who }
         ensures { IfOk result (λ entries. entries ≡ first_pending count (told_of self.now who) (present_of self.now who)) }
     {
-        self.sessions[who.0 as usize].peek(self.alloc, count)
+        self.session(who).peek(self.alloc, count)
     }
 
     /// The messages by which a participant is told the first of what is pending, so many at most, or all: a message each, by
@@ -114,7 +116,7 @@ impl Adverts {
         requires small { (p : AnyPrefix) → IfSome (map.get (present_of self.now who) p) (λ e. e.tag.0 ≤ 65536) }
         ensures { IfOk result (λ messages. messages ≡ adverts base (present_of self.now who) (news_of limit (told_of self.now who) (present_of self.now who))) }
     {
-        self.sessions[who.0 as usize].messages(self.alloc, base, limit)
+        self.session(who).messages(self.alloc, base, limit)
     }
 
     /// The tags that a participant was told, and that are neither told nor present for it once it takes the first of what
@@ -123,7 +125,7 @@ impl Adverts {
         requires declared { HasQueue self.now who }
         ensures { IfOk result (λ tags. tags.items ≡ gone_tags (told_of self.now who) (told_then limit (told_of self.now who) (present_of self.now who)) (present_of self.now who)) }
     {
-        self.sessions[who.0 as usize].gone(self.alloc, limit)
+        self.session(who).gone(self.alloc, limit)
     }
 
     /// A participant takes the first of what is pending, so many at most, or all: at these prefixes it was then told what is
@@ -142,7 +144,7 @@ impl Adverts {
         requires declared { HasQueue self.now who }
         ensures { result ≡ (tells (told_of self.now who) tag || tells (present_of self.now who) tag) }
     {
-        self.sessions[who.0 as usize].holds(tag)
+        self.session(who).holds(tag)
     }
 
     /// Whether some entry that a participant was told has the tag.
@@ -150,14 +152,14 @@ impl Adverts {
         requires declared { HasQueue self.now who }
         ensures { result ≡ tells (told_of self.now who) tag }
     {
-        self.sessions[who.0 as usize].tells(tag)
+        self.session(who).tells(tag)
     }
 
     /// Whether anybody was told the tag.
     pub fn is_told(&self, tag: Tag) -> bool
         ensures { result ≡ is_told self.now.told tag }
     {
-        self.sessions.iter().any(|session| session.tells(tag))
+        some_tells(&self.sessions, tag)
     }
 
     /// What a participant was told of a prefix, if anything.
@@ -165,7 +167,7 @@ impl Adverts {
         requires declared { HasQueue self.now who }
         ensures { option_copied result ≡ map.get (told_of self.now who) prefix }
     {
-        self.sessions[who.0 as usize].told(prefix)
+        self.session(who).told(prefix)
     }
 
     /// The longest prefix of which a participant was told something that covers an address, with its entry; none where
@@ -175,7 +177,7 @@ impl Adverts {
         ensures key { option_map (λ entry. entry.0) result ≡ longest_of (map.keys (told_of self.now who)) ip }
         ensures value { IfSome result (λ entry. Some entry.1.now ≡ map.get (told_of self.now who) entry.0) }
     {
-        self.sessions[who.0 as usize].longest(ip)
+        self.session(who).longest(ip)
     }
 
     /// The different tags that a participant was told, ascending. Memory is the only refusal.
@@ -183,6 +185,22 @@ impl Adverts {
         requires declared { HasQueue self.now who }
         ensures { IfOk result (λ tags. tags.items ≡ tags_of (told_of self.now who)) }
     {
-        self.sessions[who.0 as usize].told_tags(self.alloc)
+        self.session(who).told_tags(self.alloc)
     }
+
+    // What is kept of a participant.
+    fn session(&self, who: Pid) -> &Session
+        requires declared { HasQueue self.now who }
+        ensures told { result.now.told ≡ told_of self.now who }
+        ensures present { result.now.present ≡ present_of self.now who }
+    {
+        &self.sessions[who.0 as usize]
+    }
+}
+
+/// Whether one of them was told the tag.
+fn some_tells(sessions: &[Session], tag: Tag) -> bool
+    ensures { result ≡ list_any (λ (session : Queued). tells session.told tag) sessions.now }
+{
+    sessions.iter().any(|session| session.tells(tag))
 }

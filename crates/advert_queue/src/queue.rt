@@ -46,14 +46,19 @@ pub fn adverts(
 }
 
 /// A withdrawal, or an announcement with the address of the entry's tag as NEXT_HOP.
-pub(crate) fn advert(alloc: Global, base: Ip, prefix: Prefix, entry: Option<&Entry>) -> Result<Bytes, Memory>
+pub(crate) fn advert(
+    alloc: Global,
+    base: Ip,
+    prefix: Prefix,
+    entry: Option<&Entry>,
+) -> Result<Bytes, Memory>
     requires low { base.0 ≤ 3758096383 }
     requires small { IfSome (option_copied entry) (λ e. e.tag.0 ≤ 65536) }
     ensures { IfOk result (λ message. message ≡ advert_with base prefix (option_copied entry.entry)) }
 {
     match entry {
         None => withdrawal(alloc, prefix),
-        Some(entry) => announcement(alloc, prefix, &entry.attrs, Ip(base.0 + entry.tag.0)),
+        Some(entry) => announcement(alloc, prefix, entry.attrs.get(), Ip(base.0 + entry.tag.0)),
     }
 }
 
@@ -88,7 +93,7 @@ fn is_same(entry: &Entry, other: Option<&Entry>) -> bool
     match other {
         None => false,
         Some(other) => {
-            let attrs = same_attrs(&entry.attrs, &other.attrs);
+            let attrs = same_attrs(entry.attrs.get(), other.attrs.get());
             entry.tag.0 == other.tag.0 && attrs
         }
     }

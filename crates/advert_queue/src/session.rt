@@ -11,11 +11,11 @@ ghost use Rattle.advert_queue.specs.Advertised.{first_pending};
 ghost use Rattle.advert_queue.specs.Taken.{gone_tags, news_of, told_then};
 ghost use Rattle.advert_queue.specs.Telling.{adverts, tags_of};
 
-use crate::counts::{Counts, count_of, recount, used_tags};
-use crate::leaving::{gone, leaving};
 use crate::changes::{
     Entries, News, first_entries, first_messages, limited, note, present_tag, tag_of, tell,
 };
+use crate::counts::{Counts, is_used, recount, used_tags};
+use crate::leaving::{gone, leaving};
 use events::{Entry, Messages};
 use net_types::{Ip, Memory, Prefix, Tag};
 use prefix_map::PrefixMap;
@@ -148,14 +148,15 @@ impl Session {
     pub(crate) fn holds(&self, tag: Tag) -> bool
         ensures { result ≡ (tells self.now.told tag || tells self.now.present tag) }
     {
-        count_of(&self.told_tags, tag) > 0 || count_of(&self.present_tags, tag) > 0
+        let present = is_used(&self.present_tags, tag);
+        is_used(&self.told_tags, tag) || present
     }
 
     /// Whether some entry that was told has the tag.
     pub(crate) fn tells(&self, tag: Tag) -> bool
         ensures { result ≡ tells self.now.told tag }
     {
-        count_of(&self.told_tags, tag) > 0
+        is_used(&self.told_tags, tag)
     }
 
     /// What was told of a prefix, if anything.

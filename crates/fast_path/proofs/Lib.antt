@@ -31,5 +31,8 @@ pub mod TrimmedKept
 pub mod CountedOffers
 pub mod CommittedPlans
 pub mod CountedRules
+pub mod OfferedPresent
+pub mod OffersPlanned
+pub mod OffersCounted
 pub mod PlanFound
 pub mod PlanMade

@@ -1,5 +1,5 @@
 -- With a plan's offers made, what is present for each participant is what is present for it in the state afterwards.
-use Rattle.std.proofs.Common.{◌≡◌, ℕ, ◌+◌, ◌<◌, ◌≤◌, ◌≢◌, ◌⊎◌, Bool, true, false, cond, eqb, List, [], ◌∷◌, length, map, get_or, set, length-set, get_or-set_same, get_or-set_other, eq-eqb, sym, ap, subst, ◌∙◌, refl, arith, inl, inr}
+use Rattle.std.proofs.Common.{◌≡◌, ℕ, ◌+◌, ◌<◌, ◌≤◌, ◌≢◌, ◌⊎◌, Bool, true, false, cond, eqb, List, [], ◌∷◌, zero, suc, length, map, get_or, set, length-set, get_or-set_same, get_or-set_other, eq-eqb, sym, ap, subst, ◌∙◌, refl, arith, inl, inr}
 use Rattle.std.specs.Prelude.{Option, Some, None, slice_get, unwrap_or}
 use Rattle.std.specs.FinMap.{FinMap, empty, get, get-insert, get-remove, same_map}
 use Rattle.std.specs.Ordering.{eq_by_cmp}
@@ -18,6 +18,7 @@ use Rattle.net_types.specs.Routes.{numbers, pids}
 use Rattle.net_types.specs.Sets.{Member}
 use Rattle.net_types.specs.declared.address.Pid.{Pid}
 use Rattle.net_types.specs.declared.prefix.Prefix.{Prefix}
+use Rattle.fast_path.proofs.ListPlaces.{mapped_at}
 use Rattle.fast_path.specs.Offers.{AreOffers, IsOffered, Present, all_present, offered, offered_all, present_to}
 use Rattle.fast_path.specs.declared.planned.Advert.{Advert}
 
@@ -70,7 +71,7 @@ module _ (then : Present) where
       ∙ ap (λ b. cond b o.entry (get (present_to all o.who) p)) apart)
 
   -- what is offered later, or is present already
-  Stands : List Advert → Present → Pid → Prefix → Type 0
+  abbrev Stands : List Advert → Present → Pid → Prefix → Type 0
   Stands os all who p = IsOffered os who p ⊎ (get (present_to all who) p ≡ get (present_to then who) p)
 
   not_first : (o : Advert) (os : List Advert) (who : Pid) (p : Prefix) → (o.who ≡ who → o.prefix ≡ p → ⊥) → IsOffered (o ∷ os) who p → IsOffered os who p
@@ -85,12 +86,10 @@ module _ (then : Present) where
 
   -- where it isn't this one that offers it, and it is as it was
   kept : (all : Present) (o : Advert) (os : List Advert) (who : Pid) (p : Prefix) → (o.who ≡ who → o.prefix ≡ p → ⊥) → get (present_to (offered all o) who) p ≡ get (present_to all who) p → Stands (o ∷ os) all who p → Stands os (offered all o) who p
-  unfolding Stands
   kept all o os who p apart same (inl later) = inl (not_first o os who p apart later)
   kept all o os who p apart same (inr now) = inr (same ∙ now)
 
   one_more : (all : Present) (o : Advert) (os : List Advert) (who : Pid) (p : Prefix) → length all ≡ length then → IsTo o → Stands (o ∷ os) all who p → Stands os (offered all o) who p
-  unfolding Stands
   one_more all o os who p same to there = by (eqb o.who.0 who.0) refl (eq_by_cmp prefix_cmp p o.prefix) refl
     where
       by : (b : Bool) → eqb o.who.0 who.0 ≡ b → (c : Bool) → eq_by_cmp prefix_cmp p o.prefix ≡ c → Stands os (offered all o) who p
@@ -104,7 +103,6 @@ module _ (then : Present) where
 
   -- with all offered, it is present
   all_there : (all : Present) (os : List Advert) (who : Pid) (p : Prefix) → length all ≡ length then → ((o : Advert) → Member o os → IsTo o) → Stands os all who p → get (present_to (offered_all all os) who) p ≡ get (present_to then who) p
-  unfolding Stands
   all_there all [] who p same each (inl is) = absurd is.stands
   all_there all [] who p same each (inr now) = now
   all_there all (o ∷ os) who p same each there = all_there (offered all o) os who p (offered_length all o ∙ same) (λ x m. each x (inr m)) (one_more all o os who p same (each o (inl refl)) there)
@@ -115,21 +113,51 @@ module _ (then : Present) where
 
 -- ---- of states
 
-number_at : {A : Type 0} (at : ℕ → A) (low count k : ℕ) (d : A) → k < count → get_or (map at (numbers low count)) k d ≡ at (low + k)
-number_at at low zero k d within = absurd (omega arith)
-number_at at low (suc count) zero d within = ap at (let same : low ≡ low + 0 = omega arith in same)
-number_at at low (suc count) (suc k) d within = number_at at (low + 1) count k d (omega arith) ∙ ap at (let same : low + 1 + k ≡ low + suc k = omega arith in same)
+abbrev pid_at : ℕ → Pid
+pid_at n = record { 0 = n }
+
+number_at : {A : Type 0} (at : ℕ → A) (low count k : ℕ) → k < count → slice_get (map at (numbers low count)) k ≡ Some (at (low + k))
+number_at at low zero k within = absurd (omega arith)
+number_at at low (suc count) zero within = ap (λ n. Some (at n)) (let same : low ≡ low + 0 = omega arith in same)
+number_at at low (suc count) (suc k) within = number_at at (low + 1) count k (omega arith) ∙ ap (λ n. Some (at n)) (let same : low + 1 + k ≡ low + suc k = omega arith in same)
 
 count_is : {A : Type 0} (at : ℕ → A) (low count : ℕ) → length (map at (numbers low count)) ≡ count
 count_is at low zero = refl
 count_is at low (suc count) = ap suc (count_is at (low + 1) count)
 
 state_length : (s : State) → length (all_present s) ≡ length s.routing.participants
-state_length s = length-map (present s) (pids s.routing) ∙ count_is (λ n. let w : Pid = record { 0 = n } in w) 0 (length s.routing.participants)
+state_length s = length-map (pids s.routing) (present s) ∙ count_is pid_at 0 (length s.routing.participants)
 
 state_at : (s : State) (who : Pid) → who.0 < length s.routing.participants → present_to (all_present s) who ≡ present s who
-state_at s who declared = to_is (all_present s) who ∙ ?
+state_at s who declared =
+    ap (λ o. unwrap_or o empty) (mapped_at (present s) (pids s.routing) who.0 who (number_at pid_at 0 (length s.routing.participants) who.0 declared))
 
 -- what is offered leads from what is present in one state to what is present in another
 pub offered_present : (s s1 : State) (os : List Advert) → s1.routing.participants ≡ s.routing.participants → AreOffers s s1 os → offered_all (all_present s) os ≡ all_present s1
-offered_present s s1 os alike are = ?
+offered_present s s1 os alike are =
+    ext_get_or empty (offered_all (all_present s) os) (all_present s1) (all_length (all_present s1) (all_present s) os ∙ lengths) (λ n within.
+    let who : Pid = record { 0 = n } in
+    let known : n < length s.routing.participants = subst (λ k. n < k) (all_length (all_present s1) (all_present s) os ∙ state_length s) within in
+    sym (to_is (offered_all (all_present s) os) who) ∙ same who known ∙ to_is (all_present s1) who)
+  where
+    lengths : length (all_present s) ≡ length (all_present s1)
+    lengths = state_length s ∙ ap length (sym alike) ∙ sym (state_length s1)
+
+    then_at : (who : Pid) → who.0 < length s.routing.participants → present_to (all_present s1) who ≡ present s1 who
+    then_at who known = state_at s1 who (subst (λ ps. who.0 < length ps) (sym alike) known)
+
+    each_to : (o : Advert) → Member o os → (o.who.0 < length (all_present s1)) × (o.entry ≡ get (present_to (all_present s1) o.who) o.prefix)
+    each_to o m =
+        let at = are.each o m in (
+          subst (λ k. o.who.0 < k) (sym (sym lengths ∙ state_length s)) at.0,
+          at.1 ∙ ap (λ m. get m o.prefix) (sym (then_at o.who at.0)),
+        )
+
+    stands : (who : Pid) (p : Prefix) → who.0 < length s.routing.participants → IsOffered os who p ⊎ (get (present_to (all_present s) who) p ≡ get (present_to (all_present s1) who) p)
+    stands who p known = elim (are.all who p known) [
+      | inl is ↦ inl is
+      | inr stays ↦ inr (ap (λ m. get m p) (state_at s who known) ∙ sym stays ∙ ap (λ m. get m p) (sym (then_at who known)))
+    ]
+
+    same : (who : Pid) → who.0 < length s.routing.participants → present_to (offered_all (all_present s) os) who ≡ present_to (all_present s1) who
+    same who known = same_map prefixes_total prefix_cmp-IsAntisymmetric _ _ (λ p. all_there (all_present s1) (all_present s) os who p lengths each_to (stands who p known))

@@ -33,13 +33,15 @@ use Rattle.fast_path.proofs.KnownSignatures.{Names, known_kept, sender_stays}
 use Rattle.fast_path.proofs.NewPairs.{HasOwners, kept_place, made, new_pairs_all, new_pairs_each, owners_found}
 use Rattle.fast_path.proofs.PortsAndTags.{tie}
 use Rattle.fast_path.proofs.TagOrder.{rising_tags, tag_tie}
-use Rattle.fast_path.proofs.TagsPlanned.{changes_found, groups_found, known_of}
+use Rattle.fast_path.proofs.OffersPlanned.{offers_made, others_are}
+use Rattle.fast_path.proofs.TagsPlanned.{changes_found, groups_found, known_of, tagged_are}
 use Rattle.fast_path.specs.Building.{AreInOrder, HasPart, IsBlockFor, part_at, site_of}
 use Rattle.fast_path.specs.Committing.{Block, class_of, classes_of, kept_of}
 use Rattle.fast_path.specs.Drafts.{IsDraft, given_tags}
 use Rattle.fast_path.specs.Emptied.{emptied, is_left, old_tags}
 use Rattle.fast_path.specs.Grouping.{Known, changes_of, groups_of, known_by, more_groups, moved_groups, part_by}
 use Rattle.fast_path.specs.LiveOnly.{AreDead, AreEmptied, group_signatures, group_tags, registered}
+use Rattle.fast_path.specs.Offers.{AreOffers, adverts_from, declared_pids, tagged}
 use Rattle.fast_path.specs.Pairs.{fresh_pairs, gone_pairs, is_among, pair_at, part_pairs, staying, tag_pairs, untold, was_told}
 use Rattle.fast_path.specs.Planned.{group_kept, is_tag_below}
 use Rattle.fast_path.specs.Plans.{IsAsked, build_count}
@@ -56,6 +58,7 @@ use Rattle.net_types.specs.Answers.{Policies}
 use Rattle.net_types.specs.Exports.{Routing}
 use Rattle.net_types.specs.Keys.{pair_cmp, prefix_cmp, tag_cmp}
 use Rattle.net_types.specs.Maps.{ordered}
+use Rattle.net_types.specs.Routes.{numbers, pids}
 use Rattle.net_types.specs.Sets.{IsRising, Member, union_over}
 use Rattle.net_types.specs.declared.address.Pid.{Pid}
 use Rattle.net_types.specs.declared.address.Tag.{Tag}
@@ -167,7 +170,7 @@ module _ (s : State) (r : Routing) (is_rebuilt : Pair → Bool) (names : Registe
 
       pub changes_are : draft.tags ≡ tag_changes s.tag s1.tag
       changes_are =
-          is.tags ∙ ap (λ k. changes_of k fs (given_tags pool fs) p.touched p.sigs) known_is ∙ ap (changes_of (known_of s) fs (given_tags pool fs) p.touched) asked.proposes.sigs
+          is.tags ∙ others_are known fs (given_tags pool fs) p.touched p.sigs ∙ ap (λ k. changes_of k fs (given_tags pool fs) p.touched p.sigs) known_is ∙ ap (changes_of (known_of s) fs (given_tags pool fs) p.touched) asked.proposes.sigs
           ∙ changes_found s r fs (given_tags pool fs) groups_are tags_are p.touched touching
 
       pub fresh_are : draft.fresh.items ≡ classes_of draft.tags (group_kept s r)
@@ -198,6 +201,17 @@ module _ (s : State) (r : Routing) (is_rebuilt : Pair → Bool) (names : Registe
           subst (AreLiveOnly s s1)
           (sym (sym (gone_alike names was_told p.named classes es) ∙ ap (λ n. gone_pairs n known.kept was_told es) names_are ∙ ap (λ m. gone_pairs (registered s) m was_told es) (sym asked.shown.kept)
           ∙ ap (λ m. gone_pairs (registered s) s.kept m es) (sym asked.shown.told))) (gone_pairs_are_those s r es change asked.base.apart emptied_are)
+
+      -- ---- what becomes present
+
+      tagged_then : tagged known fs (given_tags pool fs) p.touched p.sigs ≡ map (λ q. let c : TagChange = record { prefix = q; tag = get s1.tag q } in c) p.touched
+      tagged_then = ap (λ k. tagged k fs (given_tags pool fs) p.touched p.sigs) known_is ∙ ap (tagged (known_of s) fs (given_tags pool fs) p.touched) asked.proposes.sigs ∙ tagged_are s r fs (given_tags pool fs) groups_are tags_are p.touched
+
+      pids_are : declared_pids names ≡ pids r
+      pids_are = ap (λ qs. map (λ n. let who : Pid = record { 0 = n } in who) (numbers 0 (length qs))) (sym asked.shown.participants ∙ sym asked.alike.participants)
+
+      pub offers_are : AreOffers s s1 draft.offers.items
+      offers_are = subst (AreOffers s s1) (sym (is.offers ∙ ap (adverts_from p (declared_pids names) 0) tagged_then ∙ ap (λ whos. adverts_from p whos 0 (map (λ q. let c : TagChange = record { prefix = q; tag = get s1.tag q } in c) p.touched)) pids_are)) (offers_made s r p touching asked.proposes.bests)
 
       -- ---- the pairs that go
 

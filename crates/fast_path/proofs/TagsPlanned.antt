@@ -22,8 +22,10 @@ use Rattle.events.specs.declared.TagChange.{TagChange}
 use Rattle.exchange_laws.specs.Touched.{IsTouching, tag_changes_among}
 use Rattle.exchange_laws.proofs.Lists.{clash, some_of}
 use Rattle.exchange_laws.proofs.Sames.{group_itself, group_same}
+use Rattle.exchange_laws.proofs.TagsAfter.{tags_are}
 use Rattle.exchange_laws.proofs.TouchedPrefixes.{touched_have_changes, touched_have_groups}
 use Rattle.fast_path.specs.Grouping.{Known, change_before, changes_of, group_before, groups_of, is_empty, is_kept_sig, is_moved, more_groups, moved_groups, same_class, tag_after}
+use Rattle.fast_path.specs.Offers.{tagged}
 use Rattle.fast_path.specs.declared.fresh.Fresh.{Fresh}
 use Rattle.fast_path.proofs.CommittedMaps.{get_front}
 use Rattle.fast_path.proofs.GroupLemmas.{place_among}
@@ -200,6 +202,11 @@ module _ (s : State) (r : Routing) (fs : List Fresh) (ts : List Tag) (are : grou
           ≡ map (λ q. let c : TagChange = record { prefix = q; tag = new_tag s r q } in c) (cond (not b) (p ∷ filter (λ q. not (same_option same_tag (get s.tag q) (new_tag s r q))) ps) (filter (λ q. not (same_option same_tag (get s.tag q) (new_tag s r q))) ps))
       by true = refl
       by false = refl
+
+  -- the touched prefixes have the tags of the state afterwards
+  pub tagged_are : (ps : List Prefix) → tagged (known_of s) fs ts ps (map (signature r) ps) ≡ map (λ p. let c : TagChange = record { prefix = p; tag = get (retagged s r).tag p } in c) ps
+  tagged_are [] = refl
+  tagged_are (p ∷ ps) = λ i. record { prefix = p; tag = (tag_is p ∙ sym (tags_are s r p)) i } ∷ tagged_are ps i
 
   -- the changes that are found are those of the state's tags
   pub changes_found : (ps : List Prefix) → IsTouching s r ps → changes_of (known_of s) fs ts ps (map (signature r) ps) ≡ tag_changes s.tag (retagged s r).tag

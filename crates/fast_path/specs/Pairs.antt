@@ -3,6 +3,9 @@ use Rattle.std.specs.Prelude.{Bool, not, List, [], ◌++◌, map, filter, slice_
 use Rattle.std.specs.FinMap.{FinMap, empty, get}
 use Rattle.std.specs.List.{list_any}
 use Rattle.std.specs.Ordering.{eq_by_cmp}
+-- somebody was told a tag, and those of some tags that nobody was told
+pub use Rattle.advert_queue.specs.Advertised.{is_told}
+pub use Rattle.advert_queue.specs.Taken.{untold}
 use Rattle.events.specs.declared.Entry.{Entry}
 use Rattle.events.specs.Tags.{tells}
 use Rattle.fast_path.specs.declared.planned.Class.{Class}
@@ -71,13 +74,3 @@ built_pairs names fresh gone rebuild = ordered pair_cmp (fresh_pairs names fresh
 -- the pairs whose rules are taken out, in order
 abbrev pub dropped_pairs : List Pair → List Pair → List Pair
 dropped_pairs gone rebuild = ordered pair_cmp (gone ++ rebuild)
-
--- ---- the tags that are live no more
-
--- somebody was told the tag
-abbrev pub is_told : Told → Tag → Bool
-is_told told t = list_any (λ entries. tells entries t) told
-
--- those of the tags that nobody was told
-abbrev pub untold : Told → List Tag → List Tag
-untold told ts = filter (λ t. not (is_told told t)) ts

@@ -64,7 +64,7 @@ fn offer_to_all(
 }
 
 /// What the participants are offered of the touched prefixes, by the tags that these have afterwards.
-pub fn adverts(
+pub fn offers_of(
     alloc: Global,
     names: &Registry,
     proposal: &Proposal,

@@ -3,15 +3,26 @@
 ghost use Rattle.std.specs.Prelude.{◌≡◌, ◌∷◌, ◌++◌, [], IfOk, OnOk, map};
 ghost use Rattle.net_types.specs.Sets.{IsRising, union_over};
 ghost use Rattle.exchange_laws.specs.Listed.{is_pair_before};
-ghost use Rattle.fast_path.specs.Pairs.{built_pairs, class_pairs, dropped_pairs, fresh_pairs, gone_pairs, is_among, pair_at, part_pairs, staying, untold};
+ghost use Rattle.fast_path.specs.Pairs.{built_pairs, class_pairs, dropped_pairs, fresh_pairs, gone_pairs, is_among, pair_at, part_pairs, staying, untold, was_told};
 
 use crate::ascending::ascending_pairs;
 use crate::planned::Class;
 use advert_queue::Adverts;
-use net_types::{Items, Memory, Pair, Pairs, Part, PortNo, Tag};
+use net_types::{Items, Memory, Pair, Pairs, Part, Pid, PortNo, Tag};
 use prefix_classes::ClassMap;
 use registry::Registry;
 use std::alloc::Global;
+
+/// Whether the participant was told the tag. One that has no place among the adverts was told nothing.
+fn was_told(adverts: &Adverts, who: Pid, tag: Tag) -> bool
+    ensures { result ≡ was_told adverts.now.told who tag }
+{
+    if (who.0 as usize) < adverts.len() {
+        adverts.tells(who, tag)
+    } else {
+        false
+    }
+}
 
 /// Puts the pair of each of the ports with the tag last, in their order. Memory is the only refusal.
 pub fn push_pairs(ports: &[PortNo], tag: Tag, pairs: &mut Vec<Pair>) -> Result<(), Memory>
@@ -34,7 +45,7 @@ fn push_gone(
     ensures { OnOk result (pairs.new.items ≡ pairs.old.items ++ union_over (part_pairs names.now adverts.now.told tag) parts.now) }
 {
     for part in parts {
-        if !adverts.tells(part.sender, tag) {
+        if !was_told(adverts, part.sender, tag) {
             push_pairs(names.ports_of(part.sender), tag, pairs)?;
         }
     }

@@ -17,7 +17,7 @@ use crate::emptied::emptied;
 use crate::fresh::Fresh;
 use crate::grouping::{groups, same_tags};
 use crate::known::KnownClasses;
-use crate::offering::adverts as offers_of;
+use crate::offering::offers_of;
 use crate::pairs::{built_pairs, dropped_pairs, gone_pairs, untold};
 use crate::planned::{Class, FastFault, Plan};
 use crate::tagging::{fresh_tags, tag_changes, tagged};

@@ -19,7 +19,8 @@ use crate::change::Change;
 use crate::edits::{row_with, row_without};
 use crate::held::Held;
 use crate::server::RouteServer;
-use net_types::{Memory, Pid, Prefix, SharedAttrs, TryCopy, Update};
+use net_types::{Attrs, Memory, Pid, Prefix, SharedAttrs, TryCopy, Update};
+use std::alloc::Global;
 
 /// The row of a prefix without a participant's route.
 fn withdrawal(server: &RouteServer, from: Pid, prefix: Prefix) -> Result<Change, Memory>
@@ -95,6 +96,14 @@ fn sorted(changes: Vec<Change>) -> Vec<Change>
     sorted
 }
 
+/// A copy of attributes that several can own.
+fn shared(alloc: Global, attrs: &Attrs) -> Result<SharedAttrs, Memory>
+    ensures { IfOk result (λ shared. shared ≡ attrs.now) }
+{
+    let own = attrs.copy()?;
+    SharedAttrs::new(alloc, own)
+}
+
 /// Changes for all prefixes of an update, the withdrawn ones first. The announced ones share one copy of the attributes.
 fn edits(server: &RouteServer, from: Pid, update: &Update) -> Result<Vec<Change>, Memory>
     requires declared { from.0 < 256 }
@@ -106,7 +115,7 @@ fn edits(server: &RouteServer, from: Pid, update: &Update) -> Result<Vec<Change>
     let gone = withdrawals(server, from, update.withdrawn.items())?;
     match &update.attrs {
         Some(attrs) => {
-            let shared = SharedAttrs::new(server.allocator(), attrs.copy()?)?;
+            let shared = shared(server.allocator(), attrs)?;
             let all = announcements(server, from, &shared, update.announced.items(), gone)?;
             Ok(all)
         }

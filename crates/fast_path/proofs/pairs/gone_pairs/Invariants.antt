@@ -5,4 +5,4 @@ use Rattle.fast_path.proofs.pairs.gone_pairs.Given as goal
 
 -- with those of the rest they are all
 abbrev pub invariant-loop-tag : goal.invariant-loop-tag
-invariant-loop-tag l = l.pairs.items ++ union_over (tag_pairs l.names l.classes.kept l.told) (drop l.tag-index l.emptied) ≡ union_over (tag_pairs l.names l.classes.kept l.told) l.emptied
+invariant-loop-tag l = l.pairs.items ++ union_over (tag_pairs l.names l.classes.kept l.adverts.told) (drop l.tag-index l.emptied) ≡ union_over (tag_pairs l.names l.classes.kept l.adverts.told) l.emptied

@@ -5,4 +5,4 @@ use Rattle.fast_path.proofs.pairs.push_gone.Given as goal
 
 -- with those of the rest they are all
 abbrev pub invariant-loop-part : goal.invariant-loop-part
-invariant-loop-part l = l.pairs.items ++ union_over (part_pairs l.names l.told l.tag) (drop l.part-index l.parts) ≡ l.initial.pairs.items ++ union_over (part_pairs l.names l.told l.tag) l.parts
+invariant-loop-part l = l.pairs.items ++ union_over (part_pairs l.names l.adverts.told l.tag) (drop l.part-index l.parts) ≡ l.initial.pairs.items ++ union_over (part_pairs l.names l.adverts.told l.tag) l.parts

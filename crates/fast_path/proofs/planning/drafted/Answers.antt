@@ -1,12 +1,16 @@
--- The pairs that go rise.
-use Rattle.std.proofs.Common.{sym, subst, ◌∙◌}
+-- The pairs that go rise, and no more prefixes have tags than are touched.
+use Rattle.std.proofs.Common.{◌≤◌, length, sym, subst, ◌∙◌}
 use Rattle.exchange_laws.specs.Listed.{is_pair_before}
 use Rattle.net_types.proofs.OrderLemmas.{pairs_total}
 use Rattle.net_types.proofs.OrderedLemmas.{ordered_rises}
 use Rattle.net_types.specs.Keys.{pair_cmp}
 use Rattle.net_types.specs.Sets.{IsRising}
+use Rattle.fast_path.proofs.OffersPlanned.{tagged_few}
 use Rattle.fast_path.proofs.PortsAndTags.{tie}
 use Rattle.fast_path.proofs.planning.drafted.Goals as goal
 
 pub built_pairs-requires : goal.built_pairs-requires
-built_pairs-requires c = subst (IsRising is_pair_before) (sym (c.items-4.ensures ∙ c.in_ok-gone.ensures)) (ordered_rises pair_cmp pairs_total tie _)
+built_pairs-requires c = subst (IsRising is_pair_before) (sym (c.items-5.ensures ∙ c.in_ok-gone.ensures)) (ordered_rises pair_cmp pairs_total tie _)
+
+pub offers_of-requires : goal.offers_of-requires
+offers_of-requires c = subst (λ cs. length cs ≤ length c.args.proposal.now.touched) (sym (c.items-6.ensures ∙ c.in_ok-after.ensures)) (tagged_few _ _ _ _ _)

@@ -20,12 +20,12 @@ pub rules_for-requires-clause-parts : goal.rules_for-requires-clause-parts
 rules_for-requires-clause-parts g c =
     let p = c.args.proposal.now in
     let fs = c.in_ok-groups.groups.items in
-    let ready : IsReady c.args.names.now c.args.classes.now c.args.pool.now c.args.told.now p c.args.rebuild.now fs c.in_ok-draft.draft = record {
+    let ready : IsReady c.args.names.now c.args.classes.now c.args.pool.now c.args.adverts.now.told p c.args.rebuild.now fs c.in_ok-draft.draft = record {
       are = c.in_ok-groups.ensures ∙ ap (λ k. more_groups [] (moved_groups k p.touched p.sigs)) c.of-known.ensures;
       room = subst (λ gs. length gs ≤ length (free_tags c.args.pool.now)) c.deref.ensures.value c.in_default.ensures.enough;
-      is = subst (λ gs. IsDraft c.args.names.now c.args.classes.now c.args.pool.now c.args.told.now p gs c.args.rebuild.now c.in_ok-draft.draft) c.deref-2.ensures.value c.in_ok-draft.ensures;
+      is = subst (λ gs. IsDraft c.args.names.now c.args.classes.now c.args.pool.now c.args.adverts.now.told p gs c.args.rebuild.now c.in_ok-draft.draft) c.deref-2.ensures.value c.in_ok-draft.ensures;
     } in
-    ready_parts c.args.names.now c.args.classes.now c.args.pool.now c.args.told.now c.args.switch.now c.args.views.now p c.args.rebuild.now fs c.in_ok-draft.draft ready c.of-known.result c.deref-3.result.now c.items-drops.result.now c.items-built.result.now
+    ready_parts c.args.names.now c.args.classes.now c.args.pool.now c.args.adverts.now.told (g.B.Blocks.installed c.args.switch.now) c.args.views.now p c.args.rebuild.now fs c.in_ok-draft.draft ready c.of-known.result c.deref-3.result.now c.items-drops.result.now c.items-built.result.now
     c.of-known.ensures c.deref-3.ensures.value c.items-drops.ensures c.items-built.ensures c.requires
 
 -- a table is no larger than a line may say
@@ -39,70 +39,70 @@ pub rules_for-requires-clause-rising : goal.rules_for-requires-clause-rising
 rules_for-requires-clause-rising g c =
     let p = c.args.proposal.now in
     let fs = c.in_ok-groups.groups.items in
-    let ready : IsReady c.args.names.now c.args.classes.now c.args.pool.now c.args.told.now p c.args.rebuild.now fs c.in_ok-draft.draft = record {
+    let ready : IsReady c.args.names.now c.args.classes.now c.args.pool.now c.args.adverts.now.told p c.args.rebuild.now fs c.in_ok-draft.draft = record {
       are = c.in_ok-groups.ensures ∙ ap (λ k. more_groups [] (moved_groups k p.touched p.sigs)) c.of-known.ensures;
       room = subst (λ gs. length gs ≤ length (free_tags c.args.pool.now)) c.deref.ensures.value c.in_default.ensures.enough;
-      is = subst (λ gs. IsDraft c.args.names.now c.args.classes.now c.args.pool.now c.args.told.now p gs c.args.rebuild.now c.in_ok-draft.draft) c.deref-2.ensures.value c.in_ok-draft.ensures;
+      is = subst (λ gs. IsDraft c.args.names.now c.args.classes.now c.args.pool.now c.args.adverts.now.told p gs c.args.rebuild.now c.in_ok-draft.draft) c.deref-2.ensures.value c.in_ok-draft.ensures;
     } in
-    ready_order c.args.names.now c.args.classes.now c.args.pool.now c.args.told.now c.args.switch.now c.args.views.now p c.args.rebuild.now fs c.in_ok-draft.draft ready c.of-known.result c.deref-3.result.now c.items-drops.result.now c.items-built.result.now
+    ready_order c.args.names.now c.args.classes.now c.args.pool.now c.args.adverts.now.told (g.B.Blocks.installed c.args.switch.now) c.args.views.now p c.args.rebuild.now fs c.in_ok-draft.draft ready c.of-known.result c.deref-3.result.now c.items-drops.result.now c.items-built.result.now
     c.of-known.ensures c.deref-3.ensures.value c.items-drops.ensures c.items-built.ensures c.requires
 
 pub returns-in-Err-clause-plan : goal.returns-in-Err-clause-plan
 returns-in-Err-clause-plan g c = λ s r is_rebuilt asked.
     let p = c.args.proposal.now in
     let fs = c.in_ok-groups.groups.items in
-    let ready : IsReady c.args.names.now c.args.classes.now c.args.pool.now c.args.told.now p c.args.rebuild.now fs c.in_ok-draft.draft = record {
+    let ready : IsReady c.args.names.now c.args.classes.now c.args.pool.now c.args.adverts.now.told p c.args.rebuild.now fs c.in_ok-draft.draft = record {
       are = c.in_ok-groups.ensures ∙ ap (λ k. more_groups [] (moved_groups k p.touched p.sigs)) c.of-known.ensures;
       room = subst (λ gs. length gs ≤ length (free_tags c.args.pool.now)) c.deref.ensures.value c.in_default.ensures.enough;
-      is = subst (λ gs. IsDraft c.args.names.now c.args.classes.now c.args.pool.now c.args.told.now p gs c.args.rebuild.now c.in_ok-draft.draft) c.deref-2.ensures.value c.in_ok-draft.ensures;
+      is = subst (λ gs. IsDraft c.args.names.now c.args.classes.now c.args.pool.now c.args.adverts.now.told p gs c.args.rebuild.now c.in_ok-draft.draft) c.deref-2.ensures.value c.in_ok-draft.ensures;
     } in
-    ready_fault c.args.names.now c.args.classes.now c.args.pool.now c.args.told.now c.args.switch.now c.args.views.now p c.args.rebuild.now fs c.in_ok-draft.draft ready c.of-known.result c.deref-3.result.now c.items-drops.result.now c.items-built.result.now
+    ready_fault c.args.names.now c.args.classes.now c.args.pool.now c.args.adverts.now.told (g.B.Blocks.installed c.args.switch.now) c.args.views.now p c.args.rebuild.now fs c.in_ok-draft.draft ready c.of-known.result c.deref-3.result.now c.items-drops.result.now c.items-built.result.now
     c.of-known.ensures c.deref-3.ensures.value c.items-drops.ensures c.items-built.ensures s r is_rebuilt asked c.right_rules_are_few.ensures c.in-Err.fault c.in-Err.ensures.full
 
 pub returns-in-Err-clause-steps : goal.returns-in-Err-clause-steps
 returns-in-Err-clause-steps g c = λ s r is_rebuilt asked.
     let p = c.args.proposal.now in
     let fs = c.in_ok-groups.groups.items in
-    let ready : IsReady c.args.names.now c.args.classes.now c.args.pool.now c.args.told.now p c.args.rebuild.now fs c.in_ok-draft.draft = record {
+    let ready : IsReady c.args.names.now c.args.classes.now c.args.pool.now c.args.adverts.now.told p c.args.rebuild.now fs c.in_ok-draft.draft = record {
       are = c.in_ok-groups.ensures ∙ ap (λ k. more_groups [] (moved_groups k p.touched p.sigs)) c.of-known.ensures;
       room = subst (λ gs. length gs ≤ length (free_tags c.args.pool.now)) c.deref.ensures.value c.in_default.ensures.enough;
-      is = subst (λ gs. IsDraft c.args.names.now c.args.classes.now c.args.pool.now c.args.told.now p gs c.args.rebuild.now c.in_ok-draft.draft) c.deref-2.ensures.value c.in_ok-draft.ensures;
+      is = subst (λ gs. IsDraft c.args.names.now c.args.classes.now c.args.pool.now c.args.adverts.now.told p gs c.args.rebuild.now c.in_ok-draft.draft) c.deref-2.ensures.value c.in_ok-draft.ensures;
     } in
-    ready_steps c.args.names.now c.args.classes.now c.args.pool.now c.args.told.now c.args.switch.now c.args.views.now p c.args.rebuild.now fs c.in_ok-draft.draft ready c.of-known.result c.deref-3.result.now c.items-drops.result.now c.items-built.result.now
+    ready_steps c.args.names.now c.args.classes.now c.args.pool.now c.args.adverts.now.told (g.B.Blocks.installed c.args.switch.now) c.args.views.now p c.args.rebuild.now fs c.in_ok-draft.draft ready c.of-known.result c.deref-3.result.now c.items-drops.result.now c.items-built.result.now
     c.of-known.ensures c.deref-3.ensures.value c.items-drops.ensures c.items-built.ensures s r is_rebuilt asked c.args.steps.now c.rules_for.new.steps c.rules_for.ensures.steps
 
 pub returns-in_err-plan-clause-steps : goal.returns-in_err-plan-clause-steps
 returns-in_err-plan-clause-steps g c = λ s r is_rebuilt asked.
     let p = c.args.proposal.now in
     let fs = c.in_ok-groups.groups.items in
-    let ready : IsReady c.args.names.now c.args.classes.now c.args.pool.now c.args.told.now p c.args.rebuild.now fs c.in_ok-draft.draft = record {
+    let ready : IsReady c.args.names.now c.args.classes.now c.args.pool.now c.args.adverts.now.told p c.args.rebuild.now fs c.in_ok-draft.draft = record {
       are = c.in_ok-groups.ensures ∙ ap (λ k. more_groups [] (moved_groups k p.touched p.sigs)) c.of-known.ensures;
       room = subst (λ gs. length gs ≤ length (free_tags c.args.pool.now)) c.deref.ensures.value c.in_default.ensures.enough;
-      is = subst (λ gs. IsDraft c.args.names.now c.args.classes.now c.args.pool.now c.args.told.now p gs c.args.rebuild.now c.in_ok-draft.draft) c.deref-2.ensures.value c.in_ok-draft.ensures;
+      is = subst (λ gs. IsDraft c.args.names.now c.args.classes.now c.args.pool.now c.args.adverts.now.told p gs c.args.rebuild.now c.in_ok-draft.draft) c.deref-2.ensures.value c.in_ok-draft.ensures;
     } in
-    ready_steps c.args.names.now c.args.classes.now c.args.pool.now c.args.told.now c.args.switch.now c.args.views.now p c.args.rebuild.now fs c.in_ok-draft.draft ready c.of-known.result c.deref-3.result.now c.items-drops.result.now c.items-built.result.now
+    ready_steps c.args.names.now c.args.classes.now c.args.pool.now c.args.adverts.now.told (g.B.Blocks.installed c.args.switch.now) c.args.views.now p c.args.rebuild.now fs c.in_ok-draft.draft ready c.of-known.result c.deref-3.result.now c.items-drops.result.now c.items-built.result.now
     c.of-known.ensures c.deref-3.ensures.value c.items-drops.ensures c.items-built.ensures s r is_rebuilt asked c.args.steps.now c.rules_for.new.steps c.rules_for.ensures.steps
 
 pub returns-clause-plan : goal.returns-clause-plan
 returns-clause-plan g c = λ s r is_rebuilt asked.
     let p = c.args.proposal.now in
     let fs = c.in_ok-groups.groups.items in
-    let ready : IsReady c.args.names.now c.args.classes.now c.args.pool.now c.args.told.now p c.args.rebuild.now fs c.in_ok-draft.draft = record {
+    let ready : IsReady c.args.names.now c.args.classes.now c.args.pool.now c.args.adverts.now.told p c.args.rebuild.now fs c.in_ok-draft.draft = record {
       are = c.in_ok-groups.ensures ∙ ap (λ k. more_groups [] (moved_groups k p.touched p.sigs)) c.of-known.ensures;
       room = subst (λ gs. length gs ≤ length (free_tags c.args.pool.now)) c.deref.ensures.value c.in_default.ensures.enough;
-      is = subst (λ gs. IsDraft c.args.names.now c.args.classes.now c.args.pool.now c.args.told.now p gs c.args.rebuild.now c.in_ok-draft.draft) c.deref-2.ensures.value c.in_ok-draft.ensures;
+      is = subst (λ gs. IsDraft c.args.names.now c.args.classes.now c.args.pool.now c.args.adverts.now.told p gs c.args.rebuild.now c.in_ok-draft.draft) c.deref-2.ensures.value c.in_ok-draft.ensures;
     } in
-    ready_plan c.args.names.now c.args.classes.now c.args.pool.now c.args.told.now c.args.switch.now c.args.views.now p c.args.rebuild.now fs c.in_ok-draft.draft ready c.of-known.result c.deref-3.result.now c.items-drops.result.now c.items-built.result.now
+    ready_plan c.args.names.now c.args.classes.now c.args.pool.now c.args.adverts.now.told (g.B.Blocks.installed c.args.switch.now) c.args.views.now p c.args.rebuild.now fs c.in_ok-draft.draft ready c.of-known.result c.deref-3.result.now c.items-drops.result.now c.items-built.result.now
     c.of-known.ensures c.deref-3.ensures.value c.items-drops.ensures c.items-built.ensures s r is_rebuilt asked c.in-Ok.blocks.items c.in-Ok.ensures.built c.in_ok-plan.plan c.in_ok-plan.ensures
 
 pub returns-clause-steps : goal.returns-clause-steps
 returns-clause-steps g c = λ s r is_rebuilt asked.
     let p = c.args.proposal.now in
     let fs = c.in_ok-groups.groups.items in
-    let ready : IsReady c.args.names.now c.args.classes.now c.args.pool.now c.args.told.now p c.args.rebuild.now fs c.in_ok-draft.draft = record {
+    let ready : IsReady c.args.names.now c.args.classes.now c.args.pool.now c.args.adverts.now.told p c.args.rebuild.now fs c.in_ok-draft.draft = record {
       are = c.in_ok-groups.ensures ∙ ap (λ k. more_groups [] (moved_groups k p.touched p.sigs)) c.of-known.ensures;
       room = subst (λ gs. length gs ≤ length (free_tags c.args.pool.now)) c.deref.ensures.value c.in_default.ensures.enough;
-      is = subst (λ gs. IsDraft c.args.names.now c.args.classes.now c.args.pool.now c.args.told.now p gs c.args.rebuild.now c.in_ok-draft.draft) c.deref-2.ensures.value c.in_ok-draft.ensures;
+      is = subst (λ gs. IsDraft c.args.names.now c.args.classes.now c.args.pool.now c.args.adverts.now.told p gs c.args.rebuild.now c.in_ok-draft.draft) c.deref-2.ensures.value c.in_ok-draft.ensures;
     } in
-    ready_steps c.args.names.now c.args.classes.now c.args.pool.now c.args.told.now c.args.switch.now c.args.views.now p c.args.rebuild.now fs c.in_ok-draft.draft ready c.of-known.result c.deref-3.result.now c.items-drops.result.now c.items-built.result.now
+    ready_steps c.args.names.now c.args.classes.now c.args.pool.now c.args.adverts.now.told (g.B.Blocks.installed c.args.switch.now) c.args.views.now p c.args.rebuild.now fs c.in_ok-draft.draft ready c.of-known.result c.deref-3.result.now c.items-drops.result.now c.items-built.result.now
     c.of-known.ensures c.deref-3.ensures.value c.items-drops.ensures c.items-built.ensures s r is_rebuilt asked c.args.steps.now c.rules_for.new.steps c.rules_for.ensures.steps

@@ -1,6 +1,7 @@
-use Rattle.std.proofs.Common.{◌≡◌, ◌++◌, drop}
-use Rattle.fast_path.specs.Grouping.{changes_of}
+-- those among the prefixes so far
+use Rattle.std.proofs.Common.{◌≡◌, take}
+use Rattle.fast_path.specs.Offers.{others}
 use Rattle.fast_path.proofs.tagging.tag_changes.Given as goal
 
-abbrev pub invariant-loop-at : goal.invariant-loop-at
-invariant-loop-at l = l.changes ++ changes_of l.known l.groups l.tags (drop l.at l.proposal.touched) (drop l.at l.proposal.sigs) ≡ changes_of l.known l.groups l.tags l.proposal.touched l.proposal.sigs
+abbrev pub invariant-loop-change : goal.invariant-loop-change
+invariant-loop-change l = l.changes ≡ others l.known (take l.change-index l.tagged)

@@ -1,0 +1,138 @@
+-- A map with changes made: what stands at each prefix, and what one change more makes of it.
+use Rattle.std.proofs.Common.{◌≡◌, Bool, true, false, cond, List, [], ◌∷◌, ◌++◌, sym, ap, ◌∙◌, refl}
+use Rattle.std.specs.Prelude.{Option, Some, None, unwrap_or}
+use Rattle.std.specs.Ordering.{eq_by_cmp}
+use Rattle.std.specs.FinMap.{FinMap, get, get-insert, get-remove, same_map}
+use Rattle.std.specs.FinMap.Entries.{find, find-put, put, is_sorted, below_all}
+use Rattle.std.proofs.lemmas.Bool.{and_from, and_parts, eqb-true}
+use Rattle.events.specs.Pending.{same_entry, with_news}
+use Rattle.events.specs.Tags.{same_tag}
+use Rattle.events.specs.declared.Entry.{Entry}
+use Rattle.net_types.proofs.EqualLemmas.{IsEqualityTest, from_itself, option_test, optional_test}
+use Rattle.net_types.proofs.OrderLemmas.{prefixes_total}
+use Rattle.net_types.proofs.PlaceLemmas.{put_sorted, without_sorted}
+use Rattle.net_types.proofs.SameLemmas.{attrs_itself, nat_itself}
+use Rattle.net_types.proofs.TieLemmas.{prefix_cmp-IsAntisymmetric, same_from_tie, tie_Equal}
+use Rattle.net_types.specs.Attributes.{same_attrs, same_option}
+use Rattle.net_types.specs.Keys.{prefix_cmp}
+use Rattle.net_types.specs.declared.prefix.Prefix.{Prefix}
+use Rattle.ordered_map.specs.Entries.{without}
+use Rattle.advert_queue.proofs.RisingEntries.{find_below, find_without}
+use Rattle.advert_queue.specs.Changes.{AreNews, Change, changed}
+
+-- what was told, or is present
+abbrev pub Told : Type 0
+Told = FinMap prefix_cmp Entry
+
+-- ---- the test of entries decides whether they are equal
+
+entries_equal : (a b : Entry) → same_entry a b ≡ true → a ≡ b
+entries_equal a b e =
+    let parts = and_parts (same_tag a.tag b.tag) (same_attrs a.attrs b.attrs) e in
+    let attrs : a.attrs ≡ b.attrs = ap (λ o. unwrap_or o a.attrs) ((optional_test (Some a.attrs) (Some b.attrs)).0 parts.1) in
+    let tags : a.tag.0 ≡ b.tag.0 = eqb-true a.tag.0 b.tag.0 parts.0 in
+    λ i. record { attrs = attrs i; tag = record { 0 = tags i } }
+
+entry_itself : (e : Entry) → same_entry e e ≡ true
+entry_itself e = and_from (same_tag e.tag e.tag) (same_attrs e.attrs e.attrs) (nat_itself e.tag.0) (attrs_itself e.attrs)
+
+pub entry_test : IsEqualityTest (same_option same_entry)
+entry_test = option_test same_entry (from_itself same_entry entries_equal entry_itself)
+
+-- what the test answers of two entries that are seen as these
+module _ (a b x y : Option Entry) (answer : Bool) (left : a ≡ x) (right : b ≡ y) (is : answer ≡ same_option same_entry a b) where
+  pub same_as : answer ≡ true → x ≡ y
+  same_as e = (entry_test x y).0 ((λ i. same_option same_entry (sym left i) (sym right i)) ∙ sym is ∙ e)
+
+  pub differs_from : answer ≡ false → x ≡ y → ⊥
+  differs_from e same =
+      let alike : same_option same_entry x y ≡ true = (entry_test x y).1 same in
+      let both : true ≡ false = sym alike ∙ (λ i. same_option same_entry (sym left i) (sym right i)) ∙ sym is ∙ e in
+      cc
+
+-- ---- one change
+
+pub get_with : (told : Told) (k : Prefix) (o : Option Entry) (q : Prefix) → get (with_news told k o) q ≡ cond (eq_by_cmp prefix_cmp q k) o (get told q)
+get_with told k None q = get-remove prefixes_total told k q
+get_with told k (Some e) q = get-insert prefixes_total told k e q
+
+-- ---- all of them
+
+pub prefix_same : (x y : Prefix) → eq_by_cmp prefix_cmp x y ≡ true → x ≡ y
+prefix_same = same_from_tie prefix_cmp prefix_cmp-IsAntisymmetric
+
+-- a prefix has its change, or else what was told
+pub get_changed : (told : Told) (cs : List Change) (q : Prefix) → is_sorted prefix_cmp cs ≡ true → get (changed told cs) q ≡ unwrap_or (find prefix_cmp q cs) (get told q)
+get_changed told [] q sorted = refl
+get_changed told (c ∷ cs) q sorted =
+    let parts = and_parts (below_all prefix_cmp c.0 cs) (is_sorted prefix_cmp cs) sorted in
+    let rest = get_changed (with_news told c.0 c.1) cs q parts.1 in
+    let here = get_with told c.0 c.1 q in
+    elim (eq_by_cmp prefix_cmp q c.0) as (λ b. eq_by_cmp prefix_cmp q c.0 ≡ b → get (with_news told c.0 c.1) q ≡ cond b c.1 (get told q) → get (changed (with_news told c.0 c.1) cs) q ≡ unwrap_or (cond b (Some c.1) (find prefix_cmp q cs)) (get told q)) [
+      | true ↦ λ tie at. rest ∙ ap (λ o. unwrap_or o (get (with_news told c.0 c.1) q)) (find_below prefix_cmp prefixes_total q c.0 cs (tie_Equal _ tie) parts.0) ∙ at
+      | false ↦ λ apart at. rest ∙ ap (unwrap_or (find prefix_cmp q cs)) at
+    ] refl here
+
+-- a change is found at its prefix
+pub get_change : (told : Told) (cs : List Change) (q : Prefix) (now : Option Entry) → is_sorted prefix_cmp cs ≡ true → find prefix_cmp q cs ≡ Some now → get (changed told cs) q ≡ now
+get_change told cs q now sorted is = get_changed told cs q sorted ∙ ap (λ o. unwrap_or o (get told q)) is
+
+pub changed-append : (told : Told) (cs ds : List Change) → changed told (cs ++ ds) ≡ changed (changed told cs) ds
+changed-append told [] ds = refl
+changed-append told (c ∷ cs) ds = changed-append (with_news told c.0 c.1) cs ds
+
+-- ---- one more, noted
+
+module _ (told : Told) (cs : List Change) (k : Prefix) (entry : Option Entry) (sorted : is_sorted prefix_cmp cs ≡ true) where
+  pub changed_put : changed told (put prefix_cmp k entry cs) ≡ with_news (changed told cs) k entry
+  changed_put = same_map prefixes_total prefix_cmp-IsAntisymmetric _ _ (λ q.
+      get_changed told (put prefix_cmp k entry cs) q (put_sorted prefix_cmp prefixes_total k entry cs sorted)
+      ∙ ap (λ o. unwrap_or o (get told q)) (find-put prefix_cmp prefixes_total q k entry cs)
+      ∙ by q (eq_by_cmp prefix_cmp q k)
+      ∙ ap (cond (eq_by_cmp prefix_cmp q k) entry) (sym (get_changed told cs q sorted))
+      ∙ sym (get_with (changed told cs) k entry q))
+    where
+      by : (q : Prefix) (b : Bool) → unwrap_or (cond b (Some entry) (find prefix_cmp q cs)) (get told q) ≡ cond b entry (unwrap_or (find prefix_cmp q cs) (get told q))
+      by q true = refl
+      by q false = refl
+
+  pub changed_without : get told k ≡ entry → changed told (without prefix_cmp k cs) ≡ with_news (changed told cs) k entry
+  changed_without was = same_map prefixes_total prefix_cmp-IsAntisymmetric _ _ (λ q.
+      get_changed told (without prefix_cmp k cs) q (without_sorted prefix_cmp k cs sorted)
+      ∙ ap (λ o. unwrap_or o (get told q)) (find_without prefix_cmp prefixes_total q k cs)
+      ∙ by q (eq_by_cmp prefix_cmp q k) refl
+      ∙ ap (cond (eq_by_cmp prefix_cmp q k) entry) (sym (get_changed told cs q sorted))
+      ∙ sym (get_with (changed told cs) k entry q))
+    where
+      by : (q : Prefix) (b : Bool) → eq_by_cmp prefix_cmp q k ≡ b → unwrap_or (cond b None (find prefix_cmp q cs)) (get told q) ≡ cond b entry (unwrap_or (find prefix_cmp q cs) (get told q))
+      by q true tie = ap (get told) (prefix_same q k tie) ∙ was
+      by q false apart = refl
+
+  pub news_put : AreNews told cs → ¬ get told k ≡ entry → AreNews told (put prefix_cmp k entry cs)
+  news_put news other p now is = by (eq_by_cmp prefix_cmp p k) refl (sym (find-put prefix_cmp prefixes_total p k entry cs) ∙ is)
+    where
+      by : (b : Bool) → eq_by_cmp prefix_cmp p k ≡ b → cond b (Some entry) (find prefix_cmp p cs) ≡ Some now → ¬ get told p ≡ now
+      by true tie at same = other (ap (get told) (sym (prefix_same p k tie)) ∙ same ∙ sym (ap (λ o. unwrap_or o entry) at))
+      by false apart at same = news p now at same
+
+  pub news_without : AreNews told cs → AreNews told (without prefix_cmp k cs)
+  news_without news p now is = by (eq_by_cmp prefix_cmp p k) (sym (find_without prefix_cmp prefixes_total p k cs) ∙ is)
+    where
+      by : (b : Bool) → cond b None (find prefix_cmp p cs) ≡ Some now → ¬ get told p ≡ now
+      by true at = absurd (cc)
+      by false at = news p now at
+
+-- ---- the first one, told
+
+-- the later ones are news still
+pub news_left : (told : Told) (c : Change) (cs : List Change) → is_sorted prefix_cmp (c ∷ cs) ≡ true → AreNews told (c ∷ cs) → AreNews (with_news told c.0 c.1) cs
+news_left told c cs sorted news p now is same =
+    let parts = and_parts (below_all prefix_cmp c.0 cs) (is_sorted prefix_cmp cs) sorted in
+    by (eq_by_cmp prefix_cmp p c.0) refl (sym (get_with told c.0 c.1 p) ∙ same)
+  where
+    by : (b : Bool) → eq_by_cmp prefix_cmp p c.0 ≡ b → cond b c.1 (get told p) ≡ now → ⊥
+    by true tie at =
+        let parts = and_parts (below_all prefix_cmp c.0 cs) (is_sorted prefix_cmp cs) sorted in
+        let none = find_below prefix_cmp prefixes_total p c.0 cs (tie_Equal _ tie) parts.0 in
+        let both : None ≡ Some now = sym none ∙ is in cc
+    by false apart at = news p now (ap (λ b. cond b (Some c.1) (find prefix_cmp p cs)) apart ∙ is) at

@@ -1,0 +1,87 @@
+-- Entries whose keys rise: the first one, its removal, and lists that rise and have the same members.
+use Rattle.std.proofs.Common.{◌≡◌, ◌+◌, ◌≤◌, Bool, true, false, cond, not, T, List, [], ◌∷◌, map, drop, length, sym, ap, subst, ◌∙◌, refl, arith}
+use Rattle.std.specs.Prelude.{Some, None, is_some}
+use Rattle.std.specs.Cmp.{IsTotalOrder, alike_right, eq_by_cmp_equiv}
+use Rattle.std.specs.List.{list_any}
+use Rattle.std.specs.Ordering.{eq_by_cmp, is_eq, is_lt}
+use Rattle.std.specs.declared.cmp.Ordering.{Ordering}
+use Rattle.std.specs.declared.cmp.Ordering.TheVariants.{Less, Equal, Greater}
+use Rattle.std.specs.FinMap.{from_sorted}
+use Rattle.std.specs.FinMap.Entries.{find, is_sorted, below_all, find-where_key, length-put, length_without, put}
+use Rattle.std.proofs.lemmas.Bool.{and_parts}
+use Rattle.net_types.proofs.OrderedLemmas.{any_member, member_any, ordered_is}
+use Rattle.net_types.proofs.PlaceLemmas.{entries_of_sorted}
+use Rattle.net_types.proofs.RisingLemmas.{before, keys-IsRising}
+use Rattle.net_types.specs.Sets.{IsRising, SameMembers}
+use Rattle.ordered_map.specs.Entries.{head_of, without}
+
+less : (r : Ordering) → is_lt r ≡ true → r ≡ Less
+less Less e = refl
+less Equal e = cc
+less Greater e = cc
+
+holds : (b : Bool) → b ≡ true → T b
+holds true e = tt
+holds false e = cc
+
+cond_not : {A : Type 0} (b : Bool) (x y : A) → cond (not b) x y ≡ cond b y x
+cond_not true x y = refl
+cond_not false x y = refl
+
+-- a list that has a first item is that and the rest
+pub headed : {A : Type 0} (xs : List A) (x : A) → head_of xs ≡ Some x → xs ≡ x ∷ drop 1 xs
+headed [] x e = cc
+headed (y ∷ ys) x e = let same : y ≡ x = cc in ap (λ z. z ∷ ys) same
+
+module _ {K X : Type 0} (R : K → K → Ordering) (o : IsTotalOrder R) where
+  -- a key that ties with one below all entries has none
+  pub find_below : (q x : K) (es : List (K × X)) → R q x ≡ Equal → below_all R x es ≡ true → find R q es ≡ None
+  find_below q x [] tie below = refl
+  find_below q x (e ∷ es) tie below =
+      let parts = and_parts (is_lt (R x e.0)) (below_all R x es) below in
+      ap (λ r. cond (is_eq r) (Some e.1) (find R q es)) (o.congr q x e.0 tie ∙ less _ parts.0) ∙ find_below q x es tie parts.1
+
+  without_below : (q x : K) (es : List (K × X)) → R q x ≡ Equal → below_all R x es ≡ true → without R q es ≡ es
+  without_below q x [] tie below = refl
+  without_below q x (e ∷ es) tie below =
+      let parts = and_parts (is_lt (R x e.0)) (below_all R x es) below in
+      ap (λ r. cond (not (is_eq r)) (e ∷ without R q es) (without R q es)) (o.congr q x e.0 tie ∙ less _ parts.0) ∙ ap (λ ds. e ∷ ds) (without_below q x es tie parts.1)
+
+  -- without the first one's key the others are left
+  pub without_first : (q : K) (e : K × X) (es : List (K × X)) → is_sorted R (e ∷ es) ≡ true → R q e.0 ≡ Equal → without R q (e ∷ es) ≡ es
+  without_first q e es sorted tie =
+      let parts = and_parts (below_all R e.0 es) (is_sorted R es) sorted in
+      ap (λ r. cond (not (is_eq r)) (e ∷ without R q es) (without R q es)) tie ∙ without_below q e.0 es tie parts.0
+
+  pub find_without : (q k : K) (es : List (K × X)) → find R q (without R k es) ≡ cond (eq_by_cmp R q k) None (find R q es)
+  find_without q k es =
+      find-where_key R (λ x. not (eq_by_cmp R k x)) q (λ x t. ap (λ r. not (is_eq r)) (sym (alike_right o q x k t))) es
+      ∙ cond_not (eq_by_cmp R k q) _ _ ∙ ap (λ b. cond b None (find R q es)) ((eq_by_cmp_equiv o).symm k q)
+
+  pub length_put : (k : K) (v : X) (es : List (K × X)) → is_sorted R es ≡ true → length (put R k v es) ≤ length es + 1
+  length_put k v es sorted =
+      let all = length-put R o k v es (holds _ sorted) in
+      elim (is_some (find R k es)) as (λ b. length (put R k v es) ≡ cond b (length es) (length es + 1) → length (put R k v es) ≤ length es + 1) [
+        | true ↦ λ e. omega (arith, e)
+        | false ↦ λ e. omega (arith, e)
+      ] all
+
+  pub fewer_without : (k : K) (es : List (K × X)) → is_sorted R es ≡ true → length (without R k es) ≤ length es
+  fewer_without k es sorted = let all = length_without R o k es (holds _ sorted) in omega (arith, all)
+
+  pub keys_rise : (es : List (K × X)) → is_sorted R es ≡ true → IsRising (before R) (map (λ e. e.0) es)
+  keys_rise es sorted = subst (λ (ds : List (K × X)). IsRising (before R) (map (λ e. e.0) ds)) (entries_of_sorted R es sorted) (keys-IsRising R (from_sorted es))
+
+-- lists that rise and have the same members are one
+module _ {K : Type 0} (R : K → K → Ordering) (o : IsTotalOrder R) (tie : (x y : K) → eq_by_cmp R x y ≡ true → x ≡ y) where
+  pub rising_alike : (xs ys : List K) → IsRising (before R) xs → IsRising (before R) ys → SameMembers xs ys → xs ≡ ys
+  rising_alike xs ys up down same = ordered_is R o tie xs ys up same ∙ sym (ordered_is R o tie ys ys down (record { onto = λ x m. m; back = λ x m. m }))
+
+  same_members : (xs ys : List K) → ((x : K) → list_any (eq_by_cmp R x) xs ≡ list_any (eq_by_cmp R x) ys) → SameMembers xs ys
+  same_members xs ys same = record {
+    onto = λ x m. any_member R o tie x ys (sym (same x) ∙ member_any R o tie x xs m);
+    back = λ x m. any_member R o tie x xs (same x ∙ member_any R o tie x ys m);
+  }
+
+  pub rising_by_any : (xs ys : List K) → IsRising (before R) xs → IsRising (before R) ys → ((x : K) → list_any (eq_by_cmp R x) xs ≡ list_any (eq_by_cmp R x) ys) → xs ≡ ys
+  rising_by_any xs ys up down same = rising_alike xs ys up down (same_members xs ys same)

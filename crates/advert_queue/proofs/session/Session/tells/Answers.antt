@@ -1,0 +1,8 @@
+use Rattle.std.proofs.Common.{ap, ◌∙◌}
+use Rattle.events.specs.Tags.{tells}
+use Rattle.advert_queue.proofs.CountLemmas.{found_told}
+use Rattle.advert_queue.specs.Kept.{Queued}
+use Rattle.advert_queue.proofs.session.Session.tells.Goals as goal
+
+pub returns : goal.returns
+returns c = c.is_used.ensures ∙ found_told _ _ c.args.tag c.self.invariant.tellable.counts ∙ ap (λ (q : Queued). tells q.told c.args.tag) c.self.view_is

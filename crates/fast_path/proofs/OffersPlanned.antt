@@ -1,0 +1,151 @@
+-- What a proposal offers is what is present in the state afterwards, and what it doesn't offer is present as it was.
+use Rattle.std.proofs.Common.{◌≡◌, ℕ, zero, suc, ◌+◌, ◌<◌, ◌≤◌, ◌⊎◌, Bool, true, false, cond, not, List, [], ◌∷◌, ◌++◌, drop, filter, length, map, sym, ap, subst, ◌∙◌, refl, arith, inl, inr}
+use Rattle.std.specs.Prelude.{Option, Some, None, slice_get, unwrap_or}
+use Rattle.std.specs.FinMap.{get}
+use Rattle.std.specs.Option.{option_and_then, option_map}
+use Rattle.events.specs.State.{State, present, present_entry}
+use Rattle.events.specs.Tags.{groups, free_tags, new_tag, retagged, same_tag}
+use Rattle.events.specs.declared.Entry.{Entry}
+use Rattle.events.specs.declared.TagChange.{TagChange}
+use Rattle.exchange_laws.proofs.Lists.{numbers_range}
+use Rattle.exchange_laws.proofs.LivePairs.{present_is}
+use Rattle.exchange_laws.proofs.TouchedPrefixes.{others_stay_present}
+use Rattle.exchange_laws.specs.Touched.{IsTouching}
+use Rattle.net_types.proofs.OrderLemmas.{prefix_tie, prefixes_total}
+use Rattle.net_types.proofs.PassLemmas.{place_member}
+use Rattle.net_types.proofs.SetLemmas.{Member-map, Member-union, map-Member, union-Member}
+use Rattle.net_types.specs.Attributes.{same_option}
+use Rattle.net_types.specs.Changes.{best_attrs}
+use Rattle.net_types.specs.Exports.{Routing}
+use Rattle.net_types.specs.Keys.{prefix_cmp}
+use Rattle.net_types.specs.Routes.{Candidate, best, numbers, pids}
+use Rattle.net_types.specs.Sets.{Member, union_over}
+use Rattle.net_types.specs.Signatures.{signature}
+use Rattle.net_types.specs.declared.address.Pid.{Pid}
+use Rattle.net_types.specs.declared.address.Tag.{Tag}
+use Rattle.net_types.specs.declared.prefix.Prefix.{Prefix}
+use Rattle.net_types.specs.declared.route.Attrs.{Attrs}
+use Rattle.net_types.specs.declared.route.Part.{Part}
+use Rattle.fast_path.proofs.CommittedMaps.{stands_or_not}
+use Rattle.fast_path.proofs.ListPlaces.{mapped_at}
+use Rattle.fast_path.proofs.OfferedPresent.{number_at, pid_at}
+use Rattle.fast_path.specs.Grouping.{Known, change_before, changes_of, tag_after}
+use Rattle.fast_path.specs.Offers.{AreOffers, IsOffered, advert_of, adverts_from, best_at, entry_of, others, tagged}
+use Rattle.fast_path.specs.declared.fresh.Fresh.{Fresh}
+use Rattle.fast_path.specs.declared.planned.Advert.{Advert}
+use Rattle.route_server.specs.Proposed.{Proposed}
+
+-- ---- the touched prefixes with their tags
+
+-- there are no more than touched ones
+pub tagged_few : (k : Known) (fs : List Fresh) (ts : List Tag) (ps : List Prefix) (sigs : List (List Part)) → length (tagged k fs ts ps sigs) ≤ length ps
+tagged_few k fs ts [] sigs = omega arith
+tagged_few k fs ts (p ∷ ps) [] = omega arith
+tagged_few k fs ts (p ∷ ps) (sig ∷ sigs) = let later = tagged_few k fs ts ps sigs in omega (arith, later)
+
+-- those that had another tag are the changes
+pub others_are : (k : Known) (fs : List Fresh) (ts : List Tag) (ps : List Prefix) (sigs : List (List Part)) → others k (tagged k fs ts ps sigs) ≡ changes_of k fs ts ps sigs
+others_are k fs ts [] sigs = refl
+others_are k fs ts (p ∷ ps) [] = refl
+others_are k fs ts (p ∷ ps) (sig ∷ sigs) = by (same_option same_tag (get k.tag p) (tag_after k fs ts p sig)) (others_are k fs ts ps sigs)
+  where
+    now : TagChange
+    now = record { prefix = p; tag = tag_after k fs ts p sig }
+
+    by : (b : Bool) → others k (tagged k fs ts ps sigs) ≡ changes_of k fs ts ps sigs → cond (not b) (now ∷ others k (tagged k fs ts ps sigs)) (others k (tagged k fs ts ps sigs)) ≡ cond b (changes_of k fs ts ps sigs) (now ∷ changes_of k fs ts ps sigs)
+    by true later = later
+    by false later = ap (λ cs. now ∷ cs) later
+
+-- ---- what is offered of them
+
+-- the first of what is left
+first_left : {A : Type 0} (xs : List A) (n : ℕ) (y : A) (ys : List A) → drop n xs ≡ y ∷ ys → slice_get xs n ≡ Some y
+first_left [] zero y ys e = cc
+first_left [] (suc n) y ys e = cc
+first_left (x ∷ xs) zero y ys e = ap (λ zs. slice_get zs 0) e
+first_left (x ∷ xs) (suc n) y ys e = first_left xs n y ys e
+
+-- and the others
+then_left : {A : Type 0} (xs : List A) (n : ℕ) (y : A) (ys : List A) → drop n xs ≡ y ∷ ys → drop (n + 1) xs ≡ ys
+then_left [] zero y ys e = absurd (cc)
+then_left [] (suc n) y ys e = absurd (cc)
+then_left (x ∷ xs) zero y ys e = cc
+then_left (x ∷ xs) (suc n) y ys e = (let next : suc n + 1 ≡ suc (n + 1) = omega arith in ap (λ k. drop k (x ∷ xs)) next) ∙ then_left xs n y ys e
+
+-- maps that agree on the members
+mapped_alike : {A B : Type 0} (f g : A → B) (xs : List A) → ((x : A) → Member x xs → f x ≡ g x) → map f xs ≡ map g xs
+mapped_alike f g [] same = refl
+mapped_alike f g (x ∷ xs) same = ap (λ y. y ∷ map f xs) (same x (inl refl)) ∙ ap (λ ys. g x ∷ ys) (mapped_alike f g xs (λ y m. same y (inr m)))
+
+-- an entry is the best attributes with the tag
+entry_is : (s : State) (who : Pid) (p : Prefix) → entry_of (best_attrs s.routing who p) (get s.tag p) ≡ present_entry s who p
+entry_is s who p = by (best s.routing who p)
+  where
+    by : (b : Option Candidate) → entry_of (option_map (λ (c : Candidate). c.attrs) b) (get s.tag p) ≡ option_and_then (λ (c : Candidate). option_map (λ t. let e : Entry = record { attrs = c.attrs; tag = t } in e) (get s.tag p)) b
+    by None = refl
+    by (Some c) = refl
+
+pid_within : (r : Routing) (who : Pid) → Member who (pids r) → who.0 < length r.participants
+pid_within r who m = let range = numbers_range pid_at (λ (w : Pid). w.0) (λ n. refl) 0 (length r.participants) who m in omega (arith, range)
+
+pid_listed : (r : Routing) (who : Pid) → who.0 < length r.participants → Member who (pids r)
+pid_listed r who within = place_member pid_at 0 (length r.participants) who.0 (omega arith) (omega arith)
+
+module _ (p : Proposed) (s : State) (ps : List Prefix) (bests : p.bests ≡ map (λ q. map (λ to. best_attrs s.routing to q) (pids s.routing)) ps) where
+  abbrev bests_of : Prefix → List (Option Attrs)
+  bests_of q = map (λ to. best_attrs s.routing to q) (pids s.routing)
+
+  -- what is present of the prefix is offered to the participant
+  abbrev advert : Prefix → Pid → Advert
+  advert q who = record { who = who; prefix = q; entry = present_entry s who q }
+
+  abbrev with_tag : Prefix → TagChange
+  with_tag q = record { prefix = q; tag = get s.tag q }
+
+  best_is : (n : ℕ) (q : Prefix) (who : Pid) → slice_get p.bests n ≡ Some (bests_of q) → who.0 < length s.routing.participants → best_at p n who ≡ best_attrs s.routing who q
+  best_is n q who at within =
+      ap (λ o. option_and_then (λ (b : Option Attrs). b) (slice_get (unwrap_or o []) who.0)) at
+      ∙ ap (option_and_then (λ (b : Option Attrs). b)) (mapped_at (λ to. best_attrs s.routing to q) (pids s.routing) who.0 who (number_at pid_at 0 (length s.routing.participants) who.0 within))
+
+  advert_is : (n : ℕ) (q : Prefix) (who : Pid) → slice_get p.bests n ≡ Some (bests_of q) → who.0 < length s.routing.participants → advert_of (best_at p n) (with_tag q) who ≡ advert q who
+  advert_is n q who at within = λ i. record { who = who; prefix = q; entry = (ap (λ b. entry_of b (get s.tag q)) (best_is n q who at within) ∙ entry_is s who q) i }
+
+  adverts_are : (n : ℕ) (qs : List Prefix) → drop n p.bests ≡ map bests_of qs → adverts_from p (pids s.routing) n (map with_tag qs) ≡ union_over (λ q. map (advert q) (pids s.routing)) qs
+  adverts_are n [] left = refl
+  adverts_are n (q ∷ qs) left =
+      ap (λ os. os ++ adverts_from p (pids s.routing) (n + 1) (map with_tag qs)) (mapped_alike (advert_of (best_at p n) (with_tag q)) (advert q) (pids s.routing) (λ who m.
+        advert_is n q who (first_left p.bests n (bests_of q) (map bests_of qs) left) (pid_within s.routing who m)))
+      ∙ ap (λ os. map (advert q) (pids s.routing) ++ os) (adverts_are (n + 1) qs (then_left p.bests n (bests_of q) (map bests_of qs) left))
+
+  -- each says what is present
+  advert_each : (qs : List Prefix) (o : Advert) → Member o (union_over (λ q. map (advert q) (pids s.routing)) qs) → (o.who.0 < length s.routing.participants) × (o.entry ≡ get (present s o.who) o.prefix)
+  advert_each qs o m =
+      let source = union-Member (λ q. map (advert q) (pids s.routing)) qs o m in
+      let image = map-Member (advert source.of) (pids s.routing) o source.gives in
+      subst (λ (x : Advert). (x.who.0 < length s.routing.participants) × (x.entry ≡ get (present s x.who) x.prefix)) (sym image.is)
+      (pid_within s.routing image.of image.stands, sym (present_is s image.of source.of))
+
+  -- and every one of the prefixes is offered to every participant
+  advert_there : (qs : List Prefix) (who : Pid) (q : Prefix) → Member q qs → who.0 < length s.routing.participants → IsOffered (union_over (λ x. map (advert x) (pids s.routing)) qs) who q
+  advert_there qs who q m within = record {
+    offer = advert q who;
+    stands = Member-union (λ x. map (advert x) (pids s.routing)) qs q (advert q who) m (Member-map (advert q) (pids s.routing) who (pid_listed s.routing who within));
+    to = refl;
+    of = refl;
+  }
+
+-- ---- from a state to the one after the line
+
+module _ (s : State) (r : Routing) (p : Proposed) (touching : IsTouching s r p.touched) (bests : p.bests ≡ map (λ q. map (λ to. best_attrs r to q) (pids r)) p.touched) where
+  abbrev s1 : State
+  s1 = retagged s r
+
+  pub offers_made : AreOffers s s1 (adverts_from p (pids r) 0 (map (λ q. let c : TagChange = record { prefix = q; tag = get s1.tag q } in c) p.touched))
+  offers_made = subst (AreOffers s s1) (sym (adverts_are p s1 p.touched bests 0 p.touched bests)) (record {
+    each = λ o m.
+        let at = advert_each p s1 p.touched bests p.touched o m in (subst (λ qs. o.who.0 < length qs) touching.alike.participants at.0, at.1);
+    all = λ who q within. elim (stands_or_not prefix_cmp prefixes_total prefix_tie p.touched q) [
+      | inl touched ↦ inl (advert_there p s1 p.touched bests p.touched who q touched (subst (λ qs. who.0 < length qs) (sym touching.alike.participants) within))
+      | inr other ↦ inr (others_stay_present s r p.touched touching q who within other)
+    ];
+  })
