@@ -7,7 +7,7 @@ ghost use Rattle.net_types.specs.Keys.{prefix_cmp};
 
 use advert_queue::{Told, adverts, pending};
 use events::{Entry, Messages};
-use net_types::{Attrs, Ip, Items, Memory, Numbers, Prefix, Segment, Tag};
+use net_types::{Attrs, Ip, Items, Memory, Numbers, Prefix, Segment, SharedAttrs, Tag};
 use std::alloc::Global;
 use std::test::Fail;
 
@@ -41,18 +41,20 @@ fn entry(alloc: Global, origin: u8, tag: u32) -> Result<Entry, Memory> {
     asns.push(65002)?;
     let mut path = Items::new(alloc);
     path.push(Segment::Sequence(asns))?;
+    let attrs = Attrs {
+        origin,
+        path,
+        next_hop: Ip(0xac10_0102),
+        med: None,
+        atomic: false,
+        aggregator: None,
+        communities: Numbers::new(alloc),
+        communities_partial: false,
+        unknown: Items::new(alloc),
+    };
+    let attrs = SharedAttrs::new(alloc, attrs)?;
     Ok(Entry {
-        attrs: Attrs {
-            origin,
-            path,
-            next_hop: Ip(0xac10_0102),
-            med: None,
-            atomic: false,
-            aggregator: None,
-            communities: Numbers::new(alloc),
-            communities_partial: false,
-            unknown: Items::new(alloc),
-        },
+        attrs,
         tag: Tag(tag),
     })
 }

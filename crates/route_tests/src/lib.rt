@@ -9,4 +9,6 @@ mod classes;
 #[cfg(test)]
 mod prefixes;
 #[cfg(test)]
+mod sessions;
+#[cfg(test)]
 mod tags;
