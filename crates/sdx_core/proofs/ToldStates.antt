@@ -172,13 +172,13 @@ module _ (s : State) (who : Pid) (pool : Tags) {all : List Programs} (kept : IsK
       by (Some count) is = is
 
 module _ (s : State) (who : Pid) (limit : Option ℕ) (pool : Tags) {all : List Programs} (kept : IsKept s pool all) (taker : IsTaker s who limit) where
-  abbrev then : FinMap prefix_cmp Entry
-  then = told_after s who limit
+  abbrev entries : FinMap prefix_cmp Entry
+  entries = told_after s who limit
 
   abbrev s3 : State
-  s3 = told_anew s who then
+  s3 = told_anew s who entries
 
-  known : AreKnownTo s who then
+  known : AreKnownTo s who entries
   known = known_then s who limit
 
   abbrev dead : List Tag
@@ -192,15 +192,15 @@ module _ (s : State) (who : Pid) (limit : Option ℕ) (pool : Tags) {all : List 
   table_then = rules_left s who pool kept taker.name limit taker.sender
 
   are_dead : AreDead s s3 dead
-  are_dead = tags_go s who then kept.steady.apart takers_place
+  are_dead = tags_go s who entries kept.steady.apart takers_place
 
   -- no prefix has one of the dead tags
   pub dead_unused : (t : Tag) → Member t dead → members s.tag t ≡ 0
-  dead_unused = tags_unused s who then kept.steady.apart takers_place
+  dead_unused = tags_unused s who entries kept.steady.apart takers_place
 
   -- without the dead tags the signatures are those afterwards
   pub signatures_then : kept_without s.kept dead ≡ s3.kept
-  signatures_then = kept_then s who then known dead are_dead kept.steady.kept
+  signatures_then = kept_then s who entries known dead are_dead kept.steady.kept
 
   of_pool : IsPoolOf s pool
   of_pool = record { free = sym kept.free; size = kept.size; base = kept.base }
@@ -208,13 +208,13 @@ module _ (s : State) (who : Pid) (limit : Option ℕ) (pool : Tags) {all : List 
   dead_rise : IsRising is_tag_below dead
   dead_rise =
       filter-IsRising is_tag_below (is_dead s.tag s.told who.0) (gone_by s who limit)
-      (filter-IsRising is_tag_below (λ u. not (is_told (then ∷ []) u)) (untold (present s who ∷ []) (tags_of (told_to s who)))
+      (filter-IsRising is_tag_below (λ u. not (is_told (entries ∷ []) u)) (untold (present s who ∷ []) (tags_of (told_to s who)))
       (filter-IsRising is_tag_below (λ u. not (is_told (present s who ∷ []) u)) (tags_of (told_to s who))
       (rising_tags (tags_of (told_to s who)) (ordered_rises tag_cmp tags_total tag_tie (map (λ (e : Entry). e.tag) (values (told_to s who)))))))
 
   -- the dead tags can be given back
   pub given_back : AreTaken pool dead
-  given_back = given_in_turn s who then known dead are_dead kept.steady.pooled pool of_pool dead_rise
+  given_back = given_in_turn s who entries known dead are_dead kept.steady.pooled pool of_pool dead_rise
 
   steady_then : IsSteady s3
   steady_then =
@@ -223,7 +223,7 @@ module _ (s : State) (who : Pid) (limit : Option ℕ) (pool : Tags) {all : List 
   -- what is kept holds of the state afterwards
   pub telling_kept : IsKept s3 (marked_all pool dead false) all
   telling_kept =
-      let of = pool_then s who then known dead are_dead kept.steady.pooled pool of_pool in record {
+      let of = pool_then s who entries known dead are_dead kept.steady.pooled pool of_pool in record {
         steady = steady_then;
         free = sym of.free;
         base = of.base;

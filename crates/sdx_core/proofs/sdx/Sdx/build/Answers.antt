@@ -1,4 +1,4 @@
-use Rattle.std.proofs.Common.{ap, sym, subst, ◌∙◌, refl}
+use Rattle.std.proofs.Common.{arith, ap, sym, subst, ◌∙◌, refl}
 use Rattle.std.specs.Prelude.{unwrap_or}
 use Rattle.events.specs.Fits.{IsStep}
 use Rattle.events.specs.State.{State}
@@ -25,11 +25,11 @@ returns-in-Err-TableFull-clause-step g c = λ e r is_rebuilt formed leads.
     let fault = subst (IsFault (base_of st c.args.request) r) c.in-Err-TableFull.field-0-is (c.in-Err-TableFull.ensures.plan e r is_rebuilt leads) in
     full_step full_tables_are_refused st e r is_rebuilt c.args.request c.refused-in-Err-TableFull.result c.in-Err-TableFull.rules c.in-Err-TableFull.capacity leads fault.0 fault.1 fault.2 fault.3 c.refused-in-Err-TableFull.ensures
 
-pub reserve-requires-clause-declared : goal.reserve-requires-clause-declared
-reserve-requires-clause-declared g c = sym c.self.invariant.kept.steady.told
+pub reserve-requires-2-clause-declared : goal.reserve-requires-2-clause-declared
+reserve-requires-2-clause-declared g c = sym c.self.invariant.kept.steady.told
 
-pub reserve-requires-clause-known : goal.reserve-requires-clause-known
-reserve-requires-clause-known g c =
+pub reserve-requires-2-clause-known : goal.reserve-requires-2-clause-known
+reserve-requires-2-clause-known g c =
     let q = c.args.request in
     let a = c.self.inside in
     let s : State = state_of a.phase a.base a.size a.registry a.server a.resolved.items a.classes a.adverts.told a.switch a.programs.items in
@@ -53,7 +53,7 @@ commit-changes-requires g c =
     c.plans_are_committed.ensures.allowed (base_of s q) r is_rebuilt plan c.reserve-2.new.classes a.pool c.reserve-3.new.self c.reserve-2.new.adverts (planned_of s e r is_rebuilt q plan here plans)
     (parts_of s q plan c.reserve-2.new.classes a.pool c.reserve-3.new.self c.reserve-2.new.adverts a.programs.items c.self.invariant.kept c.in-Ok.ensures.named (sym c.reserve-2.ensures.tag) (sym c.reserve-2.ensures.kept) (sym c.reserve-3.ensures.table) (sym c.reserve-3.ensures.capacity)
     (sym c.reserve-2.ensures.told) (sym (c.reserve-2.ensures.present ∙ c.self.invariant.present)))
-    (record { prefixes = c.in_ok-reserve-2.ensures.prefixes; tags = c.in_ok-reserve-2.ensures.tags; pairs = c.in_ok-reserve-3.ensures.room; offers = c.in_ok-reserve-2.ensures.offers })
+    (record { prefixes = c.in_ok-reserve-2.ensures.prefixes; tags = c.in_ok-reserve-2.ensures.tags; pairs = omega (arith, c.in_ok-reserve-3.ensures.room, plan.blocks.ok.0); offers = c.in_ok-reserve-2.ensures.offers })
 
 pub carry_out-requires : goal.carry_out-requires
 carry_out-requires g c =

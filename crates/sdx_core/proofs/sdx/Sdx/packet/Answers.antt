@@ -27,8 +27,8 @@ returns-in_default-headers-clause-step c =
     (sym c.port.ensures ∙ sym c.copied.ensures ∙ c.in-Some.is) no_mac refl c.known.ensures c.in_ok-frame.frame.items
     (rw c.items.ensures at c.in_ok-frame.ensures) (rw c.as_slice-2.ensures.value at (sym c.headers.ensures ∙ c.in_default-headers.is)) c.refused-in_default-headers.result c.refused-in_default-headers.ensures
 
-pub longest-requires-clause-declared : goal.longest-requires-clause-declared
-longest-requires-clause-declared c = owner_place c.self.invariant.kept c.args.port c.in-Some.source (sym c.port.ensures ∙ sym c.copied.ensures ∙ c.in-Some.is)
+pub longest-requires : goal.longest-requires
+longest-requires c = record { declared = owner_place c.self.invariant.kept c.args.port c.in-Some.source (sym c.port.ensures ∙ sym c.copied.ensures ∙ c.in-Some.is) }
 
 pub sent-requires-clause-small : goal.sent-requires-clause-small
 sent-requires-clause-small c =

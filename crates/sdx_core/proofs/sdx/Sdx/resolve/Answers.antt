@@ -19,15 +19,15 @@ returns-in_default-clause-step c =
     resolve_refused c.self.invariant.kept (sym c.is_declared.ensures ∙ c.if-not-is_declared.false) c.args.self.now c.self.view_is c.args.port
     (sym c.port_place.ensures.place ∙ c.in_default.is) c.refused-in_default.result c.refused-in_default.ensures
 
-pub told_tags-requires-clause-declared : goal.told_tags-requires-clause-declared
-told_tags-requires-clause-declared c =
+pub told_tags-requires : goal.told_tags-requires
+told_tags-requires c =
     let a = c.self.inside in
     let s : State = state_of a.phase a.base a.size a.registry a.server a.resolved.items a.classes a.adverts.told a.switch a.programs.items in
     let q : PortInfo = get_or a.registry.ports c.in-Some.place no_port in
     let place : port_place s c.args.port ≡ Some c.in-Some.place = sym c.port_place.ensures.place ∙ c.in-Some.is in
     let here : slice_get a.registry.ports c.in-Some.place ≡ Some q = slice_get-get_or a.registry.ports c.in-Some.place no_port c.in-Some.ensures.within in
     let found : port_of s c.args.port ≡ Some q = port_at s c.args.port c.in-Some.place q place here in
-    rw c.ports.ensures (owner_place c.self.invariant.kept c.args.port q found)
+    record { declared = rw c.ports.ensures (owner_place c.self.invariant.kept c.args.port q found) }
 
 pub missing_hops-requires-clause-small : goal.missing_hops-requires-clause-small
 missing_hops-requires-clause-small c =
@@ -53,8 +53,8 @@ exchanges-requires c =
     let tags : c.in_ok-tags.tags.items ≡ tags_told (told_to s q.owner) = rw c.ports.ensures at c.in_ok-tags.ensures in
     rw c.as_slice-2.ensures.value (hops_within c.self.invariant.kept q.owner.0 (told_to s q.owner) told_is c.in_ok-tags.tags.items tags c.index-as_slice-place.result c.in_ok-missing.missing.items (rw c.deref.ensures.value at c.in_ok-missing.ensures))
 
-pub invariant_of-self : goal.invariant_of-self
-invariant_of-self c =
+pub invariant_of-self-2 : goal.invariant_of-self-2
+invariant_of-self-2 c =
     let a = c.self.inside in
     let s : State = state_of a.phase a.base a.size a.registry a.server a.resolved.items a.classes a.adverts.told a.switch a.programs.items in
     let q : PortInfo = get_or a.registry.ports c.in-Some.place no_port in

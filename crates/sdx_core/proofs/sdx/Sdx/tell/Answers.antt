@@ -16,16 +16,16 @@ use Rattle.next_hop_pool.specs.Free.{Tags}
 use Rattle.prefix_classes.specs.Classes.{members}
 use Rattle.registry.specs.Registered.{ports_of}
 use Rattle.sdx_core.specs.Taking.{all_pairs, dead_tags, gone_by, told_after}
-use Rattle.sdx_core.specs.View.{IsKept}
+use Rattle.sdx_core.specs.View.{IsKept, state_of}
 use Rattle.sdx_core.proofs.Present.{kept_present}
 use Rattle.sdx_core.proofs.ToldStates.{dead_unused, given_back, signatures_then, table_then, takers_place, telling_kept, told_state}
 use Rattle.sdx_core.proofs.sdx.Sdx.tell.Goals as goal
 
-pub take-requires-clause-declared : goal.take-requires-clause-declared
-take-requires-clause-declared c =
+pub take-requires : goal.take-requires
+take-requires c =
     let a = c.self.inside in
     let kept : IsKept c.args.self.now a.pool a.programs.items = subst (λ (x : State). IsKept x a.pool a.programs.items) c.self.view_is c.self.invariant.kept in
-    subst (λ (x : State). c.args.who.0 < length x.told) (sym c.self.view_is) (takers_place c.args.self.now c.args.who c.args.limit a.pool kept c.requires.taker)
+    record { declared = subst (λ (x : State). c.args.who.0 < length x.told) (sym c.self.view_is) (takers_place c.args.self.now c.args.who c.args.limit a.pool kept c.requires.taker) }
 
 pub forget_all-requires : goal.forget_all-requires
 forget_all-requires c =
@@ -50,7 +50,7 @@ returns-clause-state c =
     let here : who.0 < length s.told = takers_place s who limit a.pool kept c.requires.taker in
     let place : who.0 < length a.registry.participants = subst (λ n. who.0 < n) (ap (λ (x : State). length x.told) (sym c.self.view_is) ∙ c.self.invariant.kept.steady.told) here in
     let told_is : told_of a.adverts who ≡ told_to s who = ap (λ (x : State). told_to x who) c.self.view_is in
-    let now_is : present_of a.adverts who ≡ present s who = kept_present _ a.adverts.present who c.self.invariant.present place ∙ ap (λ (x : State). present x who) c.self.view_is in
+    let now_is : present_of a.adverts who ≡ present s who = kept_present (state_of a.phase a.base a.size a.registry a.server a.resolved.items a.classes a.adverts.told a.switch a.programs.items) a.adverts.present who c.self.invariant.present place ∙ ap (λ (x : State). present x who) c.self.view_is in
     told_state who (told_after s who limit) c.self.view_is refl
     (c.remove_all.ensures.capacity ∙ ap (λ (x : State). x.capacity) c.self.view_is)
     (c.forget_all.ensures.tag ∙ ap (λ (x : State). x.tag) c.self.view_is)
