@@ -3,17 +3,16 @@ use Rattle.std.proofs.Common.{◌≡◌, ℕ, zero, suc, ◌+◌, ◌<◌, Bool,
 use Rattle.std.specs.Prelude.{Option, Some, ◌≤◌, nat_lt, slice_get, slice_index_or, unwrap_or}
 use Rattle.std.proofs.lemmas.Bool.Decides.{nat_tests}
 use Rattle.std.proofs.lemmas.List.{append_assoc, append-nil, map-append, drop_all}
-use Rattle.std.specs.FinMap.{get}
 use Rattle.std.specs.List.{list_any, position_from}
-use Rattle.net_types.specs.Attributes.{same_option}
 use Rattle.events.specs.declared.TagChange.{TagChange}
-use Rattle.events.specs.Tags.{Group, same_group, same_tag}
+use Rattle.events.specs.Tags.{Group, same_group}
 use Rattle.net_types.specs.declared.address.Tag.{Tag}
 use Rattle.net_types.specs.declared.prefix.Prefix.{Prefix}
 use Rattle.net_types.specs.declared.route.Part.{Part}
 use Rattle.fast_path.specs.Committing.{class_of, classes_of, kept_of}
 use Rattle.fast_path.specs.declared.planned.Class.{Class}
-use Rattle.fast_path.specs.Grouping.{Known, group_at, group_before, group_of_class, groups_of, is_moved, more_groups, moved_groups, one_more, same_class, change_before, changes_of, tag_after}
+use Rattle.fast_path.specs.Grouping.{Known, group_at, group_before, group_of_class, groups_of, is_moved, more_groups, moved_groups, one_more, same_class, tag_after}
+use Rattle.fast_path.specs.Offers.{tagged}
 use Rattle.fast_path.specs.declared.fresh.Fresh.{Fresh}
 
 -- the element at a place is the first of those from there on
@@ -67,25 +66,15 @@ moved_end k ps sigs at past = ap (λ xs. moved_groups k xs (drop at sigs)) (drop
     none : (ys : List (List Part)) → moved_groups k [] ys ≡ []
     none ys = refl
 
--- ---- changes
+-- ---- tags
 
-change_joined : (p : Prefix) (old new : Option Tag) (cs ds : List TagChange) → (cs ++ change_before p old new []) ++ ds ≡ cs ++ change_before p old new ds
-change_joined p old new cs ds = append_assoc cs (change_before p old new []) ds ∙ ap (λ xs. cs ++ xs) (by (same_option same_tag old new))
-  where
-    by : (b : Bool) → cond b [] (record { prefix = p; tag = new } ∷ []) ++ ds ≡ cond b ds (record { prefix = p; tag = new } ∷ ds)
-    by true = refl
-    by false = refl
-
--- the first of the prefixes that are left
-pub changes_step : (k : Known) (fs : List Fresh) (ts : List Tag) (ps : List Prefix) (sigs : List (List Part)) (at : ℕ) (p : Prefix) (sig : List Part) (cs : List TagChange) → slice_get ps at ≡ Some p → slice_get sigs at ≡ Some sig
-    → cs ++ changes_of k fs ts (drop at ps) (drop at sigs) ≡ (cs ++ change_before p (get k.tag p) (tag_after k fs ts p sig) []) ++ changes_of k fs ts (drop (at + 1) ps) (drop (at + 1) sigs)
-changes_step k fs ts ps sigs at p sig cs here there =
-    ap (λ xs. cs ++ changes_of k fs ts xs (drop at sigs)) (drop_at ps at p here)
-    ∙ ap (λ xs. cs ++ changes_of k fs ts (p ∷ drop (at + 1) ps) xs) (drop_at sigs at sig there)
-    ∙ sym (change_joined p (get k.tag p) (tag_after k fs ts p sig) cs (changes_of k fs ts (drop (at + 1) ps) (drop (at + 1) sigs)))
-
-pub changes_end : (k : Known) (fs : List Fresh) (ts : List Tag) (ps : List Prefix) (sigs : List (List Part)) (at : ℕ) → length ps ≤ at → changes_of k fs ts (drop at ps) (drop at sigs) ≡ []
-changes_end k fs ts ps sigs at past = ap (λ xs. changes_of k fs ts xs (drop at sigs)) (drop_all at ps past)
+-- the first of the prefixes that are left, with its tag
+pub tagged_step : (k : Known) (fs : List Fresh) (ts : List Tag) (ps : List Prefix) (sigs : List (List Part)) (at : ℕ) (p : Prefix) (sig : List Part) (cs : List TagChange) → slice_get ps at ≡ Some p → slice_get sigs at ≡ Some sig
+    → cs ++ tagged k fs ts (drop at ps) (drop at sigs) ≡ (cs ++ record { prefix = p; tag = tag_after k fs ts p sig } ∷ []) ++ tagged k fs ts (drop (at + 1) ps) (drop (at + 1) sigs)
+tagged_step k fs ts ps sigs at p sig cs here there =
+    ap (λ xs. cs ++ tagged k fs ts xs (drop at sigs)) (drop_at ps at p here)
+    ∙ ap (λ xs. cs ++ tagged k fs ts (p ∷ drop (at + 1) ps) xs) (drop_at sigs at sig there)
+    ∙ sym (append_assoc cs (record { prefix = p; tag = tag_after k fs ts p sig } ∷ []) (tagged k fs ts (drop (at + 1) ps) (drop (at + 1) sigs)))
 
 -- ---- fresh tags with their signatures
 

@@ -1,5 +1,5 @@
 -- With a plan's offers made, what is present for each participant is what is present for it in the state afterwards.
-use Rattle.std.proofs.Common.{◌≡◌, ℕ, ◌+◌, ◌<◌, ◌≤◌, ◌≢◌, ◌⊎◌, Bool, true, false, cond, eqb, List, [], ◌∷◌, zero, suc, length, map, get_or, set, length-set, get_or-set_same, get_or-set_other, eq-eqb, sym, ap, subst, ◌∙◌, refl, arith, inl, inr}
+use Rattle.std.proofs.Common.{◌≡◌, ℕ, ◌+◌, ◌<◌, ◌≢◌, ◌⊎◌, Bool, true, false, cond, eqb, List, [], ◌∷◌, zero, suc, length, map, get_or, length-set, get_or-set_same, get_or-set_other, eq-eqb, sym, ap, subst, ◌∙◌, refl, arith, inl, inr}
 use Rattle.std.specs.Prelude.{Option, Some, None, slice_get, unwrap_or}
 use Rattle.std.specs.FinMap.{FinMap, empty, get, get-insert, get-remove, same_map}
 use Rattle.std.specs.Ordering.{eq_by_cmp}
@@ -113,13 +113,17 @@ module _ (then : Present) where
 
 -- ---- of states
 
-abbrev pid_at : ℕ → Pid
+abbrev pub pid_at : ℕ → Pid
 pid_at n = record { 0 = n }
 
 number_at : {A : Type 0} (at : ℕ → A) (low count k : ℕ) → k < count → slice_get (map at (numbers low count)) k ≡ Some (at (low + k))
 number_at at low zero k within = absurd (omega arith)
 number_at at low (suc count) zero within = ap (λ n. Some (at n)) (let same : low ≡ low + 0 = omega arith in same)
 number_at at low (suc count) (suc k) within = number_at at (low + 1) count k (omega arith) ∙ ap (λ n. Some (at n)) (let same : low + 1 + k ≡ low + suc k = omega arith in same)
+
+-- a declared participant stands at its place
+pub listed_at : (count : ℕ) (who : Pid) → who.0 < count → slice_get (map pid_at (numbers 0 count)) who.0 ≡ Some who
+listed_at count who declared = number_at pid_at 0 count who.0 declared ∙ ap (λ n. Some (pid_at n)) (let same : 0 + who.0 ≡ who.0 = omega arith in same)
 
 count_is : {A : Type 0} (at : ℕ → A) (low count : ℕ) → length (map at (numbers low count)) ≡ count
 count_is at low zero = refl
@@ -130,7 +134,7 @@ state_length s = length-map (pids s.routing) (present s) ∙ count_is pid_at 0 (
 
 state_at : (s : State) (who : Pid) → who.0 < length s.routing.participants → present_to (all_present s) who ≡ present s who
 state_at s who declared =
-    ap (λ o. unwrap_or o empty) (mapped_at (present s) (pids s.routing) who.0 who (number_at pid_at 0 (length s.routing.participants) who.0 declared))
+    ap (λ o. unwrap_or o empty) (mapped_at (present s) (pids s.routing) who.0 who (listed_at (length s.routing.participants) who declared))
 
 -- what is offered leads from what is present in one state to what is present in another
 pub offered_present : (s s1 : State) (os : List Advert) → s1.routing.participants ≡ s.routing.participants → AreOffers s s1 os → offered_all (all_present s) os ≡ all_present s1

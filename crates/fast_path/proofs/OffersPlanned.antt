@@ -1,10 +1,10 @@
 -- What a proposal offers is what is present in the state afterwards, and what it doesn't offer is present as it was.
-use Rattle.std.proofs.Common.{◌≡◌, ℕ, zero, suc, ◌+◌, ◌<◌, ◌≤◌, ◌⊎◌, Bool, true, false, cond, not, List, [], ◌∷◌, ◌++◌, drop, filter, length, map, sym, ap, subst, ◌∙◌, refl, arith, inl, inr}
+use Rattle.std.proofs.Common.{◌≡◌, ℕ, zero, suc, ◌+◌, ◌<◌, ◌≤◌, Bool, true, false, cond, not, List, [], ◌∷◌, ◌++◌, drop, length, map, sym, ap, subst, ◌∙◌, refl, arith, inl, inr}
 use Rattle.std.specs.Prelude.{Option, Some, None, slice_get, unwrap_or}
 use Rattle.std.specs.FinMap.{get}
 use Rattle.std.specs.Option.{option_and_then, option_map}
 use Rattle.events.specs.State.{State, present, present_entry}
-use Rattle.events.specs.Tags.{groups, free_tags, new_tag, retagged, same_tag}
+use Rattle.events.specs.Tags.{retagged, same_tag}
 use Rattle.events.specs.declared.Entry.{Entry}
 use Rattle.events.specs.declared.TagChange.{TagChange}
 use Rattle.exchange_laws.proofs.Lists.{numbers_range}
@@ -18,9 +18,8 @@ use Rattle.net_types.specs.Attributes.{same_option}
 use Rattle.net_types.specs.Changes.{best_attrs}
 use Rattle.net_types.specs.Exports.{Routing}
 use Rattle.net_types.specs.Keys.{prefix_cmp}
-use Rattle.net_types.specs.Routes.{Candidate, best, numbers, pids}
+use Rattle.net_types.specs.Routes.{Candidate, best, pids}
 use Rattle.net_types.specs.Sets.{Member, union_over}
-use Rattle.net_types.specs.Signatures.{signature}
 use Rattle.net_types.specs.declared.address.Pid.{Pid}
 use Rattle.net_types.specs.declared.address.Tag.{Tag}
 use Rattle.net_types.specs.declared.prefix.Prefix.{Prefix}
@@ -28,8 +27,8 @@ use Rattle.net_types.specs.declared.route.Attrs.{Attrs}
 use Rattle.net_types.specs.declared.route.Part.{Part}
 use Rattle.fast_path.proofs.CommittedMaps.{stands_or_not}
 use Rattle.fast_path.proofs.ListPlaces.{mapped_at}
-use Rattle.fast_path.proofs.OfferedPresent.{number_at, pid_at}
-use Rattle.fast_path.specs.Grouping.{Known, change_before, changes_of, tag_after}
+use Rattle.fast_path.proofs.OfferedPresent.{listed_at, pid_at}
+use Rattle.fast_path.specs.Grouping.{Known, changes_of, tag_after}
 use Rattle.fast_path.specs.Offers.{AreOffers, IsOffered, advert_of, adverts_from, best_at, entry_of, others, tagged}
 use Rattle.fast_path.specs.declared.fresh.Fresh.{Fresh}
 use Rattle.fast_path.specs.declared.planned.Advert.{Advert}
@@ -105,7 +104,7 @@ module _ (p : Proposed) (s : State) (ps : List Prefix) (bests : p.bests ≡ map 
   best_is : (n : ℕ) (q : Prefix) (who : Pid) → slice_get p.bests n ≡ Some (bests_of q) → who.0 < length s.routing.participants → best_at p n who ≡ best_attrs s.routing who q
   best_is n q who at within =
       ap (λ o. option_and_then (λ (b : Option Attrs). b) (slice_get (unwrap_or o []) who.0)) at
-      ∙ ap (option_and_then (λ (b : Option Attrs). b)) (mapped_at (λ to. best_attrs s.routing to q) (pids s.routing) who.0 who (number_at pid_at 0 (length s.routing.participants) who.0 within))
+      ∙ ap (option_and_then (λ (b : Option Attrs). b)) (mapped_at (λ to. best_attrs s.routing to q) (pids s.routing) who.0 who (listed_at (length s.routing.participants) who within))
 
   advert_is : (n : ℕ) (q : Prefix) (who : Pid) → slice_get p.bests n ≡ Some (bests_of q) → who.0 < length s.routing.participants → advert_of (best_at p n) (with_tag q) who ≡ advert q who
   advert_is n q who at within = λ i. record { who = who; prefix = q; entry = (ap (λ b. entry_of b (get s.tag q)) (best_is n q who at within) ∙ entry_is s who q) i }
@@ -114,7 +113,7 @@ module _ (p : Proposed) (s : State) (ps : List Prefix) (bests : p.bests ≡ map 
   adverts_are n [] left = refl
   adverts_are n (q ∷ qs) left =
       ap (λ os. os ++ adverts_from p (pids s.routing) (n + 1) (map with_tag qs)) (mapped_alike (advert_of (best_at p n) (with_tag q)) (advert q) (pids s.routing) (λ who m.
-        advert_is n q who (first_left p.bests n (bests_of q) (map bests_of qs) left) (pid_within s.routing who m)))
+      advert_is n q who (first_left p.bests n (bests_of q) (map bests_of qs) left) (pid_within s.routing who m)))
       ∙ ap (λ os. map (advert q) (pids s.routing) ++ os) (adverts_are (n + 1) qs (then_left p.bests n (bests_of q) (map bests_of qs) left))
 
   -- each says what is present

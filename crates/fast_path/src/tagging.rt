@@ -64,9 +64,12 @@ pub fn tagged(
     ensures { IfOk result (λ all. all ≡ tagged known.now groups.now tags.now proposal.now.touched proposal.now.sigs) }
 {
     let mut all = Items::new(alloc);
-    for (at, &prefix) in proposal.touched().iter().enumerate() {
-        let tag = tag_after(known, groups, tags, prefix, proposal.sig(at));
-        all.push(TagChange { prefix, tag })?;
+    for (at, prefix) in proposal.touched().iter().enumerate() {
+        let tag = tag_after(known, groups, tags, *prefix, proposal.sig(at));
+        all.push(TagChange {
+            prefix: *prefix,
+            tag,
+        })?;
     }
     Ok(all)
 }

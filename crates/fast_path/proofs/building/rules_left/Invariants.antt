@@ -4,4 +4,4 @@ use Rattle.block_build.specs.Installed.{count_at, rule_count}
 use Rattle.fast_path.proofs.building.rules_left.Given as goal
 
 abbrev pub invariant-loop-pair : goal.invariant-loop-pair
-invariant-loop-pair g l = let table = (g.B.Blocks.installed l.switch).table in l.left ≡ rule_count table - sum_by (count_at table) (take l.pair-index l.drops)
+invariant-loop-pair g l = l.left ≡ rule_count (g.B.Blocks.installed l.switch).table - sum_by (count_at (g.B.Blocks.installed l.switch).table) (take l.pair-index l.drops)

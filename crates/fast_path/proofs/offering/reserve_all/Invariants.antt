@@ -1,5 +1,5 @@
 -- there is room for what is offered to those so far
-use Rattle.std.proofs.Common.{◌≡◌, ℕ, ◌<◌, ◌≤◌, length}
+use Rattle.std.proofs.Common.{◌≡◌, ℕ, ◌<◌, ◌≤◌}
 use Rattle.std.specs.Prelude.{slice_get, unwrap_or}
 use Rattle.fast_path.specs.Offers.{offer_count}
 use Rattle.fast_path.proofs.offering.reserve_all.Given as goal

@@ -4,12 +4,9 @@ use Rattle.events.specs.After.{without_pairs}
 use Rattle.fast_path.proofs.parts.remove_all.Given as goal
 
 abbrev pub invariant-loop-pair : goal.invariant-loop-pair
-invariant-loop-pair g l =
-    let now = g.B.Blocks.installed l.switch in
-    let first = g.B.Blocks.installed l.fn.switch in
-    record {
-      rest : without_pairs now.table (drop l.pair-index l.drops) ≡ without_pairs first.table l.drops;
-      capacity : now.capacity ≡ first.capacity;
-      room : first.room ≤ now.room;
-      count : rule_count now.table ≤ rule_count first.table;
-    }
+invariant-loop-pair g l = record {
+  rest : without_pairs (g.B.Blocks.installed l.switch).table (drop l.pair-index l.drops) ≡ without_pairs (g.B.Blocks.installed l.fn.switch).table l.drops;
+  capacity : (g.B.Blocks.installed l.switch).capacity ≡ (g.B.Blocks.installed l.fn.switch).capacity;
+  room : (g.B.Blocks.installed l.fn.switch).room ≤ (g.B.Blocks.installed l.switch).room;
+  count : rule_count (g.B.Blocks.installed l.switch).table ≤ rule_count (g.B.Blocks.installed l.fn.switch).table;
+}
