@@ -1,6 +1,7 @@
 -- Carrying out what a line that builds rules asks for is a step, and so is its refusal for want of tags or of room.
 use Rattle.std.proofs.Common.{◌≡◌, ℕ, ◌+◌, ◌<◌, ◌≤◌, Bool, true, false, List, length, sym, ap, subst, ◌∙◌, refl, arith}
 use Rattle.std.specs.Prelude.{Some, None, Result, Ok, Err, IfOk, nat_lt}
+use Rattle.advert_queue.specs.Advertised.{Advertised}
 use Rattle.std.specs.FinMap.{FinMap}
 use Rattle.std.proofs.lemmas.Bool.{lt-ltb, ltb-true}
 use Rattle.std.proofs.lemmas.List.{length-map}
@@ -28,11 +29,12 @@ use Rattle.exchange_laws.specs.Rules.{IsDeclaredAlike}
 use Rattle.fast_path.specs.Carried.{ArePartsOf, IsPlanned, LeadsTo, PlansFitLines, plan_reply}
 use Rattle.fast_path.specs.Committing.{marked_all, signed, tags_of}
 use Rattle.fast_path.specs.Grouping.{kept_by, known_by}
+use Rattle.fast_path.specs.Offers.{all_present}
 use Rattle.fast_path.specs.Planned.{IsPoolOf}
 use Rattle.fast_path.specs.Plans.{IsAsked, IsPlan, IsWithinSteps, is_rebuilt_live, planned}
 use Rattle.fast_path.specs.declared.planned.Changes.{Changes}
 use Rattle.fast_path.specs.declared.planned.Plan.{Plan}
-use Rattle.match_switch.specs.Installed.{Installed}
+use Rattle.block_build.specs.Installed.{Installed}
 use Rattle.net_types.specs.Answers.{Policies}
 use Rattle.net_types.specs.Exports.{Routing, pid_of}
 use Rattle.net_types.specs.Keys.{prefix_cmp}
@@ -133,13 +135,13 @@ full_step law s e r is_rebuilt q reply rules capacity leads enough within room o
 -- ---- what is committed
 
 pub state_then : (phase : Phase) (base : Ip) (size : ℕ) (names : Registered) (served : Served) (resolved : List (List Ip)) (classes : Classes) (told : List (FinMap prefix_cmp Entry)) (installed : Installed) (all : List Programs) (r : Routing) (q : Request) (plan : Plan)
-    (served' : Served) (classes' : Classes) (installed' : Installed) (all' : List Programs)
+    (served' : Served) (classes' : Classes) (told' : List (FinMap prefix_cmp Entry)) (installed' : Installed) (all' : List Programs)
     → let s = state_of phase base size names served resolved classes told installed all in
     let s' = planned (base_of s q) r plan in
     IsDeclaredAlike s.routing r → served'.routes ≡ r.routes → served'.rules ≡ r.rules → served'.named ≡ r.named → all' ≡ changed all q.change → classes'.tag ≡ s'.tag → classes'.kept ≡ s'.kept
-    → installed'.table ≡ s'.table → installed'.capacity ≡ installed.capacity
-    → state_of Running base size names served' resolved classes' told installed' all' ≡ s'
-state_then phase base size names served resolved classes told installed all r q plan served' classes' installed' all' alike routes rules named programs tag kept table capacity =
+    → told' ≡ told → installed'.table ≡ s'.table → installed'.capacity ≡ installed.capacity
+    → state_of Running base size names served' resolved classes' told' installed' all' ≡ s'
+state_then phase base size names served resolved classes told installed all r q plan served' classes' told' installed' all' alike routes rules named programs tag kept same_told table capacity =
     let outbound = ap outbound_texts programs ∙ outbound_changed all q.change in
     let inbound = ap inbound_texts programs ∙ inbound_changed all q.change in
     λ i. record {
@@ -152,7 +154,7 @@ state_then phase base size names served resolved classes told installed all r q 
       inbound = inbound i;
       tag = tag i;
       kept = kept i;
-      told = told;
+      told = same_told i;
       resolved = resolved;
       table = table i;
       owed = None;
@@ -166,14 +168,16 @@ pub planned_of : (s : State) (e : Event) (r : Routing) (is_rebuilt : Pair → Bo
 planned_of s e r is_rebuilt q plan leads plans = record { base = leads.base; alike = record { participants = leads.alike.participants; ports = leads.alike.ports }; planned = plans }
 
 -- the parts of the state are those of its base, trimmed
-pub parts_of : (s : State) (q : Request) (plan : Plan) (classes : Classes) (pool : Tags) (switch : Installed) (all : List Programs) → IsKept s pool all → plan.named ≡ q.proposal.named → s.tag ≡ classes.tag → s.kept ≡ classes.kept → s.table ≡ switch.table → s.capacity ≡ switch.capacity
-    → ArePartsOf (base_of s q) plan classes pool switch
-parts_of s q plan classes pool switch all is named tag kept table capacity = record {
+pub parts_of : (s : State) (q : Request) (plan : Plan) (classes : Classes) (pool : Tags) (switch : Installed) (adverts : Advertised) (all : List Programs) → IsKept s pool all → plan.named ≡ q.proposal.named → s.tag ≡ classes.tag → s.kept ≡ classes.kept → s.table ≡ switch.table → s.capacity ≡ switch.capacity
+    → s.told ≡ adverts.told → all_present s ≡ adverts.present → ArePartsOf (base_of s q) plan classes pool switch adverts
+parts_of s q plan classes pool switch adverts all is named tag kept table capacity told present = record {
   tag = tag;
   kept = ap (kept_by q.proposal.named) kept ∙ ap (λ o. (known_by o classes).kept) (sym named);
   pool = pool_is s pool all q is;
   table = table;
   capacity = capacity;
+  told = told;
+  present = present;
 }
 
 module _ (law : PlansFitLines) (s : State) (e : Event) (r : Routing) (is_rebuilt : Pair → Bool) (q : Request) (plan : Plan) (reply : Reply) (s' : State) (pool : Tags) (all : List Programs) (is : IsKept s pool all) (formed : IsWellFormed e)
@@ -189,9 +193,9 @@ module _ (law : PlansFitLines) (s : State) (e : Event) (r : Routing) (is_rebuilt
   }
 
   -- after which the exchange is as it should be
-  pub committed_kept : (classes : Classes) (switch : Installed) → LeadsTo (planned (base_of s q) r plan) plan classes pool switch
+  pub committed_kept : (classes : Classes) (switch : Installed) (adverts : Advertised) → LeadsTo (planned (base_of s q) r plan) plan classes pool switch adverts
       → (pool' : Tags) → pool' ≡ marked_all (marked_all pool (tags_of (signed plan.fresh.items)) true) plan.dead.items false → (all' : List Programs) → all' ≡ changed all q.change → IsKept s' pool' all'
-  committed_kept classes switch to pool' marked all' programs =
+  committed_kept classes switch adverts to pool' marked all' programs =
       let of : IsPoolOf s' pool' = subst (λ x. IsPoolOf x pool') (sym then) (subst (IsPoolOf (planned (base_of s q) r plan)) (sym marked) to.pool) in
       let names : pid_of s.routing ≡ pid_of s'.routing = names_alike s.routing r leads.alike.participants ∙ ap (λ (x : State). pid_of x.routing) (sym then) in
       record {

@@ -4,6 +4,7 @@ use Rattle.std.specs.Prelude.{Option, Some, None, codes}
 use Rattle.std.specs.FinMap.{FinMap, empty, values}
 use Rattle.std.specs.List.{list_any}
 use Rattle.std.proofs.lemmas.Bool.{lt-leb}
+use Rattle.std.proofs.lemmas.List.{length-append}
 use Rattle.events.proofs.Reached.{declared_pid}
 use Rattle.events.specs.After.{with_known, with_participant, with_port}
 use Rattle.events.specs.Forms.{IsWellFormed}
@@ -18,7 +19,8 @@ use Rattle.events.specs.declared.Head.TheVariants.{Fine, Refused}
 use Rattle.events.specs.declared.Phase.{Phase}
 use Rattle.events.specs.declared.Phase.TheVariants.{Start, Declaring, Running}
 use Rattle.exchange_laws.specs.Steady.{IsNew}
-use Rattle.match_switch.specs.Installed.{Installed}
+use Rattle.fast_path.specs.Offers.{all_present}
+use Rattle.block_build.specs.Installed.{Installed}
 use Rattle.prefix_classes.specs.Classes.{Classes}
 use Rattle.registry.specs.Registered as registered
 use Rattle.registry.specs.Registered.{Registered}
@@ -45,6 +47,7 @@ use Rattle.net_types.specs.declared.route.PortInfo.{PortInfo}
 use Rattle.next_hop_pool.proofs.FreeLemmas.{free_by_place, free_from}
 use Rattle.next_hop_pool.specs.Free.{Tags, all_free, tag}
 use Rattle.sdx_core.proofs.Compiled.{dropping_compiled, joined_compiled}
+use Rattle.sdx_core.proofs.Present.{all_nothing, same_more}
 use Rattle.sdx_core.proofs.Steps.{kept_after, quiet_step, refused_step, steady_after}
 use Rattle.sdx_core.specs.Programs.{AreCompiled, IsDropping, inbound_texts, outbound_texts}
 use Rattle.sdx_core.specs.declared.programs.Programs.{Programs}
@@ -115,6 +118,27 @@ participant_live s m t =
     or_false true = refl
     or_false false = refl
 
+-- a line that declares comes before the exchange runs
+not_running : (p : Phase) → p ≡ Declaring → p ≡ Running → ⊥
+not_running p one two = cc
+
+still_new : {s : State} {pool : Tags} {all : List Programs} → IsKept s pool all → s.phase ≡ Declaring → IsNew s
+still_new {s} kept declaring = kept.steady.new (λ running. not_running s.phase declaring running)
+
+-- nobody was told anything yet
+pub nobody_told : {s : State} {pool : Tags} {all : List Programs} → IsKept s pool all → s.phase ≡ Declaring → (n : ℕ) → n ≡ length s.routing.participants → replicate (n + 1) empty ≡ s.told ++ empty ∷ []
+nobody_told {s} kept declaring n count = same_more empty s.told n (still_new kept declaring).told (kept.steady.told ∙ sym count)
+
+-- nothing is present for a further participant, nor for the others
+pub nothing_joined : {s : State} {pool : Tags} {all : List Programs} → IsKept s pool all → s.phase ≡ Declaring → (m : Participant) (n : ℕ) → n ≡ length s.routing.participants → replicate (n + 1) empty ≡ all_present (with_participant s m)
+nothing_joined {s} kept declaring m n count =
+    ap (λ k. replicate k empty) (ap (λ k. k + 1) count ∙ sym (length-append s.routing.participants (m ∷ []))) ∙ sym (all_nothing (with_participant s m) (still_new kept declaring).routes)
+
+-- a further port makes nothing present
+pub nothing_ported : {s : State} {pool : Tags} {all : List Programs} → IsKept s pool all → s.phase ≡ Declaring → (q : PortInfo) → all_present s ≡ all_present (with_port s q)
+nothing_ported {s} kept declaring q =
+    let none = (still_new kept declaring).routes in all_nothing s none ∙ sym (all_nothing (with_port s q) none)
+
 pub participant_step : {s : State} {pool : Tags} {all : List Programs} → IsKept s pool all → s.phase ≡ Declaring → (name : List ℕ) (asn : ℕ) (id : Ip) → IsWellFormed (DeclaresParticipant name asn id)
     → is_name_taken s name ≡ false → length s.routing.participants < 256 → (r : Reply) → r ≡ bare Fine → IsStep s (DeclaresParticipant name asn id) r (with_participant s (record { name = name; asn = asn; id = id }))
 participant_step {s} kept declaring name asn id formed absent few r is =
@@ -138,12 +162,9 @@ participant_kept {s} {pool} kept declaring name asn id formed absent few all' co
 pub participant_compiled : {s : State} {pool : Tags} {all : List Programs} → IsKept s pool all → s.phase ≡ Declaring → s.outbound ≡ outbound_texts all → s.inbound ≡ inbound_texts all → (names : List ℕ → Option Pid) (b : Programs) → IsDropping b.outbound → IsDropping b.inbound
     → (all' : List Programs) → all' ≡ all ++ b ∷ [] → AreCompiled names all'
 participant_compiled {s} {pool} {all} kept declaring outbound inbound names b out_drops in_drops all' joined =
-    let new : IsNew s = kept.steady.new (λ running. declares s.phase declaring running) in
+    let new : IsNew s = still_new kept declaring in
     subst (AreCompiled names) (sym joined)
     (joined_compiled names all b (dropping_compiled s all outbound inbound new.drop (pid_of s.routing) names kept.compiled) (out_drops.compiled names) (in_drops.compiled names))
-  where
-    declares : (p : Phase) → p ≡ Declaring → p ≡ Running → ⊥
-    declares p one two = cc
 
 pub name_refused : {s : State} {pool : Tags} {all : List Programs} → IsKept s pool all → s.phase ≡ Declaring → (st : State) → s ≡ st → (name : List ℕ) (asn : ℕ) (id : Ip) → is_name_taken s name ≡ true → (r : Reply) → r ≡ bare (Refused Clash)
     → IsStep st (DeclaresParticipant name asn id) r st

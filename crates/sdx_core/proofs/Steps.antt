@@ -20,7 +20,7 @@ use Rattle.exchange_laws.proofs.QuietLines.{quiet_lines_are_accepted}
 use Rattle.exchange_laws.proofs.SteadySteps.{starts_steady, steps_stay_steady}
 use Rattle.exchange_laws.specs.Quiet.{is_quiet}
 use Rattle.exchange_laws.specs.Steady.{IsSteady}
-use Rattle.match_switch.specs.Installed.{Installed}
+use Rattle.block_build.specs.Installed.{Installed}
 use Rattle.net_types.specs.Exports.{pid_of}
 use Rattle.net_types.specs.Keys.{prefix_cmp}
 use Rattle.net_types.specs.declared.address.Ip.{Ip}

@@ -1,9 +1,9 @@
 -- The pairs and tags that go where a participant is told anew.
-use Rattle.std.proofs.Common.{◌≡◌, ℕ, zero, suc, ◌+◌, ◌<◌, Bool, true, false, ◌||◌, not, take, drop, nat_eq, List, [], ◌∷◌, length, map, sym, ap, subst, ◌∙◌, refl, inl, inr, arith}
+use Rattle.std.proofs.Common.{◌≡◌, ℕ, zero, suc, ◌<◌, Bool, true, false, ◌&&◌, ◌||◌, not, nat_eq, List, [], ◌∷◌, length, map, sym, ap, subst, ◌∙◌, refl, inl, inr, arith}
 use Rattle.std.specs.Prelude.{Some, slice_set}
 use Rattle.std.specs.FinMap.{FinMap, empty}
 use Rattle.std.specs.List.{list_any}
-use Rattle.std.proofs.lemmas.Bool.{eqb-true, false_from_ne_true, or_cases, or_left, or_parts, or_right}
+use Rattle.std.proofs.lemmas.Bool.{and_from, and_parts, eqb-true, false_from_ne_true, or_cases, or_left, or_parts, or_right}
 use Rattle.events.proofs.Drains.{get_set}
 use Rattle.net_types.proofs.OrderedLemmas.{any_member, member_any, ordered_rises, ordered_same}
 use Rattle.events.specs.State.{State, port_of, present, told_to}
@@ -11,12 +11,14 @@ use Rattle.events.specs.Tags.{is_live, is_live_pair, tells}
 use Rattle.events.specs.declared.Entry.{Entry}
 use Rattle.exchange_laws.proofs.Lists.{clash, not_true, some_of}
 use Rattle.exchange_laws.proofs.LivePairs.{live_at, live_from, port_Member, present_tag, told_live}
+use Rattle.exchange_laws.proofs.NewStates.{nothing_told}
 use Rattle.exchange_laws.proofs.OwnHops.{numbered_port}
 use Rattle.exchange_laws.proofs.ToldAnew.{gone_pairs_were_told, gone_tags_were_told}
 use Rattle.exchange_laws.specs.Listed.{AreLiveOnly}
 use Rattle.exchange_laws.specs.Steady.{PortsDiffer}
 use Rattle.exchange_laws.specs.Telling.{told_anew}
 use Rattle.advert_queue.proofs.PendingLemmas.{told_among}
+use Rattle.advert_queue.specs.Taken.{gone_tags}
 use Rattle.advert_queue.specs.Telling.{tags_of}
 use Rattle.fast_path.proofs.PortsAndTags.{IsPortOf, found_number, has_prefix_of, number_listed, port_listed, prefix_with, tie}
 use Rattle.fast_path.specs.LiveOnly.{AreDead, has_prefix, registered}
@@ -35,8 +37,7 @@ use Rattle.net_types.specs.declared.rule.Pair.{Pair}
 use Rattle.prefix_classes.proofs.MemberLemmas.{no_members}
 use Rattle.prefix_classes.specs.Classes.{members}
 use Rattle.registry.specs.Registered.{ports_of}
-use Rattle.sdx_core.specs.News.{gone_tags}
-use Rattle.sdx_core.specs.Taking.{all_pairs, dead_tags, gone_for, has_none, pairs_at}
+use Rattle.sdx_core.specs.Taking.{all_pairs, dead_tags, gone_for, has_none, is_dead, pairs_at}
 
 -- ---- tags that were told and are told no more
 
@@ -74,27 +75,11 @@ tag_gone told then now t is =
 
 -- ---- a list with another member at a place
 
-one_more : (k : ℕ) → k + 1 ≡ suc k
-one_more k = omega arith
-
-any_split : {A : Type 0} (test : A → Bool) (xs : List A) (k : ℕ) (x : A) → list_any test (take k xs) ≡ false → list_any test (drop (suc k) xs) ≡ false → test x ≡ false → list_any test (slice_set xs k x) ≡ false
-any_split test [] k x before after here = refl
-any_split test (y ∷ xs) zero x before after here = ap (λ b. b || list_any test xs) here ∙ after
-any_split test (y ∷ xs) (suc k) x before after here =
-    let parts = or_parts (test y) (list_any test (take k xs)) before in
-    ap (λ b. b || list_any test (slice_set xs k x)) parts.0 ∙ any_split test xs k x parts.1 after here
-
-any_before : {A : Type 0} (test : A → Bool) (xs : List A) (k : ℕ) (x : A) → list_any test (slice_set xs k x) ≡ false → list_any test (take k xs) ≡ false
-any_before test xs zero x none = refl
-any_before test [] (suc k) x none = refl
-any_before test (y ∷ xs) (suc k) x none =
-    let parts = or_parts (test y) (list_any test (slice_set xs k x)) none in
-    ap (λ b. b || list_any test (take k xs)) parts.0 ∙ any_before test xs k x parts.1
-
-any_after : {A : Type 0} (test : A → Bool) (xs : List A) (k : ℕ) (x : A) → list_any test (slice_set xs k x) ≡ false → list_any test (drop (suc k) xs) ≡ false
-any_after test [] k x none = refl
-any_after test (y ∷ xs) zero x none = (or_parts (test x) (list_any test xs) none).1
-any_after test (y ∷ xs) (suc k) x none = any_after test xs k x (or_parts (test y) (list_any test (slice_set xs k x)) none).1
+-- what is at a place counts only by what a test says of it
+same_any : {A : Type 0} (test : A → Bool) (xs : List A) (k : ℕ) (x y : A) → test x ≡ test y → list_any test (slice_set xs k x) ≡ list_any test (slice_set xs k y)
+same_any test [] k x y same = refl
+same_any test (z ∷ zs) zero x y same = ap (λ b. b || list_any test zs) same
+same_any test (z ∷ zs) (suc k) x y same = ap (λ b. test z || b) (same_any test zs k x y same)
 
 any_here : {A : Type 0} (test : A → Bool) (xs : List A) (k : ℕ) (x : A) → k < length xs → list_any test (slice_set xs k x) ≡ false → test x ≡ false
 any_here test [] k x below none = absurd (omega arith)
@@ -169,15 +154,17 @@ module _ (s : State) (who : Pid) (then : FinMap prefix_cmp Entry) (apart : Ports
   unheld t none = false_from_ne_true (has_prefix s t) (λ has.
       let p = prefix_with s t has in (no_members s.tag t).0 (eqb-true (members s.tag t) 0 none) p.prefix p.tagged)
 
+  -- what the others were told of a tag that is gone is what everybody was told of it then
+  elsewhere : (t : Tag) → tells then t ≡ false → is_told (slice_set s.told who.0 then) t ≡ is_told (slice_set s.told who.0 empty) t
+  elsewhere t none = same_any (λ es. tells es t) s.told who.0 then empty (none ∙ sym (nothing_told t))
+
   each_tag : (t : Tag) → Member t dead_here → (is_live s t ≡ true) × (is_live s1 t ≡ false)
   each_tag t m =
-      let held = filter-Member (has_none s.tag) (untold (drop (who.0 + 1) s.told) (untold (take who.0 s.told) gone)) t m in
-      let after = filter-Member (λ u. not (is_told (drop (who.0 + 1) s.told) u)) (untold (take who.0 s.told) gone) t held.stands in
-      let before = filter-Member (λ u. not (is_told (take who.0 s.told) u)) gone t after.stands in
-      let is = gone_tag (told_to s who) then (present s who) t before.stands in (
+      let stands = filter-Member (is_dead s.tag s.told who.0) gone t m in
+      let parts = and_parts (has_none s.tag t) (not (is_told (slice_set s.told who.0 empty) t)) stands.passes in
+      let is = gone_tag (told_to s who) then (present s who) t stands.stands in (
         or_right (has_prefix s t) (is_told s.told t) (told_live s who t is.was),
-        ap (λ b. b || is_told (slice_set s.told who.0 then) t) (unheld t held.passes)
-            ∙ any_split (λ es. tells es t) s.told who.0 then (not_true (is_told (take who.0 s.told) t) before.passes) (ap (λ n. is_told (drop n s.told) t) (sym (one_more who.0)) ∙ not_true (is_told (drop (who.0 + 1) s.told) t) after.passes) is.not_then,
+        ap (λ b. b || is_told (slice_set s.told who.0 then) t) (unheld t parts.0) ∙ elsewhere t is.not_then ∙ not_true (is_told (slice_set s.told who.0 empty) t) parts.1,
       )
 
   all_tags : (t : Tag) → is_live s t ≡ true → is_live s1 t ≡ false → Member t dead_here
@@ -186,11 +173,10 @@ module _ (s : State) (who : Pid) (then : FinMap prefix_cmp Entry) (apart : Ports
       let was = gone_tags_were_told s who then t live dead in
       let here : tells then t ≡ false = any_here (λ es. tells es t) s.told who.0 then place parts.1 in
       let now : tells (present s who) t ≡ false = false_from_ne_true (tells (present s who) t) (λ is. let p = present_tag s who t is in clash (has_prefix_of s p.0 t p.1.tagged) parts.0) in
-      Member-filter (has_none s.tag) (untold (drop (who.0 + 1) s.told) (untold (take who.0 s.told) gone)) t
-      (Member-filter (λ u. not (is_told (drop (who.0 + 1) s.told) u)) (untold (take who.0 s.told) gone) t
-      (Member-filter (λ u. not (is_told (take who.0 s.told) u)) gone t (tag_gone (told_to s who) then (present s who) t (record { was = was; not_then = here; not_now = now })) (ap not (any_before (λ es. tells es t) s.told who.0 then parts.1)))
-      (ap not (ap (λ n. is_told (drop n s.told) t) (one_more who.0) ∙ any_after (λ es. tells es t) s.told who.0 then parts.1)))
+      Member-filter (is_dead s.tag s.told who.0) gone t (tag_gone (told_to s who) then (present s who) t (record { was = was; not_then = here; not_now = now }))
+      (and_from (has_none s.tag t) (not (is_told (slice_set s.told who.0 empty) t))
       (ap (λ n. nat_eq n 0) ((no_members s.tag t).1 (λ p is. clash (has_prefix_of s p t is) parts.0)))
+      (ap (λ b. not b) (sym (elsewhere t here) ∙ parts.1)))
 
   -- exactly the tags that are live no more
   pub tags_go : AreDead s s1 dead_here
@@ -198,4 +184,4 @@ module _ (s : State) (who : Pid) (then : FinMap prefix_cmp Entry) (apart : Ports
 
   -- no prefix has one of them
   pub tags_unused : (t : Tag) → Member t dead_here → members s.tag t ≡ 0
-  tags_unused t m = eqb-true (members s.tag t) 0 (filter-Member (has_none s.tag) (untold (drop (who.0 + 1) s.told) (untold (take who.0 s.told) gone)) t m).passes
+  tags_unused t m = eqb-true (members s.tag t) 0 (and_parts (has_none s.tag t) (not (is_told (slice_set s.told who.0 empty) t)) (filter-Member (is_dead s.tag s.told who.0) gone t m).passes).0

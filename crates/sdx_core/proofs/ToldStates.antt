@@ -1,7 +1,5 @@
 -- Where a participant is told anew, the signatures, the rules and the pool become those of the state afterwards.
-use Rattle.std.specs.Prelude.{slice_get, slice_index_or, unwrap_or}
-use Rattle.std.proofs.Common.{zero, suc}
-use Rattle.std.proofs.Common.{◌≡◌, ℕ, ◌+◌, ◌<◌, Bool, true, false, cond, drop, map, take, List, [], ◌∷◌, length, not, sym, ap, subst, ◌∙◌, refl, arith}
+use Rattle.std.proofs.Common.{◌≡◌, ℕ, ◌+◌, ◌<◌, Bool, true, false, cond, map, take, List, [], ◌∷◌, length, not, sym, ap, subst, ◌∙◌, refl, arith}
 use Rattle.std.specs.Prelude.{Option, Some, None}
 use Rattle.std.specs.FinMap.{FinMap, get, remove, same_map, values}
 use Rattle.advert_queue.specs.Telling.{tags_of}
@@ -50,15 +48,9 @@ use Rattle.registry.specs.Registered.{ports_of}
 use Rattle.sdx_core.proofs.Steps.{in_place, placed, steady_after}
 use Rattle.sdx_core.proofs.Taken.{pairs_go, tags_go, tags_unused}
 use Rattle.sdx_core.specs.Changing.{IsSender}
-use Rattle.sdx_core.specs.Taking.{IsTaker, all_pairs, dead_tags, gone_for, has_none, line_of, taken_of, told_after}
+use Rattle.sdx_core.specs.Taking.{IsTaker, all_pairs, dead_tags, gone_by, is_dead, line_of, taken_of, told_after}
 use Rattle.sdx_core.specs.View.{IsKept}
 use Rattle.sdx_core.specs.declared.programs.Programs.{Programs}
-
--- what is read at a place of a list
-pub read_at : {A : Type 0} (xs : List A) (k : ℕ) (y d : A) → k < length xs → y ≡ slice_index_or xs k y → y ≡ unwrap_or (slice_get xs k) d
-read_at [] k y d below is = absurd (omega arith)
-read_at (x ∷ xs) zero y d below is = is
-read_at (x ∷ xs) (suc k) y d below is = read_at xs k y d (omega arith) is
 
 without_is : (m : FinMap tag_cmp (List Part)) (ts : List Tag) → kept_without m ts ≡ without_all tag_cmp tags_total tag_tie m ts
 without_is m [] = refl
@@ -139,14 +131,14 @@ place s who pool name kept sender =
 
 -- what it is told, and the pairs that go
 abbrev pub taking_reply : State → Pid → Option ℕ → Reply
-taking_reply s who limit = record (bare Fine) { drops = all_pairs (ports_of (registered s) who) (gone_for s who (told_after s who limit)); adverts = adverts s who (taken_of s who limit) }
+taking_reply s who limit = record (bare Fine) { drops = all_pairs (ports_of (registered s) who) (gone_by s who limit); adverts = adverts s who (taken_of s who limit) }
 
 module _ (s : State) (who : Pid) (pool : Tags) {all : List Programs} (kept : IsKept s pool all) (name : List ℕ) (limit : Option ℕ) (sender : IsSender s name who) where
   abbrev s2 : State
   s2 = told_anew s who (told_after s who limit)
 
   abbrev drops : List Pair
-  drops = all_pairs (ports_of (registered s) who) (gone_for s who (told_after s who limit))
+  drops = all_pairs (ports_of (registered s) who) (gone_by s who limit)
 
   sound2 : IsSound s2
   sound2 = telling_stays_sound s who (told_after s who limit) kept.steady.sound (known_then s who limit)
@@ -179,61 +171,59 @@ module _ (s : State) (who : Pid) (pool : Tags) {all : List Programs} (kept : IsK
       by None is = is
       by (Some count) is = is
 
-module _ (s : State) (who : Pid) (then : FinMap prefix_cmp Entry) (pool : Tags) {all : List Programs} (kept : IsKept s pool all) (taker : IsTaker s who then) where
-  abbrev s3 : State
-  s3 = told_anew s who then
+module _ (s : State) (who : Pid) (limit : Option ℕ) (pool : Tags) {all : List Programs} (kept : IsKept s pool all) (taker : IsTaker s who limit) where
+  abbrev entries : FinMap prefix_cmp Entry
+  entries = told_after s who limit
 
-  known : AreKnownTo s who then
-  known = subst (AreKnownTo s who) (sym taker.told) (known_then s who taker.limit)
+  abbrev s3 : State
+  s3 = told_anew s who entries
+
+  known : AreKnownTo s who entries
+  known = known_then s who limit
 
   abbrev dead : List Tag
-  dead = dead_tags s.tag s.told who.0 (gone_for s who then)
+  dead = dead_tags s.tag s.told who.0 (gone_by s who limit)
 
   pub takers_place : who.0 < length s.told
   takers_place = place s who pool taker.name kept taker.sender
 
   -- without the pairs that go the rules are those afterwards
-  pub table_then : without_pairs s.table (all_pairs (ports_of (registered s) who) (gone_for s who then)) ≡ s3.table
-  table_then =
-      subst (λ es. without_pairs s.table (all_pairs (ports_of (registered s) who) (gone_for s who es)) ≡ (told_anew s who es).table) (sym taker.told)
-      (rules_left s who pool kept taker.name taker.limit taker.sender)
+  pub table_then : without_pairs s.table (all_pairs (ports_of (registered s) who) (gone_by s who limit)) ≡ s3.table
+  table_then = rules_left s who pool kept taker.name limit taker.sender
 
   are_dead : AreDead s s3 dead
-  are_dead = tags_go s who then kept.steady.apart takers_place
+  are_dead = tags_go s who entries kept.steady.apart takers_place
 
   -- no prefix has one of the dead tags
   pub dead_unused : (t : Tag) → Member t dead → members s.tag t ≡ 0
-  dead_unused = tags_unused s who then kept.steady.apart takers_place
+  dead_unused = tags_unused s who entries kept.steady.apart takers_place
 
   -- without the dead tags the signatures are those afterwards
   pub signatures_then : kept_without s.kept dead ≡ s3.kept
-  signatures_then = kept_then s who then known dead are_dead kept.steady.kept
+  signatures_then = kept_then s who entries known dead are_dead kept.steady.kept
 
   of_pool : IsPoolOf s pool
   of_pool = record { free = sym kept.free; size = kept.size; base = kept.base }
 
   dead_rise : IsRising is_tag_below dead
   dead_rise =
-      filter-IsRising is_tag_below (has_none s.tag) (untold (drop (who.0 + 1) s.told) (untold (take who.0 s.told) (gone_for s who then)))
-      (filter-IsRising is_tag_below (λ u. not (is_told (drop (who.0 + 1) s.told) u)) (untold (take who.0 s.told) (gone_for s who then))
-      (filter-IsRising is_tag_below (λ u. not (is_told (take who.0 s.told) u)) (gone_for s who then)
-      (filter-IsRising is_tag_below (λ u. not (is_told (then ∷ []) u)) (untold (present s who ∷ []) (tags_of (told_to s who)))
+      filter-IsRising is_tag_below (is_dead s.tag s.told who.0) (gone_by s who limit)
+      (filter-IsRising is_tag_below (λ u. not (is_told (entries ∷ []) u)) (untold (present s who ∷ []) (tags_of (told_to s who)))
       (filter-IsRising is_tag_below (λ u. not (is_told (present s who ∷ []) u)) (tags_of (told_to s who))
-      (rising_tags (tags_of (told_to s who)) (ordered_rises tag_cmp tags_total tag_tie (map (λ (e : Entry). e.tag) (values (told_to s who)))))))))
+      (rising_tags (tags_of (told_to s who)) (ordered_rises tag_cmp tags_total tag_tie (map (λ (e : Entry). e.tag) (values (told_to s who)))))))
 
   -- the dead tags can be given back
   pub given_back : AreTaken pool dead
-  given_back = given_in_turn s who then known dead are_dead kept.steady.pooled pool of_pool dead_rise
+  given_back = given_in_turn s who entries known dead are_dead kept.steady.pooled pool of_pool dead_rise
 
   steady_then : IsSteady s3
   steady_then =
-      subst (λ es. IsSteady (told_anew s who es)) (sym taker.told)
-      (steady_after s (line_of taker.name taker.limit) (taking_reply s who taker.limit) (told_anew s who (told_after s who taker.limit)) kept.steady taker.formed (take_step s who pool kept taker.name taker.limit taker.sender))
+      steady_after s (line_of taker.name limit) (taking_reply s who limit) s3 kept.steady taker.formed (take_step s who pool kept taker.name limit taker.sender)
 
   -- what is kept holds of the state afterwards
   pub telling_kept : IsKept s3 (marked_all pool dead false) all
   telling_kept =
-      let of = pool_then s who then known dead are_dead kept.steady.pooled pool of_pool in record {
+      let of = pool_then s who entries known dead are_dead kept.steady.pooled pool of_pool in record {
         steady = steady_then;
         free = sym of.free;
         base = of.base;

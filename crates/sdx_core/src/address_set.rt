@@ -1,10 +1,12 @@
 //! Addresses, ascending, each once.
 
-ghost use Rattle.std.specs.Prelude.{◌≡◌, ◌++◌, ◌∷◌, [], OnErr, OnOk, IfOk};
+ghost use Rattle.std.specs.Prelude.{◌≡◌, ◌≤◌, ◌<◌, ◌+◌, ◌++◌, ◌∷◌, [], length, OnErr, OnOk};
+ghost use Rattle.std.specs.Vec.{vec_len, vec_capacity};
 ghost use Rattle.std.specs.List.{list_any};
 ghost use Rattle.net_types.specs.Attributes.{same_ip};
-ghost use Rattle.net_types.specs.Keys.{ip_cmp};
+ghost use Rattle.net_types.specs.Keys.{ip_cmp, is_ip_before};
 ghost use Rattle.net_types.specs.Maps.{ordered};
+ghost use Rattle.net_types.specs.Sets.{IsRising};
 
 use net_types::{Ip, Memory};
 use std::alloc::Global;
@@ -46,36 +48,41 @@ impl AddressSet {
         self.addresses.binary_search(&ip).is_ok()
     }
 
-    /// Puts the address in. After want of memory the set is unchanged.
-    fn insert(&mut self, ip: Ip) -> Result<(), Memory>
-        ensures ok { OnOk result (self.new ≡ ordered ip_cmp (self.old ++ ip ∷ [])) }
+    /// Puts the addresses in. After want of memory the set is unchanged.
+    pub fn insert_all(&mut self, ips: &[Ip]) -> Result<(), Memory>
+        ensures ok { OnOk result (self.new ≡ ordered ip_cmp (self.old ++ ips.now)) }
         ensures unchanged { OnErr result (self.new ≡ self.old) }
     {
-        if let Err(place) = self.addresses.binary_search(&ip) {
-            self.addresses.insert(place, ip)?;
-        }
-        Ok(())
-    }
-
-    /// The set with these addresses too.
-    pub fn with(&self, alloc: Global, ips: &[Ip]) -> Result<AddressSet, Memory>
-        ensures { IfOk result (λ set. set ≡ ordered ip_cmp (self.now ++ ips.now)) }
-    {
-        let mut set = AddressSet {
-            addresses: Vec::from_slice(alloc, self.addresses.as_slice())?,
-        };
-        set.insert_all(ips)?;
-        Ok(set)
-    }
-
-    /// Puts the addresses in, one after another.
-    fn insert_all(&mut self, ips: &[Ip]) -> Result<(), Memory>
-        ensures { OnOk result (self.new ≡ ordered ip_cmp (self.old ++ ips.now)) }
-    {
         self.addresses.reserve(ips.len())?;
-        for ip in ips {
-            self.insert(*ip)?;
-        }
+        put_all(&mut self.addresses, ips);
         Ok(())
+    }
+}
+
+/// Puts addresses into a rising list that has room for them.
+fn put_all(addresses: &mut Vec<Ip>, ips: &[Ip])
+    requires rising { IsRising is_ip_before addresses.old.items }
+    requires room { vec_len addresses.old + length ips.now ≤ vec_capacity addresses.old }
+    ensures { addresses.new.items ≡ ordered ip_cmp (addresses.old.items ++ ips.now) }
+{
+    for ip in ips {
+        put(addresses, *ip);
+    }
+}
+
+/// Puts an address into a rising list that has room for it.
+fn put(addresses: &mut Vec<Ip>, ip: Ip)
+    requires rising { IsRising is_ip_before addresses.old.items }
+    requires room { vec_len addresses.old < vec_capacity addresses.old }
+    ensures items { addresses.new.items ≡ ordered ip_cmp (addresses.old.items ++ ip ∷ []) }
+    ensures len { vec_len addresses.new ≤ vec_len addresses.old + 1 }
+    ensures capacity { vec_capacity addresses.old ≤ vec_capacity addresses.new }
+{
+    let Err(place) = addresses.binary_search(&ip) else {
+        return;
+    };
+    match addresses.insert(place, ip) {
+        Ok(()) => {}
+        Err(_) => unreachable!(),
     }
 }

@@ -69,16 +69,29 @@ impl Sdx {
             }
             Err(FastFault::Memory) => return Err(Memory),
         };
-        self.server.reserve(&request.proposal)?;
-        reserve(&plan, &mut self.classes, &mut self.switch)?;
         plans_are_committed();
+        self.server.reserve(&request.proposal)?;
+        reserve(
+            self.alloc,
+            &self.registry,
+            &plan,
+            &mut self.classes,
+            &mut self.adverts,
+        )?;
+        self.switch.reserve(plan.blocks.len())?;
         let Request {
             proposal,
             change,
             ..
         } = request;
         self.server.commit(proposal);
-        let changes = commit(plan, &mut self.classes, &mut self.pool, &mut self.switch);
+        let changes = commit(
+            plan,
+            &mut self.classes,
+            &mut self.pool,
+            &mut self.switch,
+            &mut self.adverts,
+        );
         carry_out(&mut self.programs, change);
         self.phase = Phase::Running;
         Ok(changes_reply(self.alloc, changes))
@@ -99,7 +112,7 @@ impl Sdx {
             &self.registry,
             &self.classes,
             &self.pool,
-            &self.told,
+            &self.adverts,
             &self.switch,
             &views,
             &request.proposal,

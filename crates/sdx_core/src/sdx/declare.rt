@@ -1,6 +1,7 @@
 //! The lines that declare: the pool and the table, participants and their ports.
 
-ghost use Rattle.std.specs.Prelude.{◌≡◌, ◌||◌, ◌∷◌, [], take, IfOk, OnErr};
+ghost use Rattle.std.specs.Prelude.{◌≡◌, ◌||◌, ◌∷◌, [], take, replicate, IfOk, OnErr};
+ghost use Rattle.std.specs.FinMap as map;
 ghost use Rattle.events.specs.Forms.{IsWellFormed};
 ghost use Rattle.events.specs.Fits.{IsStep};
 ghost use Rattle.events.specs.declared.Event.TheVariants as lines;
@@ -12,10 +13,11 @@ use crate::address_set::AddressSet;
 use crate::pool_range::is_in_pool;
 use crate::programs::both_dropping;
 use crate::replies::{bare_reply, refused};
-use advert_queue::Told;
+use advert_queue::Adverts;
 use events::{Head, Phase, Refusal, Reply};
 use net_types::{Ip, Mac, Memory, Name, PortNo};
 use next_hop_pool::Pool;
+use std::alloc::Global;
 
 impl Sdx {
     pub(super) fn exchange(&mut self, base: Ip, size: u32, capacity: u32) -> Result<Reply, Memory>
@@ -55,7 +57,7 @@ impl Sdx {
             return Ok(refused(self.alloc, Refusal::Full));
         }
         let programs = both_dropping(self.alloc)?;
-        self.told.reserve(1)?;
+        let adverts = nothing_told(self.alloc, declared + 1)?;
         self.programs.reserve(1)?;
         self.server.add_participant()?;
         match self.registry.add_octets(name.items(), asn, id) {
@@ -65,11 +67,8 @@ impl Sdx {
                 return Err(Memory);
             }
         }
+        self.adverts = adverts;
         match self.programs.push(programs) {
-            Ok(()) => {}
-            Err(_) => unreachable!(),
-        }
-        match self.told.push(Told::new(self.alloc)) {
             Ok(()) => Ok(bare_reply(self.alloc, Head::Fine)),
             Err(_) => unreachable!(),
         }
@@ -107,6 +106,18 @@ impl Sdx {
             }
         }
     }
+}
+
+/// So many participants, of whom nobody was told anything, and for whom nothing is present.
+fn nothing_told(alloc: Global, participants: usize) -> Result<Adverts, Memory>
+    ensures told { IfOk result (λ adverts. adverts.told ≡ replicate participants map.empty) }
+    ensures present { IfOk result (λ adverts. adverts.present ≡ replicate participants map.empty) }
+{
+    let mut adverts = Adverts::new(alloc);
+    for joined in 0..participants {
+        adverts.push()?;
+    }
+    Ok(adverts)
 }
 
 /// Whether a port's number or one of its addresses is in use, or they lie in the pool or among the MACs of tags.

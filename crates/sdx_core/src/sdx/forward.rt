@@ -35,9 +35,7 @@ impl Sdx {
         let Some(fields) = headers(port, frame.as_slice()) else {
             return Ok(refused(self.alloc, Refusal::BadPacket));
         };
-        let owner = source.owner.0 as usize;
-        let told = &self.told.as_slice()[owner];
-        let reply = match told.longest(fields.dst) {
+        let reply = match self.adverts.longest(source.owner, fields.dst) {
             Some((_, entry)) => self.sent(&source, entry.tag, frame)?,
             None => bare_reply(self.alloc, Head::Unrouted),
         };

@@ -42,8 +42,7 @@ impl Sdx {
             self.phase = Phase::Running;
             return Ok(reply);
         }
-        let more = self.resolved.as_slice()[place].with(self.alloc, &[asked.target])?;
-        self.resolved[place] = more;
+        self.resolved[place].insert_all(&[asked.target])?;
         self.phase = Phase::Running;
         Ok(reply)
     }
@@ -61,14 +60,12 @@ impl Sdx {
             return Ok(refused(self.alloc, Refusal::Unknown));
         };
         let source = self.registry.ports()[place];
-        let owner = source.owner.0 as usize;
-        let tags = self.told.as_slice()[owner].tags();
+        let tags = self.adverts.told_tags(source.owner)?;
         let resolved = &self.resolved.as_slice()[place];
-        let missing = missing_hops(self.alloc, self.base, resolved, tags)?;
+        let missing = missing_hops(self.alloc, self.base, resolved, &tags)?;
         let mut reply = bare_reply(self.alloc, Head::Fine);
         reply.asks = exchanges(self.alloc, self.base, &source, missing.as_slice())?;
-        let more = resolved.with(self.alloc, missing.as_slice())?;
-        self.resolved[place] = more;
+        self.resolved[place].insert_all(missing.as_slice())?;
         self.phase = Phase::Running;
         Ok(reply)
     }

@@ -15,7 +15,7 @@ unreachable-requires c = c.in_default.ensures.cases.0 (subst (λ octets. IsUtf8 
 pub returns-in-Ok-bind : goal.returns-in-Ok-bind
 returns-in-Ok-bind c =
     let a = c.self.inside in
-    let s : State = state_of a.phase a.base a.size a.registry a.server a.resolved.items a.classes a.told.items a.switch a.programs.items in
+    let s : State = state_of a.phase a.base a.size a.registry a.server a.resolved.items a.classes a.adverts.told a.switch a.programs.items in
     let same : c.in-Ok.text.now ≡ c.args.text.now = c.in-Ok.ensures.cases.0 ∙ c.items.ensures in
     let fits : length c.args.text.now ≤ 8192 = subst (λ octets. length octets ≤ 8192) same c.in-Ok-parse_rules.ensures.ok.0 in
     let read : rules_of_text c.args.text.now ≡ Ok c.in-Ok-parse_rules.named = sym (ap rules_of_text same) ∙ c.in-Ok-parse_rules.ensures.value in
@@ -25,7 +25,7 @@ returns-in-Ok-bind c =
 pub returns-in-Err-UnknownName : goal.returns-in-Err-UnknownName
 returns-in-Err-UnknownName c =
     let a = c.self.inside in
-    let s : State = state_of a.phase a.base a.size a.registry a.server a.resolved.items a.classes a.told.items a.switch a.programs.items in
+    let s : State = state_of a.phase a.base a.size a.registry a.server a.resolved.items a.classes a.adverts.told a.switch a.programs.items in
     let same : c.in-Ok.text.now ≡ c.args.text.now = c.in-Ok.ensures.cases.0 ∙ c.items.ensures in
     let fits : length c.args.text.now ≤ 8192 = subst (λ octets. length octets ≤ 8192) same c.in-Ok-parse_rules.ensures.ok.0 in
     let read : rules_of_text c.args.text.now ≡ Ok c.in-Ok-parse_rules.named = sym (ap rules_of_text same) ∙ c.in-Ok-parse_rules.ensures.value in

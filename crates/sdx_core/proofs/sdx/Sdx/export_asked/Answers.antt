@@ -14,16 +14,16 @@ use Rattle.sdx_core.proofs.sdx.Sdx.export_asked.Goals as goal
 pub propose_rules-requires : goal.propose_rules-requires
 propose_rules-requires c =
     let a = c.self.inside in
-    let s : State = state_of a.phase a.base a.size a.registry a.server a.resolved.items a.classes a.told.items a.switch a.programs.items in
-    routes_declared a.registry s.routing refl c.self.invariant.steady.routed
+    let s : State = state_of a.phase a.base a.size a.registry a.server a.resolved.items a.classes a.adverts.told a.switch a.programs.items in
+    routes_declared a.registry s.routing refl c.self.invariant.kept.steady.routed
 
 pub returns : goal.returns
 returns c =
     let a = c.self.inside in
-    let s : State = state_of a.phase a.base a.size a.registry a.server a.resolved.items a.classes a.told.items a.switch a.programs.items in
+    let s : State = state_of a.phase a.base a.size a.registry a.server a.resolved.items a.classes a.adverts.told a.switch a.programs.items in
     let sender : IsSender s c.args.name.now c.in-Ok.who = sender_of s c.args.name.now c.in-Ok.who (ap (λ (x : State). session x c.args.name.now) c.self.view_is ∙ sym c.session.ensures ∙ c.in-Ok.is) in
     let below : c.in-Ok.who.0 < length s.routing.participants = declared_pid s.routing c.args.name.now c.in-Ok.who sender.known in
-    let all = c.self.invariant.steady.rules in
+    let all = c.self.invariant.kept.steady.rules in
     let listed : c.in-Ok.who.0 < length a.server.rules = omega (arith, below, all) in
     subst (λ (x : State). (r : Routing) × Reroutes x (Export c.args.name.now c.args.text.now) r c.in_ok-proposal.proposal) c.self.view_is (
       with_rules s.routing c.in-Ok.who c.in-Ok-2.rules,

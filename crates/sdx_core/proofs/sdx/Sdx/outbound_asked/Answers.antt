@@ -37,7 +37,7 @@ returns c =
     let p = policy_of c.in-Ok-2.tree in
     let sender : IsSender st c.args.name.now who = sender_of st c.args.name.now who (sym c.session.ensures ∙ c.in-Ok.is) in
     let read : policy_or_refusal c.args.text.now ≡ Ok p = subst (HasRead c.args.text.now) c.in-Ok-2.is c.in_ok-tree.ensures in
-    let steady : IsSteady st = subst IsSteady c.self.view_is c.self.invariant.steady in (
+    let steady : IsSteady st = subst IsSteady c.self.view_is c.self.invariant.kept.steady in (
       with_named st.routing who (named_in (pid_of st.routing) p),
       is_senders st who,
       sending_leads st c.args.name.now c.args.text.now who sender c.outbounds_are_edits.ensures.bases c.outbounds_are_edits.ensures.edits steady p read

@@ -12,7 +12,7 @@ use Rattle.sdx_core.proofs.sdx.Sdx.outbound_refusal.Goals as goal
 pub returns-in-Ok : goal.returns-in-Ok
 returns-in-Ok c =
     let a = c.self.inside in
-    let s : State = state_of a.phase a.base a.size a.registry a.server a.resolved.items a.classes a.told.items a.switch a.programs.items in
+    let s : State = state_of a.phase a.base a.size a.registry a.server a.resolved.items a.classes a.adverts.told a.switch a.programs.items in
     let p = policy_of c.args.tree.now in
     subst (λ (x : State). IfOk c.width_refusal.result (λ why. why ≡ policy_refusal (out_faults (pid_of x.routing) (owner_of x) c.args.who p) p)) c.self.view_is
     (width_passes (out_faults (pid_of s.routing) (owner_of s) c.args.who p) p (sym c.check_out.ensures.told ∙ c.in-Ok.is) c.width_refusal.result c.width_refusal.ensures)

@@ -11,7 +11,7 @@ use Rattle.sdx_core.proofs.sdx.Sdx.receiving.Goals as goal
 pub returns : goal.returns
 returns c =
     let a = c.self.inside in
-    let s : State = state_of a.phase a.base a.size a.registry a.server a.resolved.items a.classes a.told.items a.switch a.programs.items in
+    let s : State = state_of a.phase a.base a.size a.registry a.server a.resolved.items a.classes a.adverts.told a.switch a.programs.items in
     let q : Request = record { proposal = c.empty.result; rebuild = c.in_ok-rebuild.rebuild; change = Inbound c.args.who c.in_ok-program.program } in
     subst (λ (x : State). IsReceiving x c.args.who c.args.text.now q) c.self.view_is (record {
       program = c.in_ok-program.program;

@@ -16,24 +16,24 @@ use Rattle.sdx_core.proofs.Senders.{routes_declared}
 use Rattle.sdx_core.proofs.sdx.Sdx.sending.Goals as goal
 
 pub pairs_from-requires-clause-apart : goal.pairs_from-requires-clause-apart
-pairs_from-requires-clause-apart c = c.self.invariant.steady.apart
+pairs_from-requires-clause-apart c = c.self.invariant.kept.steady.apart
 
 pub pairs_from-requires-clause-tagged : goal.pairs_from-requires-clause-tagged
 pairs_from-requires-clause-tagged c =
     let a = c.self.inside in
-    let s : State = state_of a.phase a.base a.size a.registry a.server a.resolved.items a.classes a.told.items a.switch a.programs.items in
-    table_tagged s c.self.invariant.steady
+    let s : State = state_of a.phase a.base a.size a.registry a.server a.resolved.items a.classes a.adverts.told a.switch a.programs.items in
+    table_tagged s c.self.invariant.kept.steady
 
 pub propose_named-requires-clause-declared : goal.propose_named-requires-clause-declared
 propose_named-requires-clause-declared c =
     let a = c.self.inside in
-    let s : State = state_of a.phase a.base a.size a.registry a.server a.resolved.items a.classes a.told.items a.switch a.programs.items in
-    routes_declared a.registry s.routing refl c.self.invariant.steady.routed
+    let s : State = state_of a.phase a.base a.size a.registry a.server a.resolved.items a.classes a.adverts.told a.switch a.programs.items in
+    routes_declared a.registry s.routing refl c.self.invariant.kept.steady.routed
 
 pub returns : goal.returns
 returns c =
     let a = c.self.inside in
-    let s : State = state_of a.phase a.base a.size a.registry a.server a.resolved.items a.classes a.told.items a.switch a.programs.items in
+    let s : State = state_of a.phase a.base a.size a.registry a.server a.resolved.items a.classes a.adverts.told a.switch a.programs.items in
     let q : Request = record { proposal = c.in_ok-proposal.proposal; rebuild = c.in_ok-rebuild.rebuild; change = Outbound c.args.who c.in_ok-program.program } in
     subst (λ (x : State). IsSending x c.args.who c.args.text.now (policy_of c.args.tree.now) q) c.self.view_is (record {
       program = c.in_ok-program.program;

@@ -20,20 +20,20 @@ use Rattle.sdx_core.proofs.sdx.Sdx.update_asked.Goals as goal
 pub propose_update-requires-clause-known : goal.propose_update-requires-clause-known
 propose_update-requires-clause-known c =
     let a = c.self.inside in
-    let s : State = state_of a.phase a.base a.size a.registry a.server a.resolved.items a.classes a.told.items a.switch a.programs.items in
+    let s : State = state_of a.phase a.base a.size a.registry a.server a.resolved.items a.classes a.adverts.told a.switch a.programs.items in
     let sender : IsSender s c.args.name.now c.in-Ok.who = sender_of s c.args.name.now c.in-Ok.who (ap (λ (x : State). session x c.args.name.now) c.self.view_is ∙ sym c.session.ensures ∙ c.in-Ok.is) in
     declared_pid s.routing c.args.name.now c.in-Ok.who sender.known
 
 pub propose_update-requires-clause-declared : goal.propose_update-requires-clause-declared
 propose_update-requires-clause-declared c =
     let a = c.self.inside in
-    let s : State = state_of a.phase a.base a.size a.registry a.server a.resolved.items a.classes a.told.items a.switch a.programs.items in
-    routes_declared a.registry s.routing refl c.self.invariant.steady.routed
+    let s : State = state_of a.phase a.base a.size a.registry a.server a.resolved.items a.classes a.adverts.told a.switch a.programs.items in
+    routes_declared a.registry s.routing refl c.self.invariant.kept.steady.routed
 
 pub returns-in-Ok-propose_update : goal.returns-in-Ok-propose_update
 returns-in-Ok-propose_update c =
     let a = c.self.inside in
-    let s : State = state_of a.phase a.base a.size a.registry a.server a.resolved.items a.classes a.told.items a.switch a.programs.items in
+    let s : State = state_of a.phase a.base a.size a.registry a.server a.resolved.items a.classes a.adverts.told a.switch a.programs.items in
     let who = c.in-Ok.who in
     let u = c.in-Ok-decode.update in
     let sender : IsSender s c.args.name.now who = sender_of s c.args.name.now who (ap (λ (x : State). session x c.args.name.now) c.self.view_is ∙ sym c.session.ensures ∙ c.in-Ok.is) in
@@ -50,7 +50,7 @@ the_fault f = Err f
 pub returns-in-Err-FirstAs : goal.returns-in-Err-FirstAs
 returns-in-Err-FirstAs c =
     let a = c.self.inside in
-    let s : State = state_of a.phase a.base a.size a.registry a.server a.resolved.items a.classes a.told.items a.switch a.programs.items in
+    let s : State = state_of a.phase a.base a.size a.registry a.server a.resolved.items a.classes a.adverts.told a.switch a.programs.items in
     let who = c.in-Ok.who in
     let u = c.in-Ok-decode.update in
     let sender : IsSender s c.args.name.now who = sender_of s c.args.name.now who (ap (λ (x : State). session x c.args.name.now) c.self.view_is ∙ sym c.session.ensures ∙ c.in-Ok.is) in
@@ -62,7 +62,7 @@ returns-in-Err-FirstAs c =
 pub returns-in-Err-NextHop : goal.returns-in-Err-NextHop
 returns-in-Err-NextHop c =
     let a = c.self.inside in
-    let s : State = state_of a.phase a.base a.size a.registry a.server a.resolved.items a.classes a.told.items a.switch a.programs.items in
+    let s : State = state_of a.phase a.base a.size a.registry a.server a.resolved.items a.classes a.adverts.told a.switch a.programs.items in
     let who = c.in-Ok.who in
     let u = c.in-Ok-decode.update in
     let sender : IsSender s c.args.name.now who = sender_of s c.args.name.now who (ap (λ (x : State). session x c.args.name.now) c.self.view_is ∙ sym c.session.ensures ∙ c.in-Ok.is) in
@@ -74,7 +74,7 @@ returns-in-Err-NextHop c =
 pub returns-in-Err-Oversize : goal.returns-in-Err-Oversize
 returns-in-Err-Oversize c =
     let a = c.self.inside in
-    let s : State = state_of a.phase a.base a.size a.registry a.server a.resolved.items a.classes a.told.items a.switch a.programs.items in
+    let s : State = state_of a.phase a.base a.size a.registry a.server a.resolved.items a.classes a.adverts.told a.switch a.programs.items in
     let who = c.in-Ok.who in
     let u = c.in-Ok-decode.update in
     let sender : IsSender s c.args.name.now who = sender_of s c.args.name.now who (ap (λ (x : State). session x c.args.name.now) c.self.view_is ∙ sym c.session.ensures ∙ c.in-Ok.is) in
