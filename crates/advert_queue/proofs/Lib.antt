@@ -1,7 +1,5 @@
-pub mod SortedLists
 pub mod EntryLists
 pub mod PendingLemmas
-pub mod NewsLemmas
 pub mod RisingEntries
 pub mod ChangedMaps
 pub mod CountLemmas

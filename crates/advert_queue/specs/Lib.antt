@@ -1,5 +1,4 @@
 pub mod Telling
-pub mod News
 pub mod Advertised
 pub mod Taken
 pub mod Changes

@@ -3,8 +3,6 @@
 #![tactic(auto)]
 
 #[cfg(test)]
-mod adverts;
-#[cfg(test)]
 mod classes;
 #[cfg(test)]
 mod merges;
