@@ -1,5 +1,5 @@
 -- The pairs and tags that go where a participant is told anew.
-use Rattle.std.proofs.Common.{◌≡◌, ℕ, zero, suc, ◌<◌, Bool, true, false, ◌&&◌, ◌||◌, not, nat_eq, List, [], ◌∷◌, length, map, sym, ap, subst, ◌∙◌, refl, inl, inr, arith}
+use Rattle.std.proofs.Common.{◌≡◌, ℕ, zero, suc, ◌<◌, Bool, true, false, ◌||◌, not, nat_eq, List, [], ◌∷◌, length, map, sym, ap, subst, ◌∙◌, refl, inl, inr, arith}
 use Rattle.std.specs.Prelude.{Some, slice_set}
 use Rattle.std.specs.FinMap.{FinMap, empty}
 use Rattle.std.specs.List.{list_any}

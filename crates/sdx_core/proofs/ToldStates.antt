@@ -1,5 +1,5 @@
 -- Where a participant is told anew, the signatures, the rules and the pool become those of the state afterwards.
-use Rattle.std.proofs.Common.{◌≡◌, ℕ, ◌+◌, ◌<◌, Bool, true, false, cond, map, take, List, [], ◌∷◌, length, not, sym, ap, subst, ◌∙◌, refl, arith}
+use Rattle.std.proofs.Common.{◌≡◌, ℕ, ◌<◌, Bool, true, false, cond, map, take, List, [], ◌∷◌, length, not, sym, ap, ◌∙◌, refl, arith}
 use Rattle.std.specs.Prelude.{Option, Some, None}
 use Rattle.std.specs.FinMap.{FinMap, get, remove, same_map, values}
 use Rattle.advert_queue.specs.Telling.{tags_of}

@@ -1,5 +1,5 @@
 use Rattle.std.proofs.Common.{ap, ◌∙◌, ◌++◌, ◌∷◌, [], take, get_or, ◌+◌, subst, sym, arith}
-use Rattle.std.proofs.lemmas.List.{take_more, take_all}
+use Rattle.std.proofs.lemmas.List.{take_more}
 use Rattle.net_types.proofs.OrderLemmas.{ips_total}
 use Rattle.net_types.proofs.OrderedLemmas.{ordered_rises}
 use Rattle.net_types.specs.Keys.{ip_cmp, is_ip_before}

@@ -1,4 +1,4 @@
-use Rattle.std.proofs.Common.{ap, subst, sym, ◌∙◌, ◌++◌}
+use Rattle.std.proofs.Common.{subst, sym, ◌++◌}
 use Rattle.net_types.proofs.OrderLemmas.{ips_total}
 use Rattle.net_types.proofs.OrderedLemmas.{ordered_rises}
 use Rattle.net_types.specs.Keys.{ip_cmp, is_ip_before}

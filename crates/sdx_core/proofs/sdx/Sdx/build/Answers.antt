@@ -53,7 +53,7 @@ commit-changes-requires g c =
     c.plans_are_committed.ensures.allowed (base_of s q) r is_rebuilt plan c.reserve-2.new.classes a.pool c.reserve-3.new.self c.reserve-2.new.adverts (planned_of s e r is_rebuilt q plan here plans)
     (parts_of s q plan c.reserve-2.new.classes a.pool c.reserve-3.new.self c.reserve-2.new.adverts a.programs.items c.self.invariant.kept c.in-Ok.ensures.named (sym c.reserve-2.ensures.tag) (sym c.reserve-2.ensures.kept) (sym c.reserve-3.ensures.table) (sym c.reserve-3.ensures.capacity)
     (sym c.reserve-2.ensures.told) (sym (c.reserve-2.ensures.present ∙ c.self.invariant.present)))
-    (record { prefixes = c.in_ok-reserve-2.ensures.prefixes; tags = c.in_ok-reserve-2.ensures.tags; pairs = omega (arith, c.in_ok-reserve-3.ensures.room, plan.blocks.ok.0); offers = c.in_ok-reserve-2.ensures.offers })
+    (record { prefixes = c.in_ok-reserve-2.ensures.prefixes; tags = c.in_ok-reserve-2.ensures.tags; pairs = omega (arith, c.in_ok-reserve-3.ensures.room); offers = c.in_ok-reserve-2.ensures.offers })
 
 pub carry_out-requires : goal.carry_out-requires
 carry_out-requires g c =

@@ -1,13 +1,10 @@
-use Rattle.std.proofs.Common.{◌≡◌, ap, sym, subst, ◌∙◌}
+use Rattle.std.proofs.Common.{◌≡◌, sym, subst, ◌∙◌}
 use Rattle.events.specs.Fits.{IsStep, bare}
 use Rattle.events.specs.State.{State}
 use Rattle.events.specs.declared.Head.TheVariants.{Fine}
 use Rattle.events.specs.declared.Reply.{Reply}
-use Rattle.exchange_laws.specs.Telling.{told_anew}
-use Rattle.fast_path.specs.LiveOnly.{registered}
-use Rattle.registry.specs.Registered.{ports_of}
 use Rattle.sdx_core.specs.Changing.{IsSender}
-use Rattle.sdx_core.specs.Taking.{all_pairs, gone_for, line_of, told_after}
+use Rattle.sdx_core.specs.Taking.{line_of}
 use Rattle.sdx_core.specs.View.{IsKept}
 use Rattle.sdx_core.proofs.Senders.{sender_of}
 use Rattle.sdx_core.proofs.ToldStates.{place, take_step, taking_reply}

@@ -10,7 +10,6 @@ use Rattle.events.specs.declared.Entry.{Entry}
 use Rattle.exchange_laws.proofs.PoolTags.{present_small}
 use Rattle.fast_path.specs.LiveOnly.{registered}
 use Rattle.net_types.specs.Keys.{prefix_cmp}
-use Rattle.net_types.specs.declared.address.Tag.{Tag}
 use Rattle.registry.specs.Registered.{ports_of}
 use Rattle.sdx_core.specs.Taking.{all_pairs, dead_tags, gone_by, taken_of}
 use Rattle.sdx_core.specs.View.{IsKept, state_of}

@@ -1,16 +1,13 @@
 use Rattle.std.proofs.Common.{◌≡◌, ◌<◌, ap, false, length, sym, subst, ◌∙◌, refl}
-use Rattle.std.specs.FinMap.{FinMap}
 use Rattle.std.specs.Prelude.{slice_set}
 use Rattle.advert_queue.specs.Advertised.{present_of, told_of}
 use Rattle.advert_queue.specs.Taken.{told_then}
 use Rattle.events.specs.After.{without_pairs}
 use Rattle.events.specs.State.{State, present, told_to}
-use Rattle.events.specs.declared.Entry.{Entry}
 use Rattle.exchange_laws.specs.Telling.{told_anew}
 use Rattle.fast_path.specs.Committing.{AreTaken, kept_without, marked_all}
 use Rattle.fast_path.specs.LiveOnly.{registered}
 use Rattle.fast_path.specs.Offers.{all_present}
-use Rattle.net_types.specs.Keys.{prefix_cmp}
 use Rattle.net_types.specs.Sets.{Member}
 use Rattle.next_hop_pool.specs.Free.{Tags}
 use Rattle.prefix_classes.specs.Classes.{members}
