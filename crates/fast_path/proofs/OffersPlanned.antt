@@ -1,10 +1,10 @@
 -- What a proposal offers is what is present in the state afterwards, and what it doesn't offer is present as it was.
-use Rattle.std.proofs.Common.{◌≡◌, ℕ, zero, suc, ◌+◌, ◌<◌, ◌≤◌, Bool, true, false, cond, not, List, [], ◌∷◌, ◌++◌, drop, length, map, sym, ap, subst, ◌∙◌, refl, arith, inl, inr}
+use Rattle.std.proofs.Common.{◌≡◌, ℕ, zero, suc, ◌+◌, ◌<◌, ◌≤◌, List, [], ◌∷◌, ◌++◌, drop, length, map, sym, ap, subst, ◌∙◌, refl, arith, inl, inr}
 use Rattle.std.specs.Prelude.{Option, Some, None, slice_get, unwrap_or}
 use Rattle.std.specs.FinMap.{get}
 use Rattle.std.specs.Option.{option_and_then, option_map}
 use Rattle.events.specs.State.{State, present, present_entry}
-use Rattle.events.specs.Tags.{retagged, same_tag}
+use Rattle.events.specs.Tags.{retagged}
 use Rattle.events.specs.declared.Entry.{Entry}
 use Rattle.events.specs.declared.TagChange.{TagChange}
 use Rattle.exchange_laws.proofs.Lists.{numbers_range}
@@ -14,7 +14,6 @@ use Rattle.exchange_laws.specs.Touched.{IsTouching}
 use Rattle.net_types.proofs.OrderLemmas.{prefix_tie, prefixes_total}
 use Rattle.net_types.proofs.PassLemmas.{place_member}
 use Rattle.net_types.proofs.SetLemmas.{Member-map, Member-union, map-Member, union-Member}
-use Rattle.net_types.specs.Attributes.{same_option}
 use Rattle.net_types.specs.Changes.{best_attrs}
 use Rattle.net_types.specs.Exports.{Routing}
 use Rattle.net_types.specs.Keys.{prefix_cmp}
@@ -28,8 +27,8 @@ use Rattle.net_types.specs.declared.route.Part.{Part}
 use Rattle.fast_path.proofs.CommittedMaps.{stands_or_not}
 use Rattle.fast_path.proofs.ListPlaces.{mapped_at}
 use Rattle.fast_path.proofs.OfferedPresent.{listed_at, pid_at}
-use Rattle.fast_path.specs.Grouping.{Known, changes_of, tag_after}
-use Rattle.fast_path.specs.Offers.{AreOffers, IsOffered, advert_of, adverts_from, best_at, entry_of, others, tagged}
+use Rattle.fast_path.specs.Grouping.{Known}
+use Rattle.fast_path.specs.Offers.{AreOffers, IsOffered, advert_of, adverts_from, best_at, entry_of, tagged}
 use Rattle.fast_path.specs.declared.fresh.Fresh.{Fresh}
 use Rattle.fast_path.specs.declared.planned.Advert.{Advert}
 use Rattle.route_server.specs.Proposed.{Proposed}
@@ -41,19 +40,6 @@ pub tagged_few : (k : Known) (fs : List Fresh) (ts : List Tag) (ps : List Prefix
 tagged_few k fs ts [] sigs = omega arith
 tagged_few k fs ts (p ∷ ps) [] = omega arith
 tagged_few k fs ts (p ∷ ps) (sig ∷ sigs) = let later = tagged_few k fs ts ps sigs in omega (arith, later)
-
--- those that had another tag are the changes
-pub others_are : (k : Known) (fs : List Fresh) (ts : List Tag) (ps : List Prefix) (sigs : List (List Part)) → others k (tagged k fs ts ps sigs) ≡ changes_of k fs ts ps sigs
-others_are k fs ts [] sigs = refl
-others_are k fs ts (p ∷ ps) [] = refl
-others_are k fs ts (p ∷ ps) (sig ∷ sigs) = by (same_option same_tag (get k.tag p) (tag_after k fs ts p sig)) (others_are k fs ts ps sigs)
-  where
-    now : TagChange
-    now = record { prefix = p; tag = tag_after k fs ts p sig }
-
-    by : (b : Bool) → others k (tagged k fs ts ps sigs) ≡ changes_of k fs ts ps sigs → cond (not b) (now ∷ others k (tagged k fs ts ps sigs)) (others k (tagged k fs ts ps sigs)) ≡ cond b (changes_of k fs ts ps sigs) (now ∷ changes_of k fs ts ps sigs)
-    by true later = later
-    by false later = ap (λ cs. now ∷ cs) later
 
 -- ---- what is offered of them
 

@@ -33,15 +33,15 @@ use Rattle.fast_path.proofs.KnownSignatures.{Names, known_kept, sender_stays}
 use Rattle.fast_path.proofs.NewPairs.{HasOwners, kept_place, made, new_pairs_all, new_pairs_each, owners_found}
 use Rattle.fast_path.proofs.PortsAndTags.{tie}
 use Rattle.fast_path.proofs.TagOrder.{rising_tags, tag_tie}
-use Rattle.fast_path.proofs.OffersPlanned.{offers_made, others_are}
+use Rattle.fast_path.proofs.OffersPlanned.{offers_made}
 use Rattle.fast_path.proofs.TagsPlanned.{changes_found, groups_found, known_of, tagged_are}
 use Rattle.fast_path.specs.Building.{AreInOrder, HasPart, IsBlockFor, part_at, site_of}
 use Rattle.fast_path.specs.Committing.{Block, class_of, classes_of, kept_of}
 use Rattle.fast_path.specs.Drafts.{IsDraft, given_tags}
 use Rattle.fast_path.specs.Emptied.{emptied, is_left, old_tags}
-use Rattle.fast_path.specs.Grouping.{Known, changes_of, groups_of, known_by, more_groups, moved_groups, part_by}
+use Rattle.fast_path.specs.Grouping.{Known, groups_of, known_by, more_groups, moved_groups, part_by}
 use Rattle.fast_path.specs.LiveOnly.{AreDead, AreEmptied, group_signatures, group_tags, registered}
-use Rattle.fast_path.specs.Offers.{AreOffers, adverts_from, declared_pids, tagged}
+use Rattle.fast_path.specs.Offers.{AreOffers, adverts_from, declared_pids, others, tagged}
 use Rattle.fast_path.specs.Pairs.{fresh_pairs, gone_pairs, is_among, pair_at, part_pairs, staying, tag_pairs, untold, was_told}
 use Rattle.fast_path.specs.Planned.{group_kept, is_tag_below}
 use Rattle.fast_path.specs.Plans.{IsAsked, build_count}
@@ -170,7 +170,7 @@ module _ (s : State) (r : Routing) (is_rebuilt : Pair → Bool) (names : Registe
 
       pub changes_are : draft.tags ≡ tag_changes s.tag s1.tag
       changes_are =
-          is.tags ∙ others_are known fs (given_tags pool fs) p.touched p.sigs ∙ ap (λ k. changes_of k fs (given_tags pool fs) p.touched p.sigs) known_is ∙ ap (changes_of (known_of s) fs (given_tags pool fs) p.touched) asked.proposes.sigs
+          is.tags ∙ ap (λ k. others k (tagged k fs (given_tags pool fs) p.touched p.sigs)) known_is ∙ ap (λ sigs. others (known_of s) (tagged (known_of s) fs (given_tags pool fs) p.touched sigs)) asked.proposes.sigs
           ∙ changes_found s r fs (given_tags pool fs) groups_are tags_are p.touched touching
 
       pub fresh_are : draft.fresh.items ≡ classes_of draft.tags (group_kept s r)

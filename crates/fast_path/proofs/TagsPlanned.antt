@@ -24,8 +24,8 @@ use Rattle.exchange_laws.proofs.Lists.{clash, some_of}
 use Rattle.exchange_laws.proofs.Sames.{group_itself, group_same}
 use Rattle.exchange_laws.proofs.TagsAfter.{tags_are}
 use Rattle.exchange_laws.proofs.TouchedPrefixes.{touched_have_changes, touched_have_groups}
-use Rattle.fast_path.specs.Grouping.{Known, change_before, changes_of, group_before, groups_of, is_empty, is_kept_sig, is_moved, more_groups, moved_groups, same_class, tag_after}
-use Rattle.fast_path.specs.Offers.{tagged}
+use Rattle.fast_path.specs.Grouping.{Known, group_before, groups_of, is_empty, is_kept_sig, is_moved, more_groups, moved_groups, same_class, tag_after}
+use Rattle.fast_path.specs.Offers.{others, tagged}
 use Rattle.fast_path.specs.declared.fresh.Fresh.{Fresh}
 use Rattle.fast_path.proofs.CommittedMaps.{get_front}
 use Rattle.fast_path.proofs.GroupLemmas.{place_among}
@@ -191,23 +191,24 @@ module _ (s : State) (r : Routing) (fs : List Fresh) (ts : List Tag) (are : grou
       by true false = refl
       by false c = refl
 
-  changes_are : (ps : List Prefix) → changes_of (known_of s) fs ts ps (map (signature r) ps) ≡ tag_changes_among s r ps
-  changes_are [] = refl
-  changes_are (p ∷ ps) =
-      ap (λ o. change_before p (get s.tag p) o (changes_of (known_of s) fs ts ps (map (signature r) ps))) (tag_is p)
-      ∙ ap (change_before p (get s.tag p) (new_tag s r p)) (changes_are ps)
-      ∙ by (same_option same_tag (get s.tag p) (new_tag s r p))
+  tagged_new : (ps : List Prefix) → tagged (known_of s) fs ts ps (map (signature r) ps) ≡ map (λ p. let c : TagChange = record { prefix = p; tag = new_tag s r p } in c) ps
+  tagged_new [] = refl
+  tagged_new (p ∷ ps) = λ i. record { prefix = p; tag = tag_is p i } ∷ tagged_new ps i
+
+  others_new : (ps : List Prefix) → others (known_of s) (map (λ p. let c : TagChange = record { prefix = p; tag = new_tag s r p } in c) ps) ≡ tag_changes_among s r ps
+  others_new [] = refl
+  others_new (p ∷ ps) = by (same_option same_tag (get s.tag p) (new_tag s r p)) (others_new ps)
     where
-      by : (b : Bool) → cond b (tag_changes_among s r ps) (record { prefix = p; tag = new_tag s r p } ∷ tag_changes_among s r ps)
+      by : (b : Bool) → others (known_of s) (map (λ q. let c : TagChange = record { prefix = q; tag = new_tag s r q } in c) ps) ≡ tag_changes_among s r ps
+          → cond (not b) (record { prefix = p; tag = new_tag s r p } ∷ others (known_of s) (map (λ q. let c : TagChange = record { prefix = q; tag = new_tag s r q } in c) ps)) (others (known_of s) (map (λ q. let c : TagChange = record { prefix = q; tag = new_tag s r q } in c) ps))
           ≡ map (λ q. let c : TagChange = record { prefix = q; tag = new_tag s r q } in c) (cond (not b) (p ∷ filter (λ q. not (same_option same_tag (get s.tag q) (new_tag s r q))) ps) (filter (λ q. not (same_option same_tag (get s.tag q) (new_tag s r q))) ps))
-      by true = refl
-      by false = refl
+      by true later = later
+      by false later = ap (λ cs. record { prefix = p; tag = new_tag s r p } ∷ cs) later
 
   -- the touched prefixes have the tags of the state afterwards
   pub tagged_are : (ps : List Prefix) → tagged (known_of s) fs ts ps (map (signature r) ps) ≡ map (λ p. let c : TagChange = record { prefix = p; tag = get (retagged s r).tag p } in c) ps
-  tagged_are [] = refl
-  tagged_are (p ∷ ps) = λ i. record { prefix = p; tag = (tag_is p ∙ sym (tags_are s r p)) i } ∷ tagged_are ps i
+  tagged_are ps = tagged_new ps ∙ (λ i. map (λ p. let c : TagChange = record { prefix = p; tag = sym (tags_are s r p) i } in c) ps)
 
   -- the changes that are found are those of the state's tags
-  pub changes_found : (ps : List Prefix) → IsTouching s r ps → changes_of (known_of s) fs ts ps (map (signature r) ps) ≡ tag_changes s.tag (retagged s r).tag
-  changes_found ps touching = changes_are ps ∙ sym (touched_have_changes s r ps touching)
+  pub changes_found : (ps : List Prefix) → IsTouching s r ps → others (known_of s) (tagged (known_of s) fs ts ps (map (signature r) ps)) ≡ tag_changes s.tag (retagged s r).tag
+  changes_found ps touching = ap (others (known_of s)) (tagged_new ps) ∙ others_new ps ∙ sym (touched_have_changes s r ps touching)

@@ -13,8 +13,7 @@ use Rattle.net_types.specs.declared.prefix.Prefix.{Prefix}
 use Rattle.net_types.specs.declared.route.Part.{Part}
 use Rattle.events.specs.After.{trimmed_kept}
 use Rattle.events.specs.State.{first}
-use Rattle.events.specs.Tags.{Group, same_group, same_tag}
-use Rattle.events.specs.declared.TagChange.{TagChange}
+use Rattle.events.specs.Tags.{Group, same_group}
 use Rattle.prefix_classes.specs.Classes.{Classes}
 use Rattle.fast_path.specs.declared.fresh.Fresh.{Fresh}
 
@@ -91,13 +90,3 @@ abbrev pub tag_after : Known → List Fresh → List Tag → Prefix → List Par
 tag_after k fs ts p sig =
     if is_empty sig then None
     else (if is_kept_sig k p sig then get k.tag p else option_and_then (slice_get ts) (position_from (same_class (get k.tag p) sig) 0 fs))
-
--- one change before others, where the tag is another
-abbrev pub change_before : Prefix → Option Tag → Option Tag → List TagChange → List TagChange
-change_before p old new cs = if same_option same_tag old new then cs else record { prefix = p; tag = new } ∷ cs
-
--- the prefixes whose tag is another, with that tag
-abbrev pub changes_of : Known → List Fresh → List Tag → List Prefix → List (List Part) → List TagChange
-changes_of k fs ts [] sigs = []
-changes_of k fs ts (p ∷ ps) [] = []
-changes_of k fs ts (p ∷ ps) (sig ∷ sigs) = change_before p (get k.tag p) (tag_after k fs ts p sig) (changes_of k fs ts ps sigs)
