@@ -7,7 +7,8 @@ use crate::classes::{give, prefix};
 use net_types::{Memory, Offer, Offers, Part, Pid, PortNo, Prefix, Sig, Steps, Tag};
 use prefix_classes::{ClassMap, Grouping};
 use std::alloc::Global;
-use std::sync::ledger::{Blank, Brand, Ledger};
+use std::marker::Brand;
+use std::sync::ledger::{Blank, Ledger};
 use std::test::Fail;
 
 /// The tags of 10.0.0.0/8, 11.0.0.0/8 and 12.0.0.0/8, each with what is offered under it, and what moves where.
