@@ -7,8 +7,6 @@ mod adverts;
 #[cfg(test)]
 mod classes;
 #[cfg(test)]
-mod merges;
-#[cfg(test)]
 mod prefixes;
 #[cfg(test)]
 mod tags;
