@@ -2,17 +2,18 @@
 
 use net_types::{Ip, Memory, Prefix, Sig, Tag};
 use prefix_classes::{ClassMap, new_ones_are_few};
+use std::alloc::Global;
 use std::test::Fail;
 
-pub(crate) fn prefix(first: u8) -> Result<Prefix, Memory> {
+fn prefix(first: u8) -> Result<Prefix, Memory> {
     Prefix::new(Ip(u32::from_be_bytes([first, 0, 0, 0])), 8).map_err(|_| Memory)
 }
 
 // Keeps a tag that isn't kept, and gives it to these prefixes.
-pub(crate) fn give(
+fn give(
     classes: &mut ClassMap,
+    alloc: Global,
     tag: Tag,
-    sig: Sig,
     members: &[Prefix],
 ) -> Result<bool, Memory> {
     if classes.sig_of(tag).is_some() {
@@ -20,7 +21,7 @@ pub(crate) fn give(
     }
     classes.reserve(members.len(), 1)?;
     new_ones_are_few();
-    classes.give(tag, sig, members);
+    classes.give(tag, Sig::new(alloc), members);
     Ok(true)
 }
 
@@ -37,14 +38,14 @@ fn forget(classes: &mut ClassMap, tag: Tag) -> bool {
 fn members_are_counted(rt: HostRuntime) -> Result<(), Fail> {
     let mut classes = ClassMap::new(rt.alloc());
     let (ten, eleven, twelve) = (prefix(10)?, prefix(11)?, prefix(12)?);
-    assert!(rt; give(&mut classes, Tag(2), Sig::new(rt.alloc()), &[ten, eleven])?);
-    assert!(rt; !give(&mut classes, Tag(2), Sig::new(rt.alloc()), &[twelve])?);
-    assert!(rt; give(&mut classes, Tag(1), Sig::new(rt.alloc()), &[eleven, twelve, twelve])?);
+    assert!(rt; give(&mut classes, rt.alloc(), Tag(2), &[ten, eleven])?);
+    assert!(rt; !give(&mut classes, rt.alloc(), Tag(2), &[twelve])?);
+    assert!(rt; give(&mut classes, rt.alloc(), Tag(1), &[eleven, twelve, twelve])?);
     for (tag, members) in [(1, 2), (2, 1), (3, 0)] {
         assert!(rt; classes.members(Tag(tag)) == members);
     }
     assert!(rt; classes.tag_of(eleven) == Some(Tag(1)));
-    assert!(rt; give(&mut classes, Tag(3), Sig::new(rt.alloc()), &[eleven])?);
+    assert!(rt; give(&mut classes, rt.alloc(), Tag(3), &[eleven])?);
     assert!(rt; classes.members(Tag(1)) == 1);
     assert!(rt; !forget(&mut classes, Tag(1)));
     classes.drop_prefix(twelve);
@@ -62,9 +63,9 @@ fn members_are_counted(rt: HostRuntime) -> Result<(), Fail> {
 fn the_next_tag_has_members(rt: HostRuntime) -> Result<(), Fail> {
     let mut classes = ClassMap::new(rt.alloc());
     let (ten, eleven) = (prefix(10)?, prefix(11)?);
-    assert!(rt; give(&mut classes, Tag(5), Sig::new(rt.alloc()), &[ten])?);
-    assert!(rt; give(&mut classes, Tag(2), Sig::new(rt.alloc()), &[eleven])?);
-    assert!(rt; give(&mut classes, Tag(3), Sig::new(rt.alloc()), &[])?);
+    assert!(rt; give(&mut classes, rt.alloc(), Tag(5), &[ten])?);
+    assert!(rt; give(&mut classes, rt.alloc(), Tag(2), &[eleven])?);
+    assert!(rt; give(&mut classes, rt.alloc(), Tag(3), &[])?);
     for (after, next) in [
         (None, Some(2)),
         (Some(1), Some(2)),

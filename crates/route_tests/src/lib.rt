@@ -5,8 +5,6 @@
 #[cfg(test)]
 mod classes;
 #[cfg(test)]
-mod merges;
-#[cfg(test)]
 mod prefixes;
 #[cfg(test)]
 mod sessions;
