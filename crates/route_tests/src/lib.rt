@@ -7,6 +7,4 @@ mod classes;
 #[cfg(test)]
 mod prefixes;
 #[cfg(test)]
-mod sessions;
-#[cfg(test)]
 mod tags;
