@@ -1,4 +1,4 @@
-//! Tests of routes: prefixes, tags and adverts. Those of names, export rules, decisions and the route server are rows of
+//! Tests of routes: prefixes, tags and classes. Those of names, export rules, decisions and the route server are rows of
 //! `route_cases` and `server_cases`.
 #![tactic(auto)]
 
