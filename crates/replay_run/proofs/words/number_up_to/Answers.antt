@@ -1,5 +1,6 @@
 use Rattle.std.proofs.Common.{rules, arith, ap, ◌∙◌, sym, drop, ◌+◌, ◌*◌, ◌-◌, ◌≡◌, true, get_or, nat_le}
-use Rattle.events.specs.Lines.{is_digit, only_if}
+use Rattle.grammar.specs.Tokens.{is_digit}
+use Rattle.events.specs.Lines.{only_if}
 use Rattle.replay_text.proofs.Numerals.{number_more, number_above}
 use Rattle.replay_run.proofs.words.number_up_to.Goals as goal
 
