@@ -4,7 +4,7 @@ use Rattle.events.specs.Lines.{is_name, is_utf8}
 use Rattle.events.specs.declared.Event.{Event}
 use Rattle.events.specs.declared.Event.TheVariants.{Bad, Exchange, Participant as DeclaresParticipant, Port as DeclaresPort, Update, Down, Export, Outbound, Inbound, Take, Drain, Arp, Resolve, Packet, Frame, Recompile, Work, Table}
 
--- What is so of the events that lines give. The lines of jobs aren't read yet, so nothing gives their events.
+-- What is so of the events that lines give.
 abbrev pub IsWellFormed : Event → Type 0
 IsWellFormed Bad = Unit {0}
 IsWellFormed (Exchange base size capacity) = (1 ≤ size) × (size ≤ 65536) × (1 ≤ capacity) × (capacity ≤ 1000000) × (16777215 ≤ base.0) × (base.0 + size ≤ 3758096383)
@@ -21,6 +21,6 @@ IsWellFormed (Arp port bytes) = (1 ≤ port.0) × (port.0 ≤ 65279)
 IsWellFormed (Resolve port) = (1 ≤ port.0) × (port.0 ≤ 65279)
 IsWellFormed (Packet port bytes) = (1 ≤ port.0) × (port.0 ≤ 65279)
 IsWellFormed (Frame port bytes) = (1 ≤ port.0) × (port.0 ≤ 65279)
-IsWellFormed Recompile = ⊥
-IsWellFormed (Work units) = ⊥
+IsWellFormed Recompile = Unit {0}
+IsWellFormed (Work units) = (1 ≤ units) × (units ≤ 1000000000)
 IsWellFormed Table = Unit {0}
