@@ -1,0 +1,5 @@
+pub mod Setting
+pub mod Underway
+pub mod Covering
+pub mod Working
+pub mod Changing

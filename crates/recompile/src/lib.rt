@@ -1,0 +1,10 @@
+//! The background job: it regroups the prefixes and tightens the rules in small units, while lines go on between any two.
+#![tactic(auto)]
+
+mod job;
+mod laws;
+mod swap;
+
+pub use job::Job;
+pub use laws::quiet_changes_keep_jobs;
+pub use swap::{Built, Progress, Swap};
