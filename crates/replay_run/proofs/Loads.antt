@@ -14,7 +14,7 @@ use Rattle.load_gen.specs.Generated.{generated}
 use Rattle.net_types.specs.Routes.{numbers}
 use Rattle.net_types.specs.Sets.{Member}
 use Rattle.reply_laws.specs.Replying.{RunsGoOn}
-use Rattle.sdx_core.specs.Steps.{step_bound}
+use Rattle.exchange_core.specs.Steps.{step_bound}
 use Rattle.replay_run.specs.Bounds.{first_bound, line_bound, run_bound}
 use Rattle.replay_run.specs.Load.{BeginsSummary, CountsEvent, HasLoaded, Loaded, LoadedBy, Loads, Summarizes, counted_with, generated_events, generated_lines, live_count, load_events, summary, tally_of, tally_text}
 use Rattle.replay_run.specs.Run.{IsAtEndOrMemory, fault_status}
