@@ -23,7 +23,7 @@ pub use ascending::ascending_pairs;
 pub use carried::plans_are_committed;
 pub use committing::{commit, reserve};
 pub use known::part_in;
-pub use pairs::{push_pairs, untold};
+pub use pairs::{push_pairs, push_staying, untold};
 pub use parts::{forget_all, give_all, remove_all};
 pub use planned::{Advert, Changes, Class, FastFault, Plan};
 pub use planning::plan;

@@ -102,7 +102,7 @@ fn is_among(pairs: &[Pair], pair: Pair) -> bool
 }
 
 /// Puts those of the pairs last that don't go.
-fn push_staying(gone: &[Pair], rebuild: &[Pair], pairs: &mut Vec<Pair>) -> Result<(), Memory>
+pub fn push_staying(gone: &[Pair], rebuild: &[Pair], pairs: &mut Vec<Pair>) -> Result<(), Memory>
     requires { IsRising is_pair_before gone.now }
     ensures { OnOk result (pairs.new.items ≡ pairs.old.items ++ staying gone.now rebuild.now) }
 {
