@@ -1,13 +1,17 @@
 -- What a background job beside the exchange is told of a line, and that it goes on covering (this exchange's own rule).
-use Rattle.std.specs.Prelude.{◌≡◌, ℕ, ◌+◌, ◌*◌, List, ◌++◌, length, map, Option, Some, None}
+use Rattle.std.specs.Prelude.{◌≡◌, ℕ, ◌+◌, ◌*◌, ◌≤◌, List, ◌++◌, length, map, Option, Some, None}
 use Rattle.std.specs.FinMap.{entries, keys}
 use Rattle.events.specs.After.{next}
+use Rattle.events.specs.Fits.{IsStep}
+use Rattle.events.specs.Refusals.{refusal}
 use Rattle.events.specs.State.{State}
 use Rattle.events.specs.Tags.{capped}
 use Rattle.events.specs.declared.Event.{Event}
+use Rattle.events.specs.declared.Event.TheVariants.{Work}
 use Rattle.events.specs.declared.Reply.{Reply}
 use Rattle.exchange_core.specs.declared.programs.PolicyChange.{PolicyChange}
 use Rattle.exchange_core.specs.declared.programs.PolicyChange.TheVariants.{Inbound, Outbound, Stay}
+use Rattle.exchange_laws.specs.Unchanged.{OwesFew}
 use Rattle.fast_path.specs.Committing.{signed, tags_of}
 use Rattle.fast_path.specs.Pairs.{staying}
 use Rattle.fast_path.specs.declared.planned.Plan.{Plan}
@@ -31,6 +35,11 @@ HasJob s (Some j) = (s.owed ≡ Some j.owed) × Covers (setting_of s) j
 -- A state that has a job, or none, has this one after the line; the exchange is the state without it.
 abbrev pub KeepsJob : State → Event → Reply → Option Underway → Option Underway → Type 0
 KeepsJob core e reply old new = (s : State) → without_job s ≡ core → HasJob s old → HasJob (next s e reply) new
+
+-- The line by which a job ends has this reply, and leaves this exchange: whichever job it is, and however many units it owes.
+abbrev pub EndsJob : State → Reply → State → Type 0
+EndsJob core reply after =
+    (s : State) (units owed : ℕ) → without_job s ≡ core → OwesFew s.owed → refusal s (Work units) ≡ None → s.owed ≡ Some owed → owed ≤ units → IsStep s (Work units) reply after
 
 -- the fresh tags of a plan
 abbrev pub fresh_of : Plan → List Tag

@@ -94,7 +94,7 @@ fn fresh_pairs(alloc: Global, names: &Registry, fresh: &[Class]) -> Result<Vec<P
 }
 
 /// Whether a pair stands among rising ones.
-fn is_among(pairs: &[Pair], pair: Pair) -> bool
+pub fn is_among(pairs: &[Pair], pair: Pair) -> bool
     requires { IsRising is_pair_before pairs.now }
     ensures { result ≡ is_among pairs.now pair }
 {
@@ -102,7 +102,7 @@ fn is_among(pairs: &[Pair], pair: Pair) -> bool
 }
 
 /// Puts those of the pairs last that don't go.
-pub fn push_staying(gone: &[Pair], rebuild: &[Pair], pairs: &mut Vec<Pair>) -> Result<(), Memory>
+fn push_staying(gone: &[Pair], rebuild: &[Pair], pairs: &mut Vec<Pair>) -> Result<(), Memory>
     requires { IsRising is_pair_before gone.now }
     ensures { OnOk result (pairs.new.items ≡ pairs.old.items ++ staying gone.now rebuild.now) }
 {

@@ -15,7 +15,7 @@ use super::Core;
 use crate::programs::{carry_out, lend_changed};
 use crate::replies::{changes_reply, refused};
 use crate::request::{Request, rerouting};
-use events::{Phase, Refusal, Reply};
+use events::{Head, Phase, Refusal, Reply};
 use exchange_laws::{reroutings_are_edits, steady_states_are_bases};
 use fast_path::{FastFault, Plan, commit, plan, plans_are_committed, reserve};
 use net_types::{Memory, Steps};
@@ -102,7 +102,7 @@ impl Core {
         );
         carry_out(&mut self.programs, change);
         self.phase = Phase::Running;
-        Ok(changes_reply(self.alloc, changes))
+        Ok(changes_reply(self.alloc, Head::Fine, changes))
     }
 
     /// The plan of a request, by the classifiers as they are after it.
