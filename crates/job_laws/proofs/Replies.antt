@@ -5,7 +5,7 @@ use Rattle.std.specs.FinMap.{get, keys}
 use Rattle.std.specs.Option.{option_map}
 use Rattle.std.specs.Ordering.{eq_by_cmp}
 use Rattle.std.proofs.lemmas.Bool.{cases_lt}
-use Rattle.block_build.proofs.TightLemmas.{fewer-sifted, right-sifted, tight-sifted}
+use Rattle.block_build.proofs.TightLemmas.{sifted-form, tight_forms_stay_right}
 use Rattle.block_build.specs.Tight.{sifted}
 use Rattle.events.specs.After.{all_units, merged, next}
 use Rattle.events.specs.Fits.{Fits, FitsBy, IsTightened, added, bare, dropped, has_other_rules, is_of_job, tag_changes}
@@ -96,7 +96,7 @@ module _ (s : State) (steady : IsSteady (without_job s)) where
       let before = subst (λ x. IsRightAt x s pair from.old) (policies_are_one steady.sound.right.1 (owed_policies s None ps are)) (steady.sound.right.2 pair from.old from.had) in (
         before.0,
         part_stays s steady pair from.live ∙ before.1,
-        subst (λ rs. IsRight ps before.0 pair.port rs) (sym from.is) (right-sifted pair.port (part_answer ps before.0) (cell_atoms ps pair.port before.0) from.old before.2),
+        subst (λ rs. IsRight ps before.0 pair.port rs) (sym from.is) (tight_forms_stay_right pair.port (part_answer ps before.0) (cell_atoms ps pair.port before.0) from.old (sifted [] from.old) (sifted-form from.old) before.2),
       )
 
   fewer : (pair : Pair) → length (unwrap_or (get table pair) []) ≤ length (unwrap_or (get s.table pair) [])
@@ -104,12 +104,12 @@ module _ (s : State) (steady : IsSteady (without_job s)) where
     where
       by : (b : Bool) (o : Option (List Rule)) → length (unwrap_or (cond b (option_map (sifted []) o) None) []) ≤ length (unwrap_or o [])
       by true None = omega arith
-      by true (Some old) = fewer-sifted [] old
+      by true (Some old) = (sifted-form old).fewer
       by false o = omega arith
 
   tightened : IsTightened s (record (merged s) { table = table })
   tightened = record {
-    tight = λ pair rules has. let from = sifted_from pair rules has in subst IsTight (sym from.is) (tight-sifted [] from.old);
+    tight = λ pair rules has. let from = sifted_from pair rules has in subst IsTight (sym from.is) (sifted-form from.old).tight;
     fewer = fewer;
   }
 
