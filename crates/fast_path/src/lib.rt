@@ -18,11 +18,14 @@ mod planned;
 mod planning;
 mod tagging;
 
-pub use ascending::ascending_pairs;
+pub use ascending::{ascending_pairs, ascending_tags};
+pub use building::push_flows;
 pub use carried::plans_are_committed;
 pub use committing::{commit, reserve};
+pub use emptied::old_tags;
 pub use known::part_in;
-pub use pairs::{push_pairs, untold};
+pub use offering::{offer_all, reserve_all};
+pub use pairs::{dropped_pairs, gone_pairs, is_among, push_pairs, untold};
 pub use parts::{forget_all, give_all, remove_all};
 pub use planned::{Advert, Changes, Class, FastFault, Plan};
 pub use planning::plan;
