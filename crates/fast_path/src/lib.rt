@@ -11,6 +11,7 @@ mod emptied;
 mod fresh;
 mod grouping;
 mod known;
+mod newly;
 mod offering;
 mod pairs;
 mod parts;
