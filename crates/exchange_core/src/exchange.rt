@@ -1,15 +1,17 @@
 //! The exchange, and the one step that a line is.
 
-ghost use Rattle.std.specs.Prelude.{◌≡◌, ◌≤◌, ◌+◌, IfOk, OnErr};
+ghost use Rattle.std.specs.Prelude.{◌≡◌, ◌≤◌, ◌+◌, false, IfOk, OnErr};
 ghost use Rattle.events.specs.Forms.{IsWellFormed};
-ghost use Rattle.events.specs.Fits.{IsStep};
+ghost use Rattle.events.specs.Fits.{IsStep, is_of_job};
 ghost use Rattle.events.specs.State.{first};
+ghost use Rattle.exchange_core.specs.Jobs.{KeepsJob};
 ghost use Rattle.exchange_core.specs.Steps.{step_bound};
 
 mod build;
 mod change;
 mod declare;
 mod forward;
+mod job;
 mod lend;
 mod program;
 mod resolve;
@@ -25,13 +27,14 @@ use match_switch::Switch;
 use net_types::{Ip, Memory, Steps};
 use next_hop_pool::Pool;
 use prefix_classes::ClassMap;
+use recompile::Job;
 use registry::Registry;
 use route_server::RouteServer;
 use std::alloc::Global;
 use std::marker::Model;
 use std::sync::ledger::Ledger;
 
-/// An exchange.
+/// An exchange without a background job.
 #[derive(Drop)]
 pub struct Core {
     alloc: Global,
@@ -104,12 +107,20 @@ impl Core {
         &self.classes
     }
 
-    /// Runs one line: the reply is one that is legal for the event, and the exchange is the one that follows. After want
-    /// of memory the exchange is as it was.
-    pub fn step<L: Ledger>(&mut self, event: &Event, steps: &mut Steps<L>) -> Result<Reply, Memory>
-        requires { IsWellFormed event.now }
+    /// Runs one line that isn't a job's: the reply is one that is legal for the event, and the exchange is the one that
+    /// follows. A job, where one runs, is told of it. After want of memory the exchange and the job are as they were.
+    pub fn step<L: Ledger>(
+        &mut self,
+        event: &Event,
+        job: &mut Option<Job>,
+        steps: &mut Steps<L>,
+    ) -> Result<Reply, Memory>
+        requires formed { IsWellFormed event.now }
+        requires line { is_of_job event.now ≡ false }
         ensures step { IfOk result (λ reply. IsStep self.old event.now reply self.new) }
         ensures unchanged { OnErr result (self.new ≡ self.old) }
+        ensures job { IfOk result (λ reply. KeepsJob self.old event.now reply job.old job.new) }
+        ensures job_unchanged { OnErr result (job.new ≡ job.old) }
         ensures steps { steps.new ≤ steps.old + step_bound self.old event.now }
     {
         match event {
@@ -126,11 +137,11 @@ impl Core {
                 ip,
                 mac,
             } => self.port(name, *number, *ip, *mac),
-            Event::Update { name, bytes } => self.update(name, bytes, steps),
-            Event::Down { name } => self.down(name, steps),
-            Event::Export { name, text } => self.export(name, text, steps),
-            Event::Outbound { name, text } => self.outbound(name, text, steps),
-            Event::Inbound { name, text } => self.inbound(name, text, steps),
+            Event::Update { name, bytes } => self.update(name, bytes, job, steps),
+            Event::Down { name } => self.down(name, job, steps),
+            Event::Export { name, text } => self.export(name, text, job, steps),
+            Event::Outbound { name, text } => self.outbound(name, text, job, steps),
+            Event::Inbound { name, text } => self.inbound(name, text, job, steps),
             Event::Take { name, count } => self.take(name, Some(*count)),
             Event::Drain { name } => self.take(name, None),
             Event::Arp { port, bytes } => self.arp(*port, bytes),
@@ -138,7 +149,7 @@ impl Core {
             Event::Packet { port, bytes } => self.packet(*port, bytes),
             Event::Frame { port, bytes } => self.frame(*port, bytes),
             Event::Table => self.table(),
-            // No line gives these events yet.
+            // These lines are the job's.
             Event::Recompile | Event::Work { .. } => unreachable!(),
         }
     }

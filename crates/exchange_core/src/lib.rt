@@ -1,4 +1,4 @@
-//! One line of the exchange: the reply to an event, and the state after it.
+//! One line of an exchange that isn't a job's: the reply to an event, the state after it, and what a background job is told.
 #![tactic(auto)]
 
 mod address_set;
@@ -16,3 +16,4 @@ mod exchange;
 mod taking;
 
 pub use exchange::Core;
+pub use replies::{bare_reply, refused};

@@ -15,10 +15,11 @@ use super::Core;
 use crate::programs::{carry_out, lend_changed};
 use crate::replies::{changes_reply, refused};
 use crate::request::{Request, rerouting};
-use events::{Phase, Refusal, Reply};
+use events::{Head, Phase, Refusal, Reply};
 use exchange_laws::{reroutings_are_edits, steady_states_are_bases};
 use fast_path::{FastFault, Plan, commit, plan, plans_are_committed, reserve};
 use net_types::{Memory, Steps};
+use recompile::Job;
 use route_server::Proposal;
 use std::sync::ledger::Ledger;
 
@@ -39,6 +40,7 @@ impl Core {
     pub(super) fn answer<L: Ledger>(
         &mut self,
         asked: Result<Request, Refusal>,
+        job: &mut Option<Job>,
         steps: &mut Steps<L>,
     ) -> Result<Reply, Memory>
         requires { (e : Event) × IsWellFormed e × Asks self.old e asked }
@@ -47,13 +49,18 @@ impl Core {
         ensures steps { (e : Event) → IsWellFormed e → Asks self.old e asked → steps.new ≤ steps.old + step_bound self.old e }
     {
         match asked {
-            Ok(request) => self.build(request, steps),
+            Ok(request) => self.build(request, job, steps),
             Err(refusal) => Ok(refused(self.alloc, refusal)),
         }
     }
 
     /// Carries out a request, where there are tags and room enough. All memory is taken before anything changes.
-    fn build<L: Ledger>(&mut self, request: Request, steps: &mut Steps<L>) -> Result<Reply, Memory>
+    fn build<L: Ledger>(
+        &mut self,
+        request: Request,
+        job: &mut Option<Job>,
+        steps: &mut Steps<L>,
+    ) -> Result<Reply, Memory>
         requires { (e : Event) × IsWellFormed e × (r : Routing) × (is_rebuilt : Pair → Bool) × Leads self.old e r is_rebuilt request }
         ensures step { IfOk result (λ reply. (e : Event) (r : Routing) (is_rebuilt : Pair → Bool) → IsWellFormed e → Leads self.old e r is_rebuilt request → IsStep self.old e reply self.new) }
         ensures unchanged { OnErr result (self.new ≡ self.old) }
@@ -79,6 +86,7 @@ impl Core {
             &mut self.adverts,
         )?;
         self.switch.reserve(plan.blocks.len())?;
+        self.tell_job(job, &request.change, &plan)?;
         let Request {
             proposal,
             change,
@@ -94,7 +102,7 @@ impl Core {
         );
         carry_out(&mut self.programs, change);
         self.phase = Phase::Running;
-        Ok(changes_reply(self.alloc, changes))
+        Ok(changes_reply(self.alloc, Head::Fine, changes))
     }
 
     /// The plan of a request, by the classifiers as they are after it.

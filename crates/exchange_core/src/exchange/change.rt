@@ -14,6 +14,7 @@ use bgp_update::{UpdateFault, decode};
 use events::{Refusal, Reply};
 use export_rules::{BindFault, Bound, RulesFault, parse_rules};
 use net_types::{Bytes, Memory, Name, Pid, Steps, Text};
+use recompile::Job;
 use route_server::{Proposal, RouteFault};
 use std::sync::ledger::Ledger;
 
@@ -23,6 +24,7 @@ impl Core {
         &mut self,
         name: &Name,
         bytes: &Bytes,
+        job: &mut Option<Job>,
         steps: &mut Steps<L>,
     ) -> Result<Reply, Memory>
         requires { IsWellFormed (lines.Update name.now bytes.now) }
@@ -32,13 +34,14 @@ impl Core {
     {
         let proposed = self.update_asked(name, bytes)?;
         let asked = self.rerouted(proposed);
-        self.answer(asked, steps)
+        self.answer(asked, job, steps)
     }
 
     /// All routes of a participant go.
     pub(super) fn down<L: Ledger>(
         &mut self,
         name: &Name,
+        job: &mut Option<Job>,
         steps: &mut Steps<L>,
     ) -> Result<Reply, Memory>
         requires { IsWellFormed (lines.Down name.now) }
@@ -48,7 +51,7 @@ impl Core {
     {
         let proposed = self.down_asked(name)?;
         let asked = self.rerouted(proposed);
-        self.answer(asked, steps)
+        self.answer(asked, job, steps)
     }
 
     /// The export rules of a participant become those of the text.
@@ -56,6 +59,7 @@ impl Core {
         &mut self,
         name: &Name,
         text: &Text,
+        job: &mut Option<Job>,
         steps: &mut Steps<L>,
     ) -> Result<Reply, Memory>
         requires { IsWellFormed (lines.Export name.now text.now) }
@@ -65,7 +69,7 @@ impl Core {
     {
         let proposed = self.export_asked(name, text)?;
         let asked = self.rerouted(proposed);
-        self.answer(asked, steps)
+        self.answer(asked, job, steps)
     }
 
     /// The participant that sends a line.

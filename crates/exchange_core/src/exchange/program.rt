@@ -25,6 +25,7 @@ use exchange_laws::{edits_are_changes, inbounds_are_edits, outbounds_are_edits};
 use net_types::{Memory, Name, Pid, Steps, Text};
 use policy_isolate::{check_in, check_out, named};
 use policy_syntax::Tree;
+use recompile::Job;
 use route_server::Proposal;
 use std::sync::ledger::Ledger;
 
@@ -34,6 +35,7 @@ impl Core {
         &mut self,
         name: &Name,
         text: &Text,
+        job: &mut Option<Job>,
         steps: &mut Steps<L>,
     ) -> Result<Reply, Memory>
         requires { IsWellFormed (lines.Outbound name.now text.now) }
@@ -42,7 +44,7 @@ impl Core {
         ensures steps { steps.new ≤ steps.old + step_bound self.old (lines.Outbound name.now text.now) }
     {
         let asked = self.outbound_asked(name, text)?;
-        self.answer(asked, steps)
+        self.answer(asked, job, steps)
     }
 
     /// The inbound policy of a participant becomes that of the text.
@@ -50,6 +52,7 @@ impl Core {
         &mut self,
         name: &Name,
         text: &Text,
+        job: &mut Option<Job>,
         steps: &mut Steps<L>,
     ) -> Result<Reply, Memory>
         requires { IsWellFormed (lines.Inbound name.now text.now) }
@@ -58,7 +61,7 @@ impl Core {
         ensures steps { steps.new ≤ steps.old + step_bound self.old (lines.Inbound name.now text.now) }
     {
         let asked = self.inbound_asked(name, text)?;
-        self.answer(asked, steps)
+        self.answer(asked, job, steps)
     }
 
     /// What `out` asks for. The text is parsed into an arena of the line's own.
