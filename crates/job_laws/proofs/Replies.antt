@@ -43,7 +43,7 @@ use Rattle.net_types.specs.Sets.{Member}
 use Rattle.net_types.specs.declared.rule.Pair.{Pair}
 use Rattle.net_types.specs.declared.rule.Rule.{Rule}
 use Rattle.reply_laws.proofs.EveryLine.{lines_have_replies}
-use Rattle.reply_laws.proofs.PortMacs.{next_macs}
+use Rattle.reply_laws.proofs.PortMacs.{ports_keep_macs}
 use Rattle.reply_laws.specs.Replying.{HasOctets, PortsHaveMacs}
 
 -- ---- a table for the end of a job
@@ -166,7 +166,7 @@ replies_from s [] steady macs written = ([], tt)
 replies_from s (e ∷ fs) steady macs written =
     let here = written e (inl refl) in
     let r = all_lines_have_replies s e steady macs here.0 here.1 in
-    let later = replies_from (next s e r.0) fs (all_steps_stay_steady s e r.0 steady here.0 r.1) (next_macs s e r.0 r.0.head macs here.1) (λ x m. written x (inr m)) in
+    let later = replies_from (next s e r.0) fs (all_steps_stay_steady s e r.0 steady here.0 r.1) (ports_keep_macs s e r.0 macs here.1) (λ x m. written x (inr m)) in
     (r.0 ∷ later.0, (r.1, later.1))
 
 from_go_on : (s : State) (es fs : List Event) (rs : List Reply) → IsSteadyInJob s → PortsHaveMacs s → ((e : Event) → Member e (es ++ fs) → IsWellFormed e × HasOctets e) → LegalFrom s es rs
@@ -176,7 +176,7 @@ from_go_on s [] fs (r ∷ rs) steady macs written legal = absurd legal
 from_go_on s (e ∷ es) fs [] steady macs written legal = absurd legal
 from_go_on s (e ∷ es) fs (r ∷ rs) steady macs written legal =
     let here = written e (inl refl) in
-    let later = from_go_on (next s e r) es fs rs (all_steps_stay_steady s e r steady here.0 legal.0) (next_macs s e r r.head macs here.1) (λ x m. written x (inr m)) legal.1 in
+    let later = from_go_on (next s e r) es fs rs (all_steps_stay_steady s e r steady here.0 legal.0) (ports_keep_macs s e r macs here.1) (λ x m. written x (inr m)) legal.1 in
     (later.0, (legal.0, later.1))
 
 pub all_runs_go_on : AllRunsGoOn

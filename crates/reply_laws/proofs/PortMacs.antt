@@ -32,7 +32,7 @@ use Rattle.net_types.specs.declared.export.ExportRule.{ExportRule}
 use Rattle.net_types.specs.declared.route.PortInfo.{PortInfo}
 use Rattle.net_types.specs.declared.update.Fault.{Fault}
 use Rattle.net_types.specs.declared.update.Update.{Update as Message}
-use Rattle.reply_laws.specs.Replying.{HasOctets, PortsHaveMacs}
+use Rattle.reply_laws.specs.Replying.{HasOctets, PortsHaveMacs, PortsKeepMacs}
 
 -- ---- ports
 
@@ -116,7 +116,7 @@ after_macs s (Work units) macs octets = known_macs s s.owed (worked s units) mac
 after_macs s Table macs octets = macs
 
 -- an accepted line leaves each port its MAC, and so does a refused one
-pub next_macs : (s : State) (e : Event) (r : Reply) (h : Head) → PortsHaveMacs s → HasOctets e → PortsHaveMacs (next_by h s e r)
+next_macs : (s : State) (e : Event) (r : Reply) (h : Head) → PortsHaveMacs s → HasOctets e → PortsHaveMacs (next_by h s e r)
 next_macs s e r (Refused why) macs octets = macs
 next_macs s e r Fine macs octets = after_macs s e macs octets
 next_macs s e r (Working units) macs octets = after_macs s e macs octets
@@ -124,3 +124,6 @@ next_macs s e r Finished macs octets = after_macs s e macs octets
 next_macs s e r Unrouted macs octets = after_macs s e macs octets
 next_macs s e r (Unresolved ip) macs octets = after_macs s e macs octets
 next_macs s e r Silent macs octets = after_macs s e macs octets
+
+pub ports_keep_macs : PortsKeepMacs
+ports_keep_macs s e r macs octets = next_macs s e r r.head macs octets

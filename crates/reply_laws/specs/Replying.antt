@@ -1,6 +1,7 @@
 -- Each line has a reply that fits, so legal replies to the first lines of a run go on (this exchange's own rule).
 use Rattle.std.specs.Prelude.{◌≡◌, false, List, ◌++◌}
 use Rattle.events.specs.Forms.{IsWellFormed}
+use Rattle.events.specs.After.{next}
 use Rattle.events.specs.Fits.{Fits, is_of_job}
 use Rattle.events.specs.Legal.{Legal}
 use Rattle.events.specs.State.{State}
@@ -36,6 +37,10 @@ HasOctets Table = Unit {0}
 -- each declared port has a MAC
 abbrev pub PortsHaveMacs : State → Type 0
 PortsHaveMacs s = (q : PortInfo) → Member q s.routing.ports → IsMac q.mac
+
+-- any line, a job's too, and any reply leave each port its MAC
+abbrev pub PortsKeepMacs : Type 0
+PortsKeepMacs = (s : State) (e : Event) (r : Reply) → PortsHaveMacs s → HasOctets e → PortsHaveMacs (next s e r)
 
 -- in a steady state some reply to each line that isn't a job's fits
 abbrev pub LinesHaveReplies : Type 0
