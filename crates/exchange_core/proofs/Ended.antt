@@ -71,6 +71,11 @@ shown_by phase base size names served resolved classes adverts installed program
   present = sym present;
 }
 
+-- so they have where room was reserved
+pub shown_still : (core : State) (names : Registered) (classes : Classes) (pool : Tags) (switch : Installed) (adverts adverts' : Advertised) → Shows core names classes pool switch adverts → adverts'.told ≡ adverts.told → adverts'.present ≡ adverts.present
+    → Shows core names classes pool switch adverts'
+shown_still core names classes pool switch adverts adverts' shows told present = record shows { told = shows.told ∙ sym told; present = shows.present ∙ sym present }
+
 -- the exchange with a job is steady where it is without
 pub steady_with : (core s : State) → without_job s ≡ core → IsSteady core → OwesFew s.owed → IsSteadyInJob s
 steady_with core s is steady few = record { steady = subst IsSteady (sym is) steady; few = few }
@@ -131,6 +136,16 @@ module _ (phase : Phase) (base : Ip) (size : ℕ) (names : Registered) (served :
     pub told : told' ≡ (ended s swap end).told
     pub table : installed'.table ≡ (ended s swap end).table
     pub capacity : installed'.capacity ≡ installed.capacity
+
+  module _ (pool : Tags) (adverts : Advertised) (shows : Shows core names classes pool installed adverts) (law : EndsLeadOn) (steady : IsSteady core) (swaps : IsSwap (setting_of core) swap)
+      (ends : (s : State) → IsSteadyInJob s → without_job s ≡ core → IsEnd s swap end) where
+    pub reached : (s : State) → IsSteadyInJob s → without_job s ≡ core → LeadsTo (ended s swap end) swap end classes pool installed adverts
+    reached s in_job is = law s swap end classes pool installed adverts (end_of core s is steady in_job.few swap end swaps (ends s in_job is)) (parts core names classes pool installed adverts shows s is)
+
+    pub committed : classes'.tag ≡ moved classes.tag swap.moves → classes'.kept ≡ kept_without classes.kept end.dead.items → installed'.table ≡ table_with installed.table swap.built end.gone end.changed
+        → installed'.capacity ≡ installed.capacity → told' ≡ adverts.told → (s : State) → IsSteadyInJob s → without_job s ≡ core → Committed s
+    committed tag kept table capacity told s in_job is =
+        let to = reached s in_job is in record { tag = tag ∙ to.tag; kept = kept ∙ to.kept; told = told ∙ to.told; table = table ∙ to.table; capacity = capacity }
 
   pub then_ended : (s : State) → without_job s ≡ core → Committed s → after ≡ ended s swap end
   then_ended s is done = λ i. record {
