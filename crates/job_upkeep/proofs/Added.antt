@@ -35,7 +35,7 @@ use Rattle.net_types.specs.Keys.{pair_cmp}
 use Rattle.net_types.specs.Sets.{IsRising, Member, union_over}
 use Rattle.net_types.specs.declared.route.PortInfo.{PortInfo}
 use Rattle.net_types.specs.declared.rule.Pair.{Pair}
-use Rattle.registry.specs.Registered.{Registered, ports_of}
+use Rattle.registry.specs.Registered.{ports_of}
 
 rerouting_built : (s s1 : State) (e : Event) (r : Reply) → is_rerouting e ≡ true → IsAnswer s e r s1 → IsBuilt s s1 none_rebuilt r
 rerouting_built s s1 (Update name bytes) r rerouting is = is
@@ -97,17 +97,14 @@ added_few s e r is_rebuilt plan steady rerouting edit is =
         (rising_once is_pair_before (before_itself pair_cmp pairs_total) plan.added (subst (λ ks. IsRising is_pair_before ks) (sym is.planned.added) is.planned.new.rising)) each in
     subst (λ n. length plan.added ≤ n) count few
   where
-    abbrev names : Registered
-    names = registered s
-
     one : (pair : Pair) → is_live_pair (retagged s r) pair ≡ true → is_live_pair s pair ≡ false → Member pair (union_over (cells s.routing.ports) plan.fresh.items)
     one pair live dead =
         let changes = change s r is_rebuilt plan is.base is.alike is.planned in
         let classes : List Class = made s r changes is.base.apart plan.tags in
-        let of_class = union-Member (class_pairs names) classes pair (new_pairs_all s r changes is.base.apart plan.tags pair live dead) in
+        let of_class = union-Member (class_pairs (registered s)) classes pair (new_pairs_all s r changes is.base.apart plan.tags pair live dead) in
         let c : Class = of_class.of in
-        let of_part = union-Member (sender_pairs names c.tag) c.sig pair of_class.gives in
-        let image = map-Member (pair_at c.tag) (ports_of names of_part.of.sender) pair of_part.gives in
+        let of_part = union-Member (sender_pairs (registered s) c.tag) c.sig pair of_class.gives in
+        let image = map-Member (pair_at c.tag) (ports_of (registered s) of_part.of.sender) pair of_part.gives in
         let port = port_listed s of_part.of.sender image.of image.stands in
         Member-union (cells s.routing.ports) plan.fresh.items c pair (subst (Member c) (sym is.planned.fresh) of_class.stands)
         (subst (λ q. Member q (cells s.routing.ports c)) (sym (image.is ∙ ap (pair_at c.tag) port.number)) (Member-map (λ (q : PortInfo). pair_at c.tag q.number) s.routing.ports port.port port.stands))
