@@ -74,10 +74,12 @@ module _ (s : State) (e : Event) (r : Routing) (is_rebuilt : Pair → Bool) (rer
 
   -- no live pair is built anew
   pub not_rebuilt : (pair : Pair) → is_live_pair s pair ≡ true → is_rebuilt pair ≡ false
-  not_rebuilt pair live = false_from_ne_true (is_rebuilt pair) (λ again.
-  let there : is_some (get s.table pair) ≡ true = pairs pair ∙ live in
-  let goes : Member pair (dropped s s1 is_rebuilt) = Member-filter (λ q. is_none (get s.table q) || is_rebuilt q) (keys s.table) pair (key_Member pair_cmp pairs_total tie s.table pair there) (or_right (is_none (get s.table pair)) (is_rebuilt pair) again) in
-  not_both (get s.table pair) there (filter-Member (λ q. is_none (get s.table q) || none_rebuilt q) (keys s.table) pair (subst (Member pair) drops_same goes)).passes)
+  not_rebuilt pair live =
+      let there : is_some (get s.table pair) ≡ true = pairs pair ∙ live in
+      let goes : is_rebuilt pair ≡ true → Member pair (dropped s s1 is_rebuilt) = λ again.
+      Member-filter (λ q. is_none (get s.table q) || is_rebuilt q) (keys s.table) pair (key_Member pair_cmp pairs_total tie s.table pair there) (or_right (is_none (get s.table pair)) (is_rebuilt pair) again) in
+      false_from_ne_true (is_rebuilt pair) (λ again.
+      not_both (get s.table pair) there (filter-Member (λ q. is_none (get s.table q) || none_rebuilt q) (keys s.table) pair (subst (Member pair) drops_same (goes again))).passes)
 
 -- the ports with the tag of a class
 abbrev cells : List PortInfo → Class → List Pair
@@ -94,7 +96,7 @@ pub added_few : AddedAreFew
 added_few s e r is_rebuilt plan steady rerouting edit is =
     let count = cells_count s.routing.ports plan.fresh.items in
     let few = no_longer plan.added (union_over (cells s.routing.ports) plan.fresh.items)
-        (rising_once is_pair_before (before_itself pair_cmp pairs_total) plan.added (subst (λ ks. IsRising is_pair_before ks) (sym is.planned.added) is.planned.new.rising)) each in
+    (rising_once is_pair_before (before_itself pair_cmp pairs_total) plan.added (subst (λ ks. IsRising is_pair_before ks) (sym is.planned.added) is.planned.new.rising)) each in
     subst (λ n. length plan.added ≤ n) count few
   where
     one : (pair : Pair) → is_live_pair (retagged s r) pair ≡ true → is_live_pair s pair ≡ false → Member pair (union_over (cells s.routing.ports) plan.fresh.items)

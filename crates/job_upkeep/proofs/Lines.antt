@@ -50,9 +50,9 @@ quiet_keep some steps leave units changes s e r job steady formed other quiet fi
     by (Some j) has_job = (
       quiet_owed units s e r other quiet ∙ has_job.0,
       subst (λ x. Covers x j) (sym (setting_without leave s e r other))
-      (changes (setting_of s) (setting_of (next (without_job s) e r)) j has_job.1
-      (stays_change (without_job s) (next (without_job s) e r) (quiet_stays (without_job s) e r other quiet fits)
-      (few_steady some (next (without_job s) e r) (steps (without_job s) e r steady formed other fits)))),
+          (changes (setting_of s) (setting_of (next (without_job s) e r)) j has_job.1
+          (stays_change (without_job s) (next (without_job s) e r) (quiet_stays (without_job s) e r other quiet fits)
+          (few_steady some (next (without_job s) e r) (steps (without_job s) e r steady formed other fits)))),
     )
 
 -- ---- a job begins
@@ -62,9 +62,9 @@ begin some live s j steady covers owed = (units, (ap Some (sym units), covers (s
   where
     units : j.owed ≡ all_units s
     units = owed ∙ ap capped (
-      ap (λ n. n + length (keys s.table)) (entries_carried (without_job s) steady.sound)
-      ∙ ap (λ ks. length (carried s.routing) + length ks) (live (without_job s) steady.sound steady.pooled)
-    )
+        ap (λ n. n + length (keys s.table)) (entries_carried (without_job s) steady.sound)
+        ∙ ap (λ ks. length (carried s.routing) + length ks) (live (without_job s) steady.sound steady.pooled)
+        )
 
     listed : IsListed (setting_of s) s.tag [] (keys s.table)
     listed = let few = few_steady some (without_job s) steady in record {

@@ -1,11 +1,11 @@
 -- A line that builds no rules gives no prefix another tag, keeps the signatures of tags that prefixes have, and adds no rules.
-use Rattle.std.proofs.Common.{◌≡◌, ℕ, Bool, true, false, cond, ◌&&◌, List, [], ◌∷◌, ◌++◌, sym, ap, subst, ◌∙◌, refl, inl, inr}
+use Rattle.std.proofs.Common.{◌≡◌, ℕ, Bool, true, false, cond, ◌&&◌, List, [], ◌∷◌, ◌++◌, map, sym, ap, subst, ◌∙◌, refl, inl, inr}
 use Rattle.std.specs.Prelude.{Option, Some, None, MatchOption, is_some, slice_set, take}
 use Rattle.std.specs.FinMap.{FinMap, get, get-remove, keys, remove}
 use Rattle.std.specs.Option.{option_map_or}
 use Rattle.std.specs.Ordering.{eq_by_cmp}
 use Rattle.events.specs.After.{accepted, after, next, next_by, put_flows, rules_put, running, settled, with_answer, with_known, with_port, with_resolved, with_told, without_pairs}
-use Rattle.events.specs.Fits.{Fits, FitsBy, IsAccepted, IsAnswer, IsSent, IsTagged, Passes, bare, destination, is_building, is_of_job, responder_reply}
+use Rattle.events.specs.Fits.{Fits, FitsBy, IsAccepted, IsAnswer, IsSent, IsTagged, IsTaken, Passes, asks_for, bare, by_table, destination, is_building, is_of_job, responder_reply}
 use Rattle.events.specs.Pending.{pending, with_all_news}
 use Rattle.events.specs.Refusals.{refusal}
 use Rattle.events.specs.Resolving.{is_pool_request, is_resolved, pool_mac, port_place, resolved_at, tag_address, unresolved}
@@ -144,12 +144,12 @@ module _ (s : State) (r : Reply) where
   answer_none (Export name text) s1 other quiet is = absurd (cc)
   answer_none (Outbound name text) s1 other quiet is = absurd (cc)
   answer_none (Inbound name text) s1 other quiet is = absurd (cc)
-  answer_none (Take name count) s1 other quiet is = where_known (pid_of s.routing name) _ (λ who taken. taken.adds) is
-  answer_none (Drain name) s1 other quiet is = where_known (pid_of s.routing name) _ (λ who taken. taken.adds) is
+  answer_none (Take name count) s1 other quiet is = where_known (pid_of s.routing name) (λ who. IsTaken s s1 who (take count (pending s who)) r) (λ who taken. taken.adds) is
+  answer_none (Drain name) s1 other quiet is = where_known (pid_of s.routing name) (λ who. IsTaken s s1 who (pending s who) r) (λ who taken. taken.adds) is
   answer_none (Arp n bytes) s1 other quiet is = arp_none bytes is
-  answer_none (Resolve n) s1 other quiet is = where_known (port_of s n) _ (λ q asks. ap (λ (x : Reply). x.adds) asks) is
-  answer_none (Packet n bytes) s1 other quiet is = where_known (port_of s n) _ (λ q sent. sent_none q bytes (longest_of (keys (told_to s q.owner)) (destination bytes)) sent) is
-  answer_none (Frame n bytes) s1 other quiet is = where_known (port_of s n) _ (λ q frames. ap (λ (x : Reply). x.adds) frames) is
+  answer_none (Resolve n) s1 other quiet is = where_known (port_of s n) (λ q. r ≡ record (bare Fine) { asks = map (asks_for s q) (unresolved s q) }) (λ q asks. ap (λ (x : Reply). x.adds) asks) is
+  answer_none (Packet n bytes) s1 other quiet is = where_known (port_of s n) (λ q. IsSent s q bytes r (longest_of (keys (told_to s q.owner)) (destination bytes))) (λ q sent. sent_none q bytes (longest_of (keys (told_to s q.owner)) (destination bytes)) sent) is
+  answer_none (Frame n bytes) s1 other quiet is = where_known (port_of s n) (λ q. r ≡ record (bare Fine) { frames = by_table s q bytes }) (λ q frames. ap (λ (x : Reply). x.adds) frames) is
   answer_none Recompile s1 other quiet is = absurd (cc)
   answer_none (Work units) s1 other quiet is = absurd (cc)
   answer_none Table s1 other quiet is = refl
