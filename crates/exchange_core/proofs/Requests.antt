@@ -43,7 +43,7 @@ use Rattle.net_types.specs.declared.rule.Pair.{Pair}
 use Rattle.route_server.specs.Proposed.{IsProposal, Proposed, named_with}
 use Rattle.exchange_core.proofs.Bounds.{built_few}
 use Rattle.exchange_core.proofs.Steps.{in_place, placed}
-use Rattle.exchange_core.specs.Building.{Asks, IsReceiving, IsSending, Leads, base_by, base_of}
+use Rattle.exchange_core.specs.Building.{Asks, IsOfKind, IsReceiving, IsSending, Leads, base_by, base_of}
 use Rattle.exchange_core.specs.Changing.{IsSender, Proposes, Reroutes}
 use Rattle.exchange_core.specs.PolicyTexts.{or_misread, policy_or_refusal}
 use Rattle.exchange_core.specs.Programs.{IsChangeCompiled, IsChangeOf}
@@ -149,6 +149,7 @@ rerouting_leads bases edits s e r p q steady reroutes proposal rebuild change =
     let is : base_of s q ≡ s = λ i. base_by s (named i) (change i) in
     record {
       building = builds e reroutes.building;
+      kind = subst (IsOfKind e q.proposal.named) (sym change) (reroutes.building, named);
       refuses = subst (λ x. refusal s e ≡ tags_refusal x r) (sym is) reroutes.refuses;
       edits = λ none. subst (λ x. IsEdit s e x r none_rebuilt) (sym is) (edits s e r (record { passes = none; building = reroutes.building; leaves = reroutes.leaves }));
       base = subst (λ x. IsBase x none_rebuilt) (sym is) (bases s steady);
@@ -233,6 +234,7 @@ module _ (s : State) (name text : List ℕ) (who : Pid) (sender : IsSender s nam
       let is : base_of s q ≡ base = (λ i. base_by s (sending.named i) (sending.change i)) ∙ ap (λ t. outbound_base s who t named) sending.read in
       record {
         building = refl;
+        kind = subst (IsOfKind (Out name text) q.proposal.named) (sym sending.change) refl;
         refuses = subst (λ x. refusal s (Out name text) ≡ tags_refusal x r) (sym is) (out_read p e ∙ ap (λ o. or_else o (tags_refusal (with_outbound s who text named) r)) passes);
         edits = λ none. subst (λ x. IsEdit s (Out name text) x r (is_senders s who)) (sym is) (edits s name text who p steady sender.known read.1 none);
         base = subst (λ x. IsBase x (is_senders s who)) (sym is) holds;
@@ -280,6 +282,7 @@ module _ (s : State) (name text : List ℕ) (who : Pid) (sender : IsSender s nam
       let none : refusal s (In name text) ≡ None = in_read p e ∙ passes in
       record {
         building = refl;
+        kind = subst (IsOfKind (In name text) q.proposal.named) (sym receiving.change) refl;
         refuses = subst (λ x. refusal s (In name text) ≡ tags_refusal x s.routing) (sym is) (none ∙ sym (enough_pass base s.routing (changes s who text p steady read.1).enough));
         edits = λ none. subst (λ x. IsEdit s (In name text) x s.routing (is_receivers s who)) (sym is) (edits s name text who p steady sender.known read.1 none);
         base = subst (λ x. IsBase x (is_receivers s who)) (sym is) holds;

@@ -1,5 +1,5 @@
 -- Lines that build rules: what they ask for (this exchange's own rule).
-use Rattle.std.specs.Prelude.{◌≡◌, ℕ, ◌≤◌, Bool, true, List, filter, length, slice_set, Option, Some, None, Result, Ok, Err}
+use Rattle.std.specs.Prelude.{◌≡◌, ℕ, ◌≤◌, Bool, true, false, List, filter, length, slice_set, Option, Some, None, Result, Ok, Err}
 use Rattle.std.specs.FinMap.{keys}
 use Rattle.events.specs.After.{with_named}
 use Rattle.events.specs.Fits.{is_building, is_receivers, is_senders}
@@ -9,6 +9,7 @@ use Rattle.events.specs.declared.Event.{Event}
 use Rattle.events.specs.declared.Refusal.{Refusal}
 use Rattle.exchange_laws.specs.Editing.{IsBase, IsEdit, both}
 use Rattle.exchange_laws.specs.Listed.{AreThose}
+use Rattle.exchange_laws.specs.Rerouting.{is_rerouting}
 use Rattle.exchange_laws.specs.Rules.{IsDeclaredAlike}
 use Rattle.fast_path.specs.Grouping.{kept_by}
 use Rattle.fast_path.specs.Plans.{build_count, is_rebuilt_live}
@@ -21,7 +22,7 @@ use Rattle.route_server.specs.Proposed.{IsProposal, named_with}
 use Rattle.exchange_core.specs.Programs.{IsChangeCompiled, IsChangeOf, IsCompiled, inbound_after, outbound_after}
 use Rattle.exchange_core.specs.Steps.{built_count}
 use Rattle.exchange_core.specs.declared.programs.PolicyChange.{PolicyChange}
-use Rattle.exchange_core.specs.declared.programs.PolicyChange.TheVariants.{Outbound, Inbound}
+use Rattle.exchange_core.specs.declared.programs.PolicyChange.TheVariants.{Stay, Outbound, Inbound}
 use Rattle.exchange_core.specs.declared.programs.Program.{Program}
 use Rattle.exchange_core.specs.declared.request.Request.{Request}
 
@@ -44,10 +45,17 @@ base_by s named change = record s {
 abbrev pub base_of : State → Request → State
 base_of s q = base_by s q.proposal.named q.change
 
+-- Exactly where all policies stay, the line changes the routes, and then nobody comes to name others.
+abbrev pub IsOfKind : Event → Option (Pid × List Pid) → PolicyChange → Type 0
+IsOfKind e named Stay = (is_rerouting e ≡ true) × (named ≡ None)
+IsOfKind e named (Outbound who program) = is_rerouting e ≡ false
+IsOfKind e named (Inbound who program) = is_rerouting e ≡ false
+
 -- The line would build rules on the state of the request, for these routes, and build these pairs anew. It is refused at most
 -- for want of tags or of room for the rules, and builds no more pairs than such a line does.
 pub record Leads (s : State) (e : Event) (r : Routing) (is_rebuilt : Pair → Bool) (q : Request) : Type 0 where
   pub building : is_building e ≡ true
+  pub kind : IsOfKind e q.proposal.named q.change
   pub refuses : refusal s e ≡ tags_refusal (base_of s q) r
   pub edits : refusal s e ≡ None → IsEdit s e (base_of s q) r is_rebuilt
   pub base : IsBase (base_of s q) is_rebuilt

@@ -23,6 +23,7 @@ use crate::programs::Programs;
 use crate::replies::refused;
 use advert_queue::Adverts;
 use events::{Event, Phase, Refusal, Reply};
+use job_upkeep::quiet_lines_keep_jobs;
 use match_switch::Switch;
 use net_types::{Ip, Memory, Steps};
 use next_hop_pool::Pool;
@@ -123,6 +124,7 @@ impl Core {
         ensures job_unchanged { OnErr result (job.new ≡ job.old) }
         ensures steps { steps.new ≤ steps.old + step_bound self.old event.now }
     {
+        quiet_lines_keep_jobs();
         match event {
             Event::Bad => Ok(refused(self.alloc, Refusal::BadLine)),
             Event::Exchange {

@@ -14,6 +14,7 @@ mod replies;
 mod request;
 mod exchange;
 mod taking;
+mod telling;
 
 pub use exchange::Core;
 pub use replies::{bare_reply, refused};

@@ -4,7 +4,7 @@ use Rattle.events.specs.After.{next}
 use Rattle.events.specs.State.{State}
 use Rattle.events.specs.declared.Event.{Event}
 use Rattle.events.specs.declared.Reply.{Reply}
-use Rattle.exchange_core.specs.Steps.{step_bound}
+use Rattle.sdx_core.specs.Steps.{step_bound}
 
 -- the bounds of the lines with replies, each in the state that the lines before leave
 abbrev pub run_bound : State → List Event → List Reply → ℕ

@@ -9,15 +9,18 @@ ghost use Rattle.events.specs.declared.Event.{Event};
 ghost use Rattle.fast_path.specs.Plans.{IsFault, IsPlan, IsWithinSteps};
 ghost use Rattle.exchange_core.specs.Building.{Asks, Leads, base_of};
 ghost use Rattle.exchange_core.specs.Changing.{Proposes};
+ghost use Rattle.exchange_core.specs.Jobs.{KeepsJob};
 ghost use Rattle.exchange_core.specs.Steps.{step_bound};
 
 use super::Core;
 use crate::programs::{carry_out, lend_changed};
 use crate::replies::{changes_reply, refused};
 use crate::request::{Request, rerouting};
+use crate::telling::tell_job;
 use events::{Head, Phase, Refusal, Reply};
 use exchange_laws::{reroutings_are_edits, steady_states_are_bases};
 use fast_path::{FastFault, Plan, commit, plan, plans_are_committed, reserve};
+use job_upkeep::{added_are_few, no_jobs_start, policies_keep_jobs, reroutings_keep_jobs};
 use net_types::{Memory, Steps};
 use recompile::Job;
 use route_server::Proposal;
@@ -46,6 +49,8 @@ impl Core {
         requires { (e : Event) × IsWellFormed e × Asks self.old e asked }
         ensures step { IfOk result (λ reply. (e : Event) → IsWellFormed e → Asks self.old e asked → IsStep self.old e reply self.new) }
         ensures unchanged { OnErr result (self.new ≡ self.old) }
+        ensures job { IfOk result (λ reply. (e : Event) → IsWellFormed e → Asks self.old e asked → KeepsJob self.old e reply job.old job.new) }
+        ensures job_unchanged { OnErr result (job.new ≡ job.old) }
         ensures steps { (e : Event) → IsWellFormed e → Asks self.old e asked → steps.new ≤ steps.old + step_bound self.old e }
     {
         match asked {
@@ -64,6 +69,8 @@ impl Core {
         requires { (e : Event) × IsWellFormed e × (r : Routing) × (is_rebuilt : Pair → Bool) × Leads self.old e r is_rebuilt request }
         ensures step { IfOk result (λ reply. (e : Event) (r : Routing) (is_rebuilt : Pair → Bool) → IsWellFormed e → Leads self.old e r is_rebuilt request → IsStep self.old e reply self.new) }
         ensures unchanged { OnErr result (self.new ≡ self.old) }
+        ensures job { IfOk result (λ reply. (e : Event) (r : Routing) (is_rebuilt : Pair → Bool) → IsWellFormed e → Leads self.old e r is_rebuilt request → KeepsJob self.old e reply job.old job.new) }
+        ensures job_unchanged { OnErr result (job.new ≡ job.old) }
         ensures steps { (e : Event) (r : Routing) (is_rebuilt : Pair → Bool) → Leads self.old e r is_rebuilt request → IsWithinSteps (base_of self.old request) r is_rebuilt steps.old steps.new }
     {
         let plan = match self.planned(&request, steps) {
@@ -77,6 +84,10 @@ impl Core {
             Err(FastFault::Memory) => return Err(Memory),
         };
         plans_are_committed();
+        added_are_few();
+        reroutings_keep_jobs();
+        policies_keep_jobs();
+        no_jobs_start();
         self.server.reserve(&request.proposal)?;
         reserve(
             self.alloc,
@@ -86,7 +97,15 @@ impl Core {
             &mut self.adverts,
         )?;
         self.switch.reserve(plan.blocks.len())?;
-        self.tell_job(job, &request.change, &plan)?;
+        tell_job(
+            self.alloc,
+            &self.registry,
+            &self.classes,
+            &self.switch,
+            &request.change,
+            &plan,
+            job,
+        )?;
         let Request {
             proposal,
             change,

@@ -6,6 +6,7 @@ ghost use Rattle.events.specs.Fits.{IsStep};
 ghost use Rattle.events.specs.Lines.{is_utf8};
 ghost use Rattle.events.specs.declared.Event.TheVariants as lines;
 ghost use Rattle.exchange_core.specs.Changing.{Proposes, rules_or_refusal, session};
+ghost use Rattle.exchange_core.specs.Jobs.{KeepsJob};
 ghost use Rattle.exchange_core.specs.Steps.{step_bound};
 
 use super::Core;
@@ -30,6 +31,8 @@ impl Core {
         requires { IsWellFormed (lines.Update name.now bytes.now) }
         ensures step { IfOk result (λ reply. IsStep self.old (lines.Update name.now bytes.now) reply self.new) }
         ensures unchanged { OnErr result (self.new ≡ self.old) }
+        ensures job { IfOk result (λ reply. KeepsJob self.old (lines.Update name.now bytes.now) reply job.old job.new) }
+        ensures job_unchanged { OnErr result (job.new ≡ job.old) }
         ensures steps { steps.new ≤ steps.old + step_bound self.old (lines.Update name.now bytes.now) }
     {
         let proposed = self.update_asked(name, bytes)?;
@@ -47,6 +50,8 @@ impl Core {
         requires { IsWellFormed (lines.Down name.now) }
         ensures step { IfOk result (λ reply. IsStep self.old (lines.Down name.now) reply self.new) }
         ensures unchanged { OnErr result (self.new ≡ self.old) }
+        ensures job { IfOk result (λ reply. KeepsJob self.old (lines.Down name.now) reply job.old job.new) }
+        ensures job_unchanged { OnErr result (job.new ≡ job.old) }
         ensures steps { steps.new ≤ steps.old + step_bound self.old (lines.Down name.now) }
     {
         let proposed = self.down_asked(name)?;
@@ -65,6 +70,8 @@ impl Core {
         requires { IsWellFormed (lines.Export name.now text.now) }
         ensures step { IfOk result (λ reply. IsStep self.old (lines.Export name.now text.now) reply self.new) }
         ensures unchanged { OnErr result (self.new ≡ self.old) }
+        ensures job { IfOk result (λ reply. KeepsJob self.old (lines.Export name.now text.now) reply job.old job.new) }
+        ensures job_unchanged { OnErr result (job.new ≡ job.old) }
         ensures steps { steps.new ≤ steps.old + step_bound self.old (lines.Export name.now text.now) }
     {
         let proposed = self.export_asked(name, text)?;

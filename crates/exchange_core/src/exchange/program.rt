@@ -12,6 +12,7 @@ ghost use Rattle.net_types.specs.Isolation.{in_faults, out_faults};
 ghost use Rattle.net_types.specs.PolicyReading.{policy_of_text};
 ghost use Rattle.policy_syntax.specs.Views.{policy_of};
 ghost use Rattle.exchange_core.specs.Building.{Asks, IsReceiving, IsSending};
+ghost use Rattle.exchange_core.specs.Jobs.{KeepsJob};
 ghost use Rattle.exchange_core.specs.Steps.{step_bound};
 
 use super::Core;
@@ -41,6 +42,8 @@ impl Core {
         requires { IsWellFormed (lines.Outbound name.now text.now) }
         ensures step { IfOk result (λ reply. IsStep self.old (lines.Outbound name.now text.now) reply self.new) }
         ensures unchanged { OnErr result (self.new ≡ self.old) }
+        ensures job { IfOk result (λ reply. KeepsJob self.old (lines.Outbound name.now text.now) reply job.old job.new) }
+        ensures job_unchanged { OnErr result (job.new ≡ job.old) }
         ensures steps { steps.new ≤ steps.old + step_bound self.old (lines.Outbound name.now text.now) }
     {
         let asked = self.outbound_asked(name, text)?;
@@ -58,6 +61,8 @@ impl Core {
         requires { IsWellFormed (lines.Inbound name.now text.now) }
         ensures step { IfOk result (λ reply. IsStep self.old (lines.Inbound name.now text.now) reply self.new) }
         ensures unchanged { OnErr result (self.new ≡ self.old) }
+        ensures job { IfOk result (λ reply. KeepsJob self.old (lines.Inbound name.now text.now) reply job.old job.new) }
+        ensures job_unchanged { OnErr result (job.new ≡ job.old) }
         ensures steps { steps.new ≤ steps.old + step_bound self.old (lines.Inbound name.now text.now) }
     {
         let asked = self.inbound_asked(name, text)?;

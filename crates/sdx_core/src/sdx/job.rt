@@ -9,6 +9,10 @@ ghost use Rattle.sdx_core.specs.Steps.{step_bound};
 use super::Sdx;
 use events::{Event, Head, Refusal, Reply};
 use exchange_core::{bare_reply, refused};
+use job_laws::{
+    all_steps_stay_steady, jobs_leave_lines, recompiles_are_accepted, works_are_accepted,
+};
+use job_upkeep::jobs_begin;
 use net_types::{Memory, Steps};
 use recompile::{Job, Progress};
 use std::sync::ledger::Ledger;
@@ -26,6 +30,9 @@ impl Sdx {
         ensures unchanged { OnErr result (self.new ≡ self.old) }
         ensures steps { steps.new ≤ steps.old + step_bound self.old event.now }
     {
+        jobs_leave_lines();
+        all_steps_stay_steady();
+        self.core.is_steady();
         self.core.step(event, &mut self.job, steps)
     }
 
@@ -34,6 +41,9 @@ impl Sdx {
         ensures step { IfOk result (λ reply. IsStep self.old lines.Recompile reply self.new) }
         ensures unchanged { OnErr result (self.new ≡ self.old) }
     {
+        recompiles_are_accepted();
+        jobs_begin();
+        self.core.is_steady();
         if self.job.is_some() || !self.core.is_declared() {
             return Ok(refused(self.alloc, Refusal::Misplaced));
         }
@@ -55,6 +65,8 @@ impl Sdx {
         ensures unchanged { OnErr result (self.new ≡ self.old) }
         ensures steps { steps.new ≤ steps.old + step_bound self.old (lines.Work units) }
     {
+        works_are_accepted();
+        self.core.is_steady();
         if !self.core.is_declared() {
             return Ok(refused(self.alloc, Refusal::Misplaced));
         }
@@ -68,6 +80,7 @@ impl Sdx {
             }
             Progress::Ready(swap) => match self.core.finish(swap) {
                 Ok(reply) => {
+                    self.core.is_steady();
                     self.job = None;
                     Ok(reply)
                 }
