@@ -30,9 +30,13 @@ pub struct Job {
 }
 
 impl Model for Job {
+    ghost use Rattle.std.specs.Coded.{codes};
+    ghost use Rattle.std.specs.FinMap as map;
     ghost use Rattle.recompile.specs.Underway.{Underway};
 
     ghost Value = { Underway };
+
+    ghost coded = { Prim.hlevel (codes, map.code) };
 
     ghost view = { λ j. record { owed = j.owed; placed = j.placed; built = j.built; tags = j.tags.items; pairs = j.pairs.items } };
 }
@@ -40,9 +44,9 @@ impl Model for Job {
 impl Job {
     /// A job of which nothing is done, for classes and the pairs of a table, each once. It owes a unit for each prefix that has
     /// a tag and each pair. Memory is the only refusal.
-    pub fn start(_alloc: Global, _classes: &ClassMap, _pairs: Pairs) -> Result<Job, Memory>
-        ensures owed { IfOk result (λ job. job.owed ≡ capped (length (entries _classes.now.tag) + length _pairs)) }
-        ensures covers { IfOk result (CoversListed _classes.now.tag [] _pairs) }
+    pub fn start(alloc: Global, classes: &ClassMap, pairs: Pairs) -> Result<Job, Memory>
+        ensures owed { IfOk result (λ job. job.owed ≡ capped (length (entries classes.now.tag) + length pairs)) }
+        ensures covers { IfOk result (CoversListed classes.now.tag [] pairs) }
     {
         Err(Memory)
     }
