@@ -1,4 +1,5 @@
 mod RowSteps
+mod ChoiceSteps
 mod RowLaws
 mod ServedLaws
 mod Parts
@@ -8,6 +9,7 @@ mod UpdateLaws
 mod ProposalLaws
 mod DownLaws
 mod ExportLaws
+mod ChoiceLaws
 mod BestLaws
 mod ShortPaths
 mod NameLaws

@@ -4,6 +4,7 @@
 mod admission;
 mod bests;
 mod change;
+mod choices;
 mod down;
 mod edits;
 mod effect;
