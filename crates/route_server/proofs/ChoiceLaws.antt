@@ -1,5 +1,5 @@
 -- What the places of the best routes say of the best attributes.
-use Rattle.std.proofs.Common.{◌≡◌, ℕ, ◌+◌, ◌-◌, ◌<◌, Bool, true, false, ◌&&◌, List, [], ◌∷◌, map, length, Option, Some, None, sym, ap, subst, ◌∙◌, refl, true≢false}
+use Rattle.std.proofs.Common.{◌≡◌, ℕ, ◌+◌, ◌-◌, ◌<◌, Bool, true, ◌&&◌, List, [], ◌∷◌, map, length, Option, Some, None, sym, ap, ◌∙◌, refl, true≢false}
 use Rattle.std.specs.Prelude.{slice_get, nat_eq}
 use Rattle.std.specs.List.{list_all}
 use Rattle.std.specs.Option.{option_and_then, option_map}
@@ -9,7 +9,6 @@ use Rattle.net_types.specs.Exports.{Routing}
 use Rattle.net_types.specs.Routes.{Candidate, best_of, pids}
 use Rattle.net_types.specs.declared.address.Pid.{Pid}
 use Rattle.net_types.specs.declared.prefix.Prefix.{Prefix}
-use Rattle.net_types.specs.declared.route.Attrs.{Attrs}
 use Rattle.route_server.specs.Choices.{AreChosen}
 use Rattle.route_server.specs.Effects.{place_attrs, best_by_row}
 use Rattle.route_server.specs.Rows.{held_at, offered}

@@ -1,4 +1,4 @@
-use Rattle.std.proofs.Common.{◌≡◌, take}
+use Rattle.std.proofs.Common.{take}
 use Rattle.route_server.specs.Choices.{AreAt}
 use Rattle.route_server.specs.Rows.{settled_by, offered}
 use Rattle.route_server.proofs.choices.give.Given as goal

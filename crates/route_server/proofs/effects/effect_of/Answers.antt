@@ -1,11 +1,11 @@
-use Rattle.std.proofs.Common.{◌≡◌, ◌&&◌, map, subst, sym, ap, ◌∙◌, refl}
+use Rattle.std.proofs.Common.{◌&&◌, map, subst, sym, ap, ◌∙◌, refl}
 use Rattle.std.specs.List.{list_all}
 use Rattle.std.specs.Option.{option_and_then}
 use Rattle.net_types.specs.Attributes.{same_option, same_attrs, same_signature}
 use Rattle.net_types.specs.Routes.{pids}
 use Rattle.registry.specs.Registered.{Registered}
 use Rattle.route_server.specs.Choices.{AreChosen}
-use Rattle.route_server.specs.Effects.{best_by_row, same_by_rows}
+use Rattle.route_server.specs.Effects.{best_by_row}
 use Rattle.route_server.specs.Rows.{settled_by, held_at, signature_of}
 use Rattle.route_server.proofs.ChoiceLaws.{chosen_bests}
 use Rattle.route_server.proofs.effects.effect_of.Goals as goal
