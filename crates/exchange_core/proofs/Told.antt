@@ -45,6 +45,12 @@ pub quiet_keeps : QuietLinesKeepJobs → (s : State) (e : Event) (reply : Reply)
 quiet_keeps law s e reply s' old new steady formed line quiet step same = λ w core has.
     subst (HasJob (next w e reply)) (sym same) (law w e reply old (subst IsSteady (sym core) steady) formed line quiet (subst (λ (x : State). Fits x e reply) (sym core) step.fits) has)
 
+-- so it is where the line is one of these
+pub quiet_result : QuietLinesKeepJobs → (s : State) (e d : Event) → e ≡ d → is_building d ≡ false → IsSteady s → IsWellFormed e → is_of_job e ≡ false → (result : Result Reply Memory) (s' : State) (job : Option Underway)
+    → IfOk result (λ reply. IsStep s d reply s') → IfOk result (λ reply. KeepsJob s e reply job job)
+quiet_result law s e d is quiet steady formed line (Ok reply) s' job step = quiet_keeps law s e reply s' job job steady formed line (ap is_building is ∙ quiet) (subst (λ x. IsStep s x reply s') (sym is) step) refl
+quiet_result law s e d is quiet steady formed line (Err m) s' job step = tt
+
 -- ---- lines that build rules
 
 -- no line that builds rules is a job's
