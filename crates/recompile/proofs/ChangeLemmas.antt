@@ -1,13 +1,12 @@
 -- What a job covers at its start and after a line.
 use Rattle.std.proofs.Common.{◌≡◌, ℕ, zero, suc, ◌+◌, ◌*◌, ◌≤◌, ◌<◌, ◌⊎◌, Bool, true, false, cond, List, [], ◌∷◌, ◌++◌, length, map, refl, sym, ap, subst, ◌∙◌, inl, inr, arith}
-use Rattle.std.specs.Prelude.{Option, Some, None, is_some, nat_lt}
+use Rattle.std.specs.Prelude.{None, is_some, nat_lt}
 use Rattle.std.specs.declared.cmp.Ordering.{Ordering}
 use Rattle.std.specs.Cmp.{IsTotalOrder}
 use Rattle.std.specs.FinMap.{FinMap, empty, entries, get, remove, get-empty, get-remove}
 use Rattle.std.specs.Ordering.{eq_by_cmp}
 use Rattle.std.proofs.lemmas.Bool.{false≢true}
 use Rattle.std.proofs.lemmas.List.{append-nil, length-append, length-map}
-use Rattle.block_build.specs.Tight.{IsTightForm}
 use Rattle.events.specs.Tags.{capped}
 use Rattle.net_types.proofs.FindLemmas.{not_there}
 use Rattle.net_types.proofs.OrderLemmas.{pairs_total, tags_total}
@@ -17,13 +16,11 @@ use Rattle.net_types.specs.Keys.{pair_cmp, prefix_cmp, tag_cmp}
 use Rattle.net_types.specs.Sets.{Member}
 use Rattle.net_types.specs.declared.address.Tag.{Tag}
 use Rattle.net_types.specs.declared.prefix.Prefix.{Prefix}
-use Rattle.net_types.specs.declared.route.Part.{Part}
 use Rattle.net_types.specs.declared.rule.Pair.{Pair}
-use Rattle.net_types.specs.declared.rule.Rule.{Rule}
-use Rattle.prefix_classes.specs.Classes.{count_of, is_tag, members}
+use Rattle.prefix_classes.specs.Classes.{count_of, members}
 use Rattle.recompile.proofs.CoverLemmas.{needs_more, pairs_tie, tags_tie}
-use Rattle.recompile.specs.Changing.{CoversAfter, CoversListed, IsChange, IsListed, QuietChangesKeepJobs}
-use Rattle.recompile.specs.Covering.{AreFew, Covers, IsKeptUp, IsPairToDo, IsTagToDo, NeedsAtMost}
+use Rattle.recompile.specs.Changing.{CoversAfter, CoversListed, IsChange, QuietChangesKeepJobs}
+use Rattle.recompile.specs.Covering.{AreFew, IsKeptUp, IsPairToDo, IsTagToDo, NeedsAtMost}
 use Rattle.recompile.specs.Setting.{Setting}
 use Rattle.recompile.specs.Underway.{Underway}
 use Rattle.recompile.specs.Units.{AreListed, without_each}
@@ -135,11 +132,11 @@ module _ (before after : Setting) (fresh emptied : List Tag) (added : List Pair)
     placed = λ t sig has. elim (tag_cases t) [
       | inl gone ↦ absurd (not_there (get new.placed t) sig gone.1 has)
       | inr stays ↦
-        let was = kept.placed t sig (sym stays.1 ∙ has) in
-        elim (some_or_none (members after.tag t)) [
-          | inl none ↦ absurd (stays.0 (change.lost t was.0 none))
-          | inr some ↦ (some, change.kept t was.0 some ∙ was.1)
-        ]
+          let was = kept.placed t sig (sym stays.1 ∙ has) in
+          elim (some_or_none (members after.tag t)) [
+            | inl none ↦ absurd (stays.0 (change.lost t was.0 none))
+            | inr some ↦ (some, change.kept t was.0 some ∙ was.1)
+          ]
     ];
     tags = λ t todo. subst (Member t) (sym tags) (elim (tag_from t todo) [
       | inl was ↦ Member-append_left old.tags fresh t (kept.tags t was)
@@ -180,10 +177,10 @@ pub changed_covers : (fresh emptied : List Tag) (added : List Pair) (newly ports
 changed_covers fresh emptied added newly ports old new few placed built tags pairs owed before after covers change = record {
   kept_up = changed_kept before after fresh emptied added old new placed built tags pairs change covers.kept_up;
   enough = subst (NeedsAtMost after new) (sym owed) (capped_enough after new (old.owed + (newly + length fresh * (ports + 1))) change.few (
-    needs_more after new (old.owed + (length fresh + length added)) (old.owed + (newly + length fresh * (ports + 1)))
-    (let each : length fresh * (ports + 1) ≡ length fresh * ports + length fresh = one_more (length fresh) ports in omega (arith, each, few))
-    (changed_needs before after fresh emptied added old new placed built tags pairs change old.owed covers.enough)
-  ));
+      needs_more after new (old.owed + (length fresh + length added)) (old.owed + (newly + length fresh * (ports + 1)))
+      (let each : length fresh * (ports + 1) ≡ length fresh * ports + length fresh = one_more (length fresh) ports in omega (arith, each, few))
+      (changed_needs before after fresh emptied added old new placed built tags pairs change old.owed covers.enough)
+      ));
 }
   where
     one_more : (a b : ℕ) → a * (b + 1) ≡ a * b + a

@@ -1,11 +1,11 @@
 -- What single units leave of a job, and what a job has of which nothing is left to do.
-use Rattle.std.proofs.Common.{◌≡◌, ℕ, zero, suc, ◌+◌, ◌-◌, ◌≤◌, ◌<◌, ◌⊎◌, Bool, true, false, cond, List, [], ◌∷◌, length, refl, sym, ap, subst, ◌∙◌, inl, inr, arith}
-use Rattle.std.specs.Prelude.{Option, Some, None, is_some, nat_lt}
+use Rattle.std.proofs.Common.{◌≡◌, ℕ, ◌+◌, ◌-◌, ◌≤◌, ◌<◌, ◌⊎◌, Bool, true, false, cond, List, [], ◌∷◌, length, refl, sym, ap, subst, ◌∙◌, inl, inr, arith}
+use Rattle.std.specs.Prelude.{Option, Some, None, is_some, min, nat_lt}
 use Rattle.std.specs.declared.cmp.Ordering.{Ordering}
-use Rattle.std.specs.FinMap.{FinMap, get, insert, get-insert}
+use Rattle.std.specs.FinMap.{FinMap, empty, get, insert, get-insert}
 use Rattle.std.specs.Cmp.{IsTotalOrder}
 use Rattle.std.specs.Ordering.{eq_by_cmp}
-use Rattle.std.proofs.lemmas.Bool.{ltb-false, ltb-true}
+use Rattle.std.proofs.lemmas.Bool.{false≢true, ltb-false, ltb-true}
 use Rattle.block_build.specs.Tight.{IsTightForm}
 use Rattle.net_types.proofs.FindLemmas.{not_there}
 use Rattle.net_types.proofs.OrderLemmas.{pairs_total, tags_total}
@@ -17,11 +17,14 @@ use Rattle.net_types.specs.declared.route.Part.{Part}
 use Rattle.net_types.specs.declared.rule.Pair.{Pair}
 use Rattle.net_types.specs.declared.rule.Rule.{Rule}
 use Rattle.prefix_classes.specs.Classes.{members}
-use Rattle.prefix_classes.specs.Merging.{IsFull, used_sig}
+use Rattle.prefix_classes.specs.Merging.{IsFull, IsMergeOf}
 use Rattle.recompile.specs.Covering.{Covers, IsKeptUp, IsPairToDo, IsTagToDo, NeedsAtMost}
 use Rattle.recompile.specs.Setting.{Setting}
 use Rattle.recompile.specs.Underway.{Underway}
 use Rattle.recompile.specs.Units.{KeepsThose, NeedsFewer}
+use Rattle.recompile.specs.Working.{IsProgress, with_built}
+use Rattle.recompile.specs.declared.swap.Progress.TheVariants.{Ready}
+use Rattle.recompile.specs.declared.swap.Swap.{Swap}
 
 pub tags_tie : (x y : Tag) → eq_by_cmp tag_cmp x y ≡ true → x ≡ y
 tags_tie = same_from_tie tag_cmp tag_cmp-IsAntisymmetric
@@ -84,6 +87,11 @@ module _ {K X : Type 0} (R : K → K → Ordering) (total : IsTotalOrder R) (tie
     where
       itself : (q : K) → q ≡ k → get n q ≡ Some v
       itself q same = subst (λ x. get n x ≡ Some v) (sym same) (ap (λ x. get x k) is ∙ get-insert total m k v k ∙ ap (λ c. cond c (Some v) (get m k)) (ties_itself total k))
+
+-- what is there of an option that has something
+pub some_of : {A : Type 0} (o : Option A) → is_some o ≡ true → (x : A) × (o ≡ Some x)
+some_of None e = absurd (false≢true e)
+some_of (Some x) e = (x, refl)
 
 -- ---- nothing is done but that a list is shortened
 
@@ -163,9 +171,9 @@ module _ (s : Setting) (old new : Underway) (p : Pair) (rules had : List Rule) (
     pairs = λ q left. let before = (pair_still q left).1 in pairs q before (kept.pairs q before);
     built = λ q others before has was. elim (put_cases pair_cmp pairs_total pairs_tie old.built new.built p rules built q) [
       | inl here ↦
-        let same_rules : rules ≡ others = let e : Some rules ≡ Some others = sym here.1 ∙ has in cc in
-        let same_had : had ≡ before = let e : Some had ≡ Some before = sym there ∙ ap (get s.table) (sym here.0) ∙ was in cc in
-        subst (λ x. IsTightForm x others) same_had (subst (IsTightForm had) same_rules tight)
+          let same_rules : rules ≡ others = let e : Some rules ≡ Some others = sym here.1 ∙ has in cc in
+          let same_had : had ≡ before = let e : Some had ≡ Some before = sym there ∙ ap (get s.table) (sym here.0) ∙ was in cc in
+          subst (λ x. IsTightForm x others) same_had (subst (IsTightForm had) same_rules tight)
       | inr same ↦ kept.built q others before (sym same ∙ has) was
     ];
   }
@@ -225,3 +233,48 @@ module _ (s : Setting) (j : Underway) (kept : IsKeptUp s j) (needs : NeedsAtMost
       by : (o : Option (List Rule)) → get j.built pair ≡ o → (rules : List Rule) × (get j.built pair ≡ Some rules) × IsTightForm old rules
       by (Some rules) has = (rules, has, kept.built pair rules old has there)
       by None has = absurd (all_built pair (ap is_some there, has))
+
+-- ---- units one after another
+
+pub fewer_none : (s : Setting) (j : Underway) → NeedsFewer s 0 j j
+fewer_none s j units needs = needs_more s j units (units - 0) (omega arith) needs
+
+pub fewer_then : (s : Setting) (old mid new : Underway) (m n : ℕ) → NeedsFewer s m old mid → NeedsFewer s n mid new → NeedsFewer s (m + n) old new
+fewer_then s old mid new m n first then units needs = needs_more s new (units - m - n) (units - (m + n)) (omega arith) (then (units - m) (first units needs))
+
+pub fewer_less : (s : Setting) (old new : Underway) (m n : ℕ) → n ≤ m → NeedsFewer s m old new → NeedsFewer s n old new
+fewer_less s old new m n le fewer units needs = needs_more s new (units - m) (units - n) (omega (arith, le)) (fewer units needs)
+
+-- as many units as there are are no fewer than what is left after nothing is to do
+pub fewer_all : (s : Setting) (old new : Underway) (count : ℕ) → NeedsAtMost s new 0 → NeedsFewer s count old new
+fewer_all s old new count none units needs = needs_more s new 0 (units - count) (omega arith) none
+
+-- ---- a call of work
+
+module _ (s : Setting) (old mid : Underway) (covers : Covers s old) (kept : IsKeptUp s mid) (count units : ℕ) (is : count ≡ min units old.owed) (done : NeedsFewer s count old mid) where
+  -- all is done
+  pub none_left : old.owed ≤ units → NeedsAtMost s mid 0
+  none_left enough = needs_more s mid (old.owed - count) 0 (omega (arith, is, enough)) (done old.owed covers.enough)
+
+  pub ready : old.owed ≤ units → (new : Underway) → mid.owed ≡ old.owed → new ≡ record mid { built = empty } → (swap : Swap) → IsMergeOf s.tag s.kept swap.moves → swap.built ≡ mid.built → IsProgress s units old new (Ready swap)
+  ready enough new owed is_new swap moves built = (
+    enough,
+    ap (λ (j : Underway). j.owed) is_new ∙ owed,
+    record { moves = moves; built = λ pair had there. let made = done_is_built s mid kept (none_left enough) pair had there in (made.0, ap (λ m. get m pair) built ∙ made.1, made.2) },
+    subst (Covers s) same (record { kept_up = kept; enough = needs_more s mid 0 mid.owed (omega arith) (none_left enough) }),
+  )
+    where
+      same : mid ≡ with_built new swap
+      same = ap (λ m. record mid { built = m }) (sym built) ∙ ap (λ j. with_built j swap) (sym is_new)
+
+  pub working : units < old.owed → (new : Underway) → new ≡ record mid { owed = old.owed - units } → Covers s new
+  working more new is_new = subst (Covers s) (sym is_new) (record {
+    kept_up = record { placed = kept.placed; tags = kept.tags; pairs = kept.pairs; built = kept.built };
+    enough = let left = needs_more s mid (old.owed - count) (old.owed - units) (omega (arith, is, more)) (done old.owed covers.enough) in record {
+      tags = left.tags;
+      pairs = left.pairs;
+      few = left.few;
+      all_tags = left.all_tags;
+      all_pairs = left.all_pairs;
+    };
+  })

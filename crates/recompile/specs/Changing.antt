@@ -4,7 +4,6 @@ use Rattle.std.specs.FinMap.{FinMap, entries, get}
 use Rattle.net_types.specs.Keys.{prefix_cmp}
 use Rattle.net_types.specs.Sets.{Member}
 use Rattle.net_types.specs.declared.address.Tag.{Tag}
-use Rattle.net_types.specs.declared.prefix.Prefix.{Prefix}
 use Rattle.net_types.specs.declared.rule.Pair.{Pair}
 use Rattle.prefix_classes.specs.Classes.{members}
 use Rattle.recompile.specs.Covering.{AreFew, Covers}
