@@ -4,14 +4,15 @@ use Rattle.std.specs.Prelude.{slice_get, nat_eq}
 use Rattle.std.specs.List.{list_all}
 use Rattle.std.specs.Option.{option_and_then, option_map}
 use Rattle.std.proofs.lemmas.Bool.{and_parts, eqb-true}
-use Rattle.net_types.specs.Attributes.{same_option, same_attrs}
+use Rattle.net_types.specs.Attributes.{same_option, same_attrs, same_signature}
 use Rattle.net_types.specs.Exports.{Routing}
 use Rattle.net_types.specs.Routes.{Candidate, best_of, pids}
 use Rattle.net_types.specs.declared.address.Pid.{Pid}
 use Rattle.net_types.specs.declared.prefix.Prefix.{Prefix}
+use Rattle.net_types.specs.declared.route.Part.{Part}
 use Rattle.route_server.specs.Choices.{AreChosen}
-use Rattle.route_server.specs.Effects.{place_attrs, best_by_row}
-use Rattle.route_server.specs.Rows.{held_at, offered}
+use Rattle.route_server.specs.Effects.{place_attrs, best_by_row, same_by_rows}
+use Rattle.route_server.specs.Rows.{held_at, offered, signature_of}
 use Rattle.route_server.specs.declared.held.Held.{Held}
 use Rattle.route_server.proofs.ChoiceSteps.{chosen_at}
 use Rattle.route_server.proofs.EffectLaws.{pids_from, pids_step, place_best}
@@ -47,6 +48,11 @@ pub bests_at : (r s : Routing) (p : Prefix) (old new : List Held) (earlier place
 bests_at r s p old new earlier places n a b was are low below is now = λ i. same_option same_attrs
     (place_best r old a (best_of (offered r (record { 0 = n }) p old)) (ap (option_and_then (held_at r old)) is ∙ chosen_at r p old earlier n was low) i)
     (place_best s new b (best_of (offered s (record { 0 = n }) p new)) (ap (option_and_then (held_at s new)) now ∙ chosen_at s p new places n are below) i)
+
+-- whether a prefix gives the same by two rows
+pub rows_same : (r s : Routing) (p : Prefix) (old new : List Held) (both sigs bests : Bool) (sig : List Part) → both ≡ (sigs && bests) → sigs ≡ same_signature sig (signature_of r p old) → sig ≡ signature_of s p new
+    → bests ≡ list_all (λ to. same_option same_attrs (best_by_row r p old to) (best_by_row s p new to)) (pids r) → both ≡ same_by_rows r s p old new
+rows_same r s p old new both sigs bests sig is told made same = is ∙ (λ i. (told ∙ ap (λ x. same_signature x (signature_of r p old)) made) i && same i)
 
 -- one participant more is asked
 pub all_more : (f : Pid → Bool) (n count : ℕ) (b all : Bool) → n < count → f (record { 0 = n }) ≡ b → list_all f (pids_from n (count - n)) ≡ all → (b && list_all f (pids_from (n + 1) (count - (n + 1)))) ≡ all

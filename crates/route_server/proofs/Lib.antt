@@ -10,6 +10,7 @@ mod ProposalLaws
 mod DownLaws
 mod ExportLaws
 mod ChoiceLaws
+mod CompareSteps
 mod BestLaws
 mod ShortPaths
 mod NameLaws

@@ -22,7 +22,7 @@ use Rattle.route_server.specs.declared.held.Held.{Held}
 abbrev pub parts_from : Routing → Prefix → List Held → ℕ → ℕ → List Part
 parts_from r p row low count = filter_map (λ to. part_of r to (offered r to p row)) (map (λ n. record { 0 = n }) (numbers low count))
 
-parts_step : (r : Routing) (p : Prefix) (row : List Held) (low count : ℕ) → low < count → parts_from r p row low (count - low) ≡ cons_option (part_of r (record { 0 = low }) (offered r (record { 0 = low }) p row)) (parts_from r p row (low + 1) (count - (low + 1)))
+pub parts_step : (r : Routing) (p : Prefix) (row : List Held) (low count : ℕ) → low < count → parts_from r p row low (count - low) ≡ cons_option (part_of r (record { 0 = low }) (offered r (record { 0 = low }) p row)) (parts_from r p row (low + 1) (count - (low + 1)))
 parts_step r p row low count lt =
     let e : count - low ≡ suc (count - (low + 1)) = omega (arith, lt) in
     ap (parts_from r p row low) e

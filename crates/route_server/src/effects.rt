@@ -17,12 +17,13 @@ ghost use Rattle.route_server.specs.Effects.{place_attrs, best_by_row, IsEffectO
 
 use crate::change::Change;
 use crate::choices::{chosen_in, held_in, place_of};
+use crate::compared::is_signature;
 use crate::effect::Effect;
 use crate::held::Held;
 use crate::server::RouteServer;
-use crate::signature::signature_in;
+use crate::signature::{all_offers, signature_in};
 use crate::terms::Terms;
-use net_types::{Attrs, Memory, Pid, Prefix, same_items, same_optional};
+use net_types::{Attrs, Memory, Pid, Prefix, same_optional};
 use registry::Registry;
 use std::alloc::Global;
 
@@ -138,8 +139,8 @@ fn effect_of(
     let was = earlier.as_slice();
     let is = bests.as_slice();
     let sig = signature_in(alloc, after, row, prefix, is)?;
-    let old_sig = signature_in(alloc, before, old, prefix, was)?;
-    let same_sig = same_items(sig.items(), old_sig.items());
+    let offers = all_offers(alloc, before, old)?;
+    let same_sig = is_signature(before, old, offers.as_slice(), prefix, was, sig.items());
     let same_best = same_bests(before.names, old, was, row, is);
     if both(same_sig, same_best) {
         return Ok(None);

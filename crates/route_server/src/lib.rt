@@ -5,6 +5,7 @@ mod admission;
 mod bests;
 mod change;
 mod choices;
+mod compared;
 mod down;
 mod edits;
 mod effect;

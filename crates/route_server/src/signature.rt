@@ -68,7 +68,7 @@ fn counts(named: &[Pid], chosen: Pid, who: Pid) -> bool
 }
 
 /// Whether a route is given to a sender and counts for it.
-fn is_offered(terms: Terms<'_>, held: &Held, to: Pid, chosen: Pid, prefix: Prefix) -> bool
+pub fn is_offered(terms: Terms<'_>, held: &Held, to: Pid, chosen: Pid, prefix: Prefix) -> bool
     ensures { result ≡ (counts (names_at terms.entry.named.now to.0) chosen held.now.from && is_given (settled_by terms.entry) held.now.from to prefix held.now.attrs) }
 {
     counts(names_at(terms.named, to), chosen, held.from) && is_given(terms, held, to, prefix)
@@ -87,7 +87,7 @@ fn offer_of(terms: Terms<'_>, held: &Held) -> Offer
 }
 
 /// What each route of a row offers.
-fn all_offers(alloc: Global, terms: Terms<'_>, row: &[Held]) -> Result<Vec<Offer>, Memory>
+pub fn all_offers(alloc: Global, terms: Terms<'_>, row: &[Held]) -> Result<Vec<Offer>, Memory>
     ensures { IfOk result (λ offers. offers.items ≡ offers_by_row (settled_by terms.entry) row.now) }
 {
     let mut offers = Vec::with_capacity(alloc, row.len())?;
