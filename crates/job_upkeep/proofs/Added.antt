@@ -2,6 +2,7 @@
 use Rattle.std.proofs.Common.{◌≡◌, ℕ, ◌+◌, ◌*◌, ◌≤◌, Bool, true, false, ◌&&◌, ◌||◌, not, List, [], ◌∷◌, ◌++◌, length, map, filter, sym, ap, subst, ◌∙◌, refl, arith}
 use Rattle.std.specs.Prelude.{Option, Some, None, is_none, is_some}
 use Rattle.std.specs.FinMap.{get, keys}
+use Rattle.std.proofs.Math.Nat.{suc-mul}
 use Rattle.std.proofs.lemmas.Bool.{and_parts, false_from_ne_true, or_right}
 use Rattle.std.proofs.lemmas.List.{length-append, length-map}
 use Rattle.events.specs.Fits.{IsAnswer, IsBuilt, added, bare, dropped, none_rebuilt, tag_changes}
@@ -35,7 +36,7 @@ use Rattle.net_types.specs.Keys.{pair_cmp}
 use Rattle.net_types.specs.Sets.{IsRising, Member, union_over}
 use Rattle.net_types.specs.declared.route.PortInfo.{PortInfo}
 use Rattle.net_types.specs.declared.rule.Pair.{Pair}
-use Rattle.registry.specs.Registered.{Registered, ports_of}
+use Rattle.registry.specs.Registered.{ports_of}
 
 rerouting_built : (s s1 : State) (e : Event) (r : Reply) → is_rerouting e ≡ true → IsAnswer s e r s1 → IsBuilt s s1 none_rebuilt r
 rerouting_built s s1 (Update name bytes) r rerouting is = is
@@ -74,14 +75,19 @@ module _ (s : State) (e : Event) (r : Routing) (is_rebuilt : Pair → Bool) (rer
 
   -- no live pair is built anew
   pub not_rebuilt : (pair : Pair) → is_live_pair s pair ≡ true → is_rebuilt pair ≡ false
-  not_rebuilt pair live = false_from_ne_true (is_rebuilt pair) (λ again.
-  let there : is_some (get s.table pair) ≡ true = pairs pair ∙ live in
-  let goes : Member pair (dropped s s1 is_rebuilt) = Member-filter (λ q. is_none (get s.table q) || is_rebuilt q) (keys s.table) pair (key_Member pair_cmp pairs_total tie s.table pair there) (or_right (is_none (get s.table pair)) (is_rebuilt pair) again) in
-  not_both (get s.table pair) there (filter-Member (λ q. is_none (get s.table q) || none_rebuilt q) (keys s.table) pair (subst (Member pair) drops_same goes)).passes)
+  not_rebuilt pair live =
+      let there : is_some (get s.table pair) ≡ true = pairs pair ∙ live in
+      let goes : is_rebuilt pair ≡ true → Member pair (dropped s s1 is_rebuilt) = λ again.
+      Member-filter (λ q. is_none (get s.table q) || is_rebuilt q) (keys s.table) pair (key_Member pair_cmp pairs_total tie s.table pair there) (or_right (is_none (get s.table pair)) (is_rebuilt pair) again) in
+      false_from_ne_true (is_rebuilt pair) (λ again.
+      not_both (get s.table pair) there (filter-Member (λ q. is_none (get s.table q) || none_rebuilt q) (keys s.table) pair (subst (Member pair) drops_same (goes again))).passes)
 
 -- the ports with the tag of a class
 abbrev cells : List PortInfo → Class → List Pair
 cells ports c = map (λ (q : PortInfo). pair_at c.tag q.number) ports
+
+swap : (a b : ℕ) → a + b ≡ b + a
+swap a b = omega arith
 
 cells_count : (ports : List PortInfo) (cs : List Class) → length (union_over (cells ports) cs) ≡ length cs * length ports
 cells_count ports [] = refl
@@ -89,25 +95,24 @@ cells_count ports (c ∷ cs) =
     length-append (cells ports c) (union_over (cells ports) cs)
     ∙ ap (λ n. n + length (union_over (cells ports) cs)) (length-map ports (λ (q : PortInfo). pair_at c.tag q.number))
     ∙ ap (λ n. length ports + n) (cells_count ports cs)
+    ∙ swap (length ports) (length cs * length ports)
+    ∙ sym (suc-mul (length cs) (length ports))
 
 pub added_few : AddedAreFew
 added_few s e r is_rebuilt plan steady rerouting edit is =
     let count = cells_count s.routing.ports plan.fresh.items in
     let few = no_longer plan.added (union_over (cells s.routing.ports) plan.fresh.items)
-        (rising_once is_pair_before (before_itself pair_cmp pairs_total) plan.added (subst (λ ks. IsRising is_pair_before ks) (sym is.planned.added) is.planned.new.rising)) each in
+    (rising_once is_pair_before (before_itself pair_cmp pairs_total) plan.added (subst (λ ks. IsRising is_pair_before ks) (sym is.planned.added) is.planned.new.rising)) each in
     subst (λ n. length plan.added ≤ n) count few
   where
-    abbrev names : Registered
-    names = registered s
-
     one : (pair : Pair) → is_live_pair (retagged s r) pair ≡ true → is_live_pair s pair ≡ false → Member pair (union_over (cells s.routing.ports) plan.fresh.items)
     one pair live dead =
         let changes = change s r is_rebuilt plan is.base is.alike is.planned in
         let classes : List Class = made s r changes is.base.apart plan.tags in
-        let of_class = union-Member (class_pairs names) classes pair (new_pairs_all s r changes is.base.apart plan.tags pair live dead) in
+        let of_class = union-Member (class_pairs (registered s)) classes pair (new_pairs_all s r changes is.base.apart plan.tags pair live dead) in
         let c : Class = of_class.of in
-        let of_part = union-Member (sender_pairs names c.tag) c.sig pair of_class.gives in
-        let image = map-Member (pair_at c.tag) (ports_of names of_part.of.sender) pair of_part.gives in
+        let of_part = union-Member (sender_pairs (registered s) c.tag) c.sig pair of_class.gives in
+        let image = map-Member (pair_at c.tag) (ports_of (registered s) of_part.of.sender) pair of_part.gives in
         let port = port_listed s of_part.of.sender image.of image.stands in
         Member-union (cells s.routing.ports) plan.fresh.items c pair (subst (Member c) (sym is.planned.fresh) of_class.stands)
         (subst (λ q. Member q (cells s.routing.ports c)) (sym (image.is ∙ ap (pair_at c.tag) port.number)) (Member-map (λ (q : PortInfo). pair_at c.tag q.number) s.routing.ports port.port port.stands))

@@ -11,15 +11,19 @@ use Rattle.events.specs.declared.Event.{Event}
 use Rattle.events.specs.declared.Head.{Head}
 use Rattle.events.specs.declared.Head.TheVariants.{Fine, Working, Finished, Unrouted, Unresolved, Silent, Refused}
 use Rattle.events.specs.declared.Reply.{Reply}
+use Rattle.exchange_laws.proofs.Lists.{key_Member}
 use Rattle.exchange_laws.specs.Counts.{PairsAreLive}
 use Rattle.exchange_laws.specs.Replies.{RightRulesAreSome}
 use Rattle.exchange_laws.specs.Steady.{IsSteady, StepsStaySteady}
+use Rattle.fast_path.proofs.PortsAndTags.{tie}
 use Rattle.job_laws.specs.Jobs.{without_job}
 use Rattle.job_laws.specs.Steps.{JobsLeaveLines, UnitsStay}
 use Rattle.job_upkeep.proofs.Carried.{entries_carried, no_more}
 use Rattle.job_upkeep.proofs.Few.{few_steady}
 use Rattle.job_upkeep.proofs.Quiet.{quiet_owed, quiet_stays, stays_change}
 use Rattle.job_upkeep.specs.Upkeep.{HasJob, JobsBegin, NoJobsStart, QuietLinesKeepJobs, RefusedLinesKeepJobs, SteadySettingsAreFew, setting_of}
+use Rattle.net_types.proofs.OrderLemmas.{pairs_total}
+use Rattle.net_types.specs.Keys.{pair_cmp}
 use Rattle.net_types.specs.Sets.{Member}
 use Rattle.net_types.specs.declared.address.Tag.{Tag}
 use Rattle.net_types.specs.declared.rule.Pair.{Pair}
@@ -46,9 +50,9 @@ quiet_keep some steps leave units changes s e r job steady formed other quiet fi
     by (Some j) has_job = (
       quiet_owed units s e r other quiet ∙ has_job.0,
       subst (λ x. Covers x j) (sym (setting_without leave s e r other))
-      (changes (setting_of s) (setting_of (next (without_job s) e r)) j has_job.1
-      (stays_change (without_job s) (next (without_job s) e r) (quiet_stays (without_job s) e r other quiet fits)
-      (few_steady some (next (without_job s) e r) (steps (without_job s) e r steady formed other fits)))),
+          (changes (setting_of s) (setting_of (next (without_job s) e r)) j has_job.1
+          (stays_change (without_job s) (next (without_job s) e r) (quiet_stays (without_job s) e r other quiet fits)
+          (few_steady some (next (without_job s) e r) (steps (without_job s) e r steady formed other fits)))),
     )
 
 -- ---- a job begins
@@ -58,15 +62,15 @@ begin some live s j steady covers owed = (units, (ap Some (sym units), covers (s
   where
     units : j.owed ≡ all_units s
     units = owed ∙ ap capped (
-      ap (λ n. n + length (keys s.table)) (entries_carried (without_job s) steady.sound)
-      ∙ ap (λ ks. length (carried s.routing) + length ks) (live (without_job s) steady.sound steady.pooled)
-    )
+        ap (λ n. n + length (keys s.table)) (entries_carried (without_job s) steady.sound)
+        ∙ ap (λ ks. length (carried s.routing) + length ks) (live (without_job s) steady.sound steady.pooled)
+        )
 
     listed : IsListed (setting_of s) s.tag [] (keys s.table)
     listed = let few = few_steady some (without_job s) steady in record {
       prefixes = no_more (length (entries s.tag));
       tags = λ t has. inl has;
-      pairs = few.all_pairs;
+      pairs = λ pair there. key_Member pair_cmp pairs_total tie s.table pair there;
       few = few;
     }
 

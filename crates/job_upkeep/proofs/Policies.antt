@@ -6,6 +6,7 @@ use Rattle.std.specs.Option.{option_map}
 use Rattle.std.proofs.lemmas.Bool.{and_parts, false_from_ne_true}
 use Rattle.events.specs.After.{after, all_units, next, received_by, sent_by, with_known}
 use Rattle.events.specs.Fits.{is_building}
+use Rattle.events.specs.Forms.{IsWellFormed}
 use Rattle.events.specs.State.{State}
 use Rattle.events.specs.Tags.{capped, carried, is_carried, is_live_pair, live_pairs, pairs, retagged}
 use Rattle.events.specs.declared.Event.{Event}
@@ -34,7 +35,7 @@ use Rattle.job_upkeep.proofs.Lines.{setting_without}
 use Rattle.job_upkeep.proofs.Listed.{joined_once, rising_once}
 use Rattle.job_upkeep.proofs.Planned.{had_or_fresh}
 use Rattle.job_upkeep.proofs.Reroutings.{building_other, few_planned, refused_alike}
-use Rattle.job_upkeep.specs.Upkeep.{PoliciesKeepJobs, fresh_of, pairs_after, setting_of}
+use Rattle.job_upkeep.specs.Upkeep.{HasJob, PoliciesKeepJobs, fresh_of, pairs_after, setting_of}
 use Rattle.net_types.proofs.OrderLemmas.{pairs_total}
 use Rattle.net_types.proofs.OrderedLemmas.{any_member, member_any, ordered_same}
 use Rattle.net_types.proofs.RisingLemmas.{Member-filter, before_itself, filter-IsRising, filter-Member, keys-IsRising}
@@ -48,8 +49,9 @@ use Rattle.net_types.specs.Sets.{HasNoRepeats, IsRising, Member}
 use Rattle.net_types.specs.declared.address.Pid.{Pid}
 use Rattle.net_types.specs.declared.rule.Pair.{Pair}
 use Rattle.prefix_classes.specs.Classes.{members}
-use Rattle.recompile.specs.Changing.{IsListed}
+use Rattle.recompile.specs.Changing.{CoversListed, IsListed}
 use Rattle.recompile.specs.Covering.{AreFew, Covers}
+use Rattle.recompile.specs.Underway.{Underway}
 
 -- ---- the carried prefixes stay
 
@@ -164,49 +166,51 @@ module _ (s : State) (e : Event) (s0 : State) (r : Routing) (is_rebuilt : Pair �
 
 -- ---- the line
 
-module _ (some : RightRulesAreSome) (steps : StepsStaySteady) (fit : PlansFitLines) (leave : JobsLeaveLines) (units : UnitsStartAnew) where
-  pub anew : PoliciesKeepJobs
-  anew s e s0 r is_rebuilt plan old new steady formed other edit made covers owes has = (owed_then, covered)
-    where
-      abbrev c : State
-      c = without_job s
+module _ (some : RightRulesAreSome) (steps : StepsStaySteady) (fit : PlansFitLines) (leave : JobsLeaveLines) (units : UnitsStartAnew) (s : State) (e : Event) (s0 : State) (r : Routing) (is_rebuilt : Pair → Bool) (plan : Plan)
+    (steady : IsSteady (without_job s)) (formed : IsWellFormed e) (other : is_rerouting e ≡ false) (edit : IsEdit (without_job s) e s0 r is_rebuilt) (made : IsPlanned s0 r is_rebuilt plan) where
+  abbrev c : State
+  c = without_job s
 
-      abbrev s2 : State
-      s2 = planned s0 r plan
+  abbrev s2 : State
+  s2 = planned s0 r plan
 
-      carries : carried r ≡ carried s.routing
-      carries = sym (ap (λ (x : State). carried x.routing) edit.leaves) ∙ policy_carried c e edit.building other
+  carries : carried r ≡ carried s.routing
+  carries = sym (ap (λ (x : State). carried x.routing) edit.leaves) ∙ policy_carried c e edit.building other
 
-      prefixes : length (entries s2.tag) ≡ length (entries s.tag)
-      prefixes = entries_are s2.tag r (carried_have_tags s0 r made.planned.enough) ∙ ap length carries ∙ sym (entries_carried c steady.sound)
+  prefixes : length (entries s2.tag) ≡ length (entries s.tag)
+  prefixes = entries_are s2.tag r (carried_have_tags s0 r made.planned.enough) ∙ ap length carries ∙ sym (entries_carried c steady.sound)
 
-      equal_most : (m n : ℕ) → m ≡ n → m ≤ n
-      equal_most m n same = omega (arith, same)
+  equal_most : (m n : ℕ) → m ≡ n → m ≤ n
+  equal_most m n same = omega (arith, same)
 
-      few : AreFew (setting_of s2)
-      few = few_planned some steps fit c e s0 r is_rebuilt plan steady formed edit made
+  few : AreFew (setting_of s2)
+  few = few_planned some steps fit c e s0 r is_rebuilt plan steady formed edit made
 
-      listed : IsListed (setting_of s2) s.tag (fresh_of plan) (pairs_after c plan)
-      listed = record {
-        prefixes = equal_most (length (entries s2.tag)) (length (entries s.tag)) prefixes;
-        tags = λ t some_now. elim (had_or_fresh s0 r is_rebuilt plan made.base made.alike made.planned t some_now) [
-          | inl had ↦ inl (subst (λ m. 0 < members m t) edit.tag had)
-          | inr fresh ↦ inr fresh
-        ];
-        pairs = λ pair there. live_listed c e s0 r is_rebuilt plan edit made pair (sym ((is_table s0 r is_rebuilt plan made.base made.alike made.planned).pairs pair) ∙ there);
-        few = few;
-      }
+  listed : IsListed (setting_of s2) s.tag (fresh_of plan) (pairs_after c plan)
+  listed = record {
+    prefixes = equal_most (length (entries s2.tag)) (length (entries s.tag)) prefixes;
+    tags = λ t now. elim (had_or_fresh s0 r is_rebuilt plan made.base made.alike made.planned t now) [
+      | inl had ↦ inl (subst (λ m. 0 < members m t) edit.tag had)
+      | inr fresh ↦ inr fresh
+    ];
+    pairs = λ pair there. live_listed c e s0 r is_rebuilt plan edit made pair (sym ((is_table s0 r is_rebuilt plan made.base made.alike made.planned).pairs pair) ∙ there);
+    few = few;
+  }
 
-      all_are : all_units (after s e) ≡ new.owed
-      all_are =
-          ap all_units (sym (after_but s None e (building_other e edit.building))) ∙ ap all_units edit.leaves
-          ∙ ap capped (ap (λ ps. length ps + length (live_pairs (retagged s0 r))) carries
-          ∙ ap (λ n. n + length (live_pairs (retagged s0 r))) (sym (entries_carried c steady.sound))
-          ∙ ap (λ n. length (entries s.tag) + n) (sym (listed_count c e s0 r is_rebuilt plan edit made)))
-          ∙ sym owes
+  -- all units of the state that the line leaves
+  all_are : all_units (after s e) ≡ capped (length (entries s.tag) + length (pairs_after c plan))
+  all_are =
+      ap all_units (sym (after_but s None e (building_other e edit.building))) ∙ ap all_units edit.leaves
+      ∙ ap capped (ap (λ ps. length ps + length (live_pairs (retagged s0 r))) carries
+      ∙ ap (λ n. n + length (live_pairs (retagged s0 r))) (sym (entries_carried c steady.sound))
+      ∙ ap (λ n. length (entries s.tag) + n) (sym (listed_count c e s0 r is_rebuilt plan edit made)))
 
-      owed_then : (next s e (plan_reply plan)).owed ≡ Some new.owed
-      owed_then = units s e (sym (refused_alike s e edit.building) ∙ edit.passes) edit.building other ∙ ap (option_map (λ n. all_units (after s e))) has.0 ∙ ap Some all_are
+  begun : (old new : Underway) → CoversListed s.tag (fresh_of plan) (pairs_after c plan) new → new.owed ≡ capped (length (entries s.tag) + length (pairs_after c plan)) → HasJob s (Some old) → HasJob (next s e (plan_reply plan)) (Some new)
+  begun old new covers owes has = (
+    units s e (sym (refused_alike s e edit.building) ∙ edit.passes) edit.building other ∙ ap (option_map (λ n. all_units (after s e))) has.0 ∙ ap Some (all_are ∙ sym owes),
+    subst (λ x. Covers x new) (sym (setting_without leave s e (plan_reply plan) (building_other e edit.building) ∙ ap setting_of (fit c e s0 r is_rebuilt plan made edit).0)) (covers (setting_of s2) listed),
+  )
 
-      covered : Covers (setting_of (next s e (plan_reply plan))) new
-      covered = subst (λ x. Covers x new) (sym (setting_without leave s e (plan_reply plan) (building_other e edit.building) ∙ ap setting_of (fit c e s0 r is_rebuilt plan made edit).0)) (covers (setting_of s2) listed)
+pub anew : RightRulesAreSome → StepsStaySteady → PlansFitLines → JobsLeaveLines → UnitsStartAnew → PoliciesKeepJobs
+anew some steps fit leave units s e s0 r is_rebuilt plan old new steady formed other edit made covers owes has =
+    begun some steps fit leave units s e s0 r is_rebuilt plan steady formed other edit made old new covers owes has

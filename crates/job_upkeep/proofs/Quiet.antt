@@ -1,14 +1,14 @@
 -- A line that builds no rules gives no prefix another tag, keeps the signatures of tags that prefixes have, and adds no rules.
-use Rattle.std.proofs.Common.{◌≡◌, ℕ, Bool, true, false, cond, ◌&&◌, List, [], ◌∷◌, ◌++◌, sym, ap, subst, ◌∙◌, refl, inl, inr}
+use Rattle.std.proofs.Common.{◌≡◌, ℕ, Bool, true, false, cond, ◌&&◌, List, [], ◌∷◌, ◌++◌, map, sym, ap, subst, ◌∙◌, refl, inl, inr}
 use Rattle.std.specs.Prelude.{Option, Some, None, MatchOption, is_some, slice_set, take}
 use Rattle.std.specs.FinMap.{FinMap, get, get-remove, keys, remove}
 use Rattle.std.specs.Option.{option_map_or}
 use Rattle.std.specs.Ordering.{eq_by_cmp}
 use Rattle.events.specs.After.{accepted, after, next, next_by, put_flows, rules_put, running, settled, with_answer, with_known, with_port, with_resolved, with_told, without_pairs}
-use Rattle.events.specs.Fits.{Fits, FitsBy, IsAccepted, IsAnswer, IsSent, IsTagged, Passes, destination, is_building, is_of_job, responder_reply}
+use Rattle.events.specs.Fits.{Fits, FitsBy, IsAccepted, IsAnswer, IsSent, IsTagged, IsTaken, Passes, asks_for, bare, by_table, destination, is_building, is_of_job, responder_reply}
 use Rattle.events.specs.Pending.{pending, with_all_news}
 use Rattle.events.specs.Refusals.{refusal}
-use Rattle.events.specs.Resolving.{is_pool_request, is_resolved, port_place, resolved_at, tag_address, unresolved}
+use Rattle.events.specs.Resolving.{is_pool_request, is_resolved, pool_mac, port_place, resolved_at, tag_address, unresolved}
 use Rattle.events.specs.State.{State, port_of, present, told_to}
 use Rattle.events.specs.Tags.{is_live}
 use Rattle.events.specs.declared.Entry.{Entry}
@@ -28,7 +28,7 @@ use Rattle.job_upkeep.proofs.Tagged.{some_with, without_none}
 use Rattle.job_upkeep.specs.Upkeep.{setting_of}
 use Rattle.net_types.proofs.OrderLemmas.{pairs_total, tags_total}
 use Rattle.net_types.proofs.TieLemmas.{tag_cmp-IsAntisymmetric}
-use Rattle.net_types.specs.Arp.{asked_ip, asker_mac}
+use Rattle.net_types.specs.Arp.{arp_reply, asked_ip, asker_ip, asker_mac}
 use Rattle.net_types.specs.Exports.{pid_of}
 use Rattle.net_types.specs.Keys.{ip_cmp, pair_cmp, prefix_cmp, tag_cmp}
 use Rattle.net_types.specs.Maps.{ordered}
@@ -107,6 +107,9 @@ keeps_after s Table other quiet = same s (running s) refl refl
 
 -- ---- the rules that its reply puts in
 
+abbrev puts : Reply → List Flow
+puts x = x.adds
+
 module _ (s : State) (r : Reply) where
   tagged_none : (q : PortInfo) (bytes : List ℕ) (p : Prefix) (told : Entry) (b : Bool) → IsTagged b s q bytes p told r → r.adds ≡ []
   tagged_none q bytes p told true is = ap (λ (x : Reply). x.adds) is.by_table
@@ -125,11 +128,11 @@ module _ (s : State) (r : Reply) where
   where_known (Some x) P then is = then x is
 
   arp_none : (bytes : List ℕ) → r ≡ responder_reply s bytes → r.adds ≡ []
-  arp_none bytes is = ap (λ (x : Reply). x.adds) is ∙ by (is_pool_request s bytes) refl
+  arp_none bytes is = ap puts is ∙ by (is_pool_request s bytes)
     where
-      by : (b : Bool) → is_pool_request s bytes ≡ b → (responder_reply s bytes).adds ≡ []
-      by true e = rw e refl
-      by false e = rw e refl
+      by : (b : Bool) → puts (cond b (record (bare Fine) { asks = record { request = None; reply = arp_reply (asker_mac bytes) (asker_ip bytes) (asked_ip bytes) (pool_mac s (asked_ip bytes)) } ∷ [] }) (bare Silent)) ≡ []
+      by true = refl
+      by false = refl
 
   answer_none : (e : Event) (s1 : State) → is_of_job e ≡ false → is_building e ≡ false → IsAnswer s e r s1 → rules_put e r ≡ []
   answer_none Bad s1 other quiet is = absurd is
@@ -141,12 +144,12 @@ module _ (s : State) (r : Reply) where
   answer_none (Export name text) s1 other quiet is = absurd (cc)
   answer_none (Outbound name text) s1 other quiet is = absurd (cc)
   answer_none (Inbound name text) s1 other quiet is = absurd (cc)
-  answer_none (Take name count) s1 other quiet is = where_known (pid_of s.routing name) _ (λ who taken. taken.adds) is
-  answer_none (Drain name) s1 other quiet is = where_known (pid_of s.routing name) _ (λ who taken. taken.adds) is
+  answer_none (Take name count) s1 other quiet is = where_known (pid_of s.routing name) (λ who. IsTaken s s1 who (take count (pending s who)) r) (λ who taken. taken.adds) is
+  answer_none (Drain name) s1 other quiet is = where_known (pid_of s.routing name) (λ who. IsTaken s s1 who (pending s who) r) (λ who taken. taken.adds) is
   answer_none (Arp n bytes) s1 other quiet is = arp_none bytes is
-  answer_none (Resolve n) s1 other quiet is = where_known (port_of s n) _ (λ q asks. ap (λ (x : Reply). x.adds) asks) is
-  answer_none (Packet n bytes) s1 other quiet is = where_known (port_of s n) _ (λ q sent. sent_none q bytes (longest_of (keys (told_to s q.owner)) (destination bytes)) sent) is
-  answer_none (Frame n bytes) s1 other quiet is = where_known (port_of s n) _ (λ q frames. ap (λ (x : Reply). x.adds) frames) is
+  answer_none (Resolve n) s1 other quiet is = where_known (port_of s n) (λ q. r ≡ record (bare Fine) { asks = map (asks_for s q) (unresolved s q) }) (λ q asks. ap (λ (x : Reply). x.adds) asks) is
+  answer_none (Packet n bytes) s1 other quiet is = where_known (port_of s n) (λ q. IsSent s q bytes r (longest_of (keys (told_to s q.owner)) (destination bytes))) (λ q sent. sent_none q bytes (longest_of (keys (told_to s q.owner)) (destination bytes)) sent) is
+  answer_none (Frame n bytes) s1 other quiet is = where_known (port_of s n) (λ q. r ≡ record (bare Fine) { frames = by_table s q bytes }) (λ q frames. ap (λ (x : Reply). x.adds) frames) is
   answer_none Recompile s1 other quiet is = absurd (cc)
   answer_none (Work units) s1 other quiet is = absurd (cc)
   answer_none Table s1 other quiet is = refl

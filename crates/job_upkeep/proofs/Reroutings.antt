@@ -105,10 +105,9 @@ module _ (some : RightRulesAreSome) (steps : StepsStaySteady) (fit : PlansFitLin
       let fits = fit c e c r is_rebuilt plan made edit in
       let is = rerouted s e rerouting (sym (refused_alike s e edit.building) ∙ edit.passes) in
       let units : more_units s r ≡ plan.newly + length (fresh_of plan) * (length s.routing.ports + 1) =
-          ap (λ n. n + length (groups s r) * (length s.routing.ports + 1)) (sym made.planned.newly) ∙ ap (λ n. plan.newly + n * (length s.routing.ports + 1)) (sym (fresh_count c r is_rebuilt plan made)) in
-      (
+      ap (λ n. n + length (groups s r) * (length s.routing.ports + 1)) (sym made.planned.newly) ∙ ap (λ n. plan.newly + n * (length s.routing.ports + 1)) (sym (fresh_count c r is_rebuilt plan made)) in (
         ap (λ (x : State). x.owed) is.leaves ∙ ap (option_map (λ n. capped (n + more_units s is.routing))) has.0
-        ∙ ap (λ q. Some (capped (old.owed + more_units s q))) (same_routing s e r is_rebuilt edit is) ∙ ap (λ n. Some (capped (old.owed + n))) units ∙ ap Some (sym owes),
+            ∙ ap (λ q. Some (capped (old.owed + more_units s q))) (same_routing s e r is_rebuilt edit is) ∙ ap (λ n. Some (capped (old.owed + n))) units ∙ ap Some (sym owes),
         subst (λ x. Covers x new) (sym (setting_without leave s e (plan_reply plan) (building_other e edit.building) ∙ ap setting_of fits.0))
-        (covers (setting_of s) (setting_of (planned c r plan)) has.1 (tells c e c r is_rebuilt plan steady formed edit made)),
+            (covers (setting_of s) (setting_of (planned c r plan)) has.1 (tells c e c r is_rebuilt plan steady formed edit made)),
       )
