@@ -1,6 +1,6 @@
 -- A job that is told of a plan covers what the line leaves.
 use Rattle.std.proofs.Common.{◌≡◌, ℕ, ◌+◌, ◌*◌, ◌≤◌, Bool, true, false, List, length, map, sym, ap, subst, ◌∙◌, refl}
-use Rattle.std.specs.Prelude.{Option, Some, None, Result, Ok, Err, IfOk}
+use Rattle.std.specs.Prelude.{Option, Some, None, Result, Ok, Err, IfOk, OnOk}
 use Rattle.std.specs.FinMap.{FinMap}
 use Rattle.std.proofs.lemmas.List.{length-map}
 use Rattle.events.specs.After.{next}
@@ -29,6 +29,7 @@ use Rattle.net_types.specs.declared.address.Tag.{Tag}
 use Rattle.net_types.specs.declared.memory.Memory.{Memory}
 use Rattle.net_types.specs.declared.rule.Pair.{Pair}
 use Rattle.net_types.specs.declared.rule.Rule.{Rule}
+use Rattle.recompile.specs.Changing.{CoversAfter}
 use Rattle.recompile.specs.Underway.{Underway}
 use Rattle.exchange_core.specs.Building.{Asks, IsOfKind, Leads, base_by, base_of}
 use Rattle.exchange_core.specs.Jobs.{IsTold, IsToldBy, IsToldChanges, IsToldPolicy, KeepsJob}
@@ -77,6 +78,15 @@ not_of_job (Frame port bytes) is = refl
 not_of_job Recompile is = sym is
 not_of_job (Work units) is = sym is
 not_of_job Table is = refl
+
+-- what a job says that it was told
+pub changes_told : (result : Result (Unit {0}) Memory) (ports count : ℕ) (plan : Plan) (old new : Underway) (fresh emptied : List Tag) (added : List Pair) → fresh ≡ fresh_of plan → emptied ≡ plan.emptied.items → added ≡ plan.added → count ≡ ports
+    → OnOk result (new.owed ≡ capped (old.owed + (plan.newly + length fresh * (count + 1)))) → OnOk result (CoversAfter fresh emptied added old new) → OnOk result (IsToldChanges ports plan old new)
+changes_told (Ok done) ports count plan old new fresh emptied added tags gone pairs counted owed covers = record {
+  owed = owed ∙ (λ i. capped (old.owed + (plan.newly + length (tags i) * (counted i + 1))));
+  covers = subst (λ ps. CoversAfter (fresh_of plan) plan.emptied.items ps old new) pairs (subst (λ ts. CoversAfter (fresh_of plan) ts added old new) gone (subst (λ ts. CoversAfter ts emptied added old new) tags covers));
+}
+changes_told (Err m) ports count plan old new fresh emptied added tags gone pairs counted owed covers = tt
 
 -- a job that is told of changes where all policies stay
 pub told_changes : (ports : ℕ) (tags : FinMap prefix_cmp Tag) (table : FinMap pair_cmp (List Rule)) (change : PolicyChange) (plan : Plan) (old new : Underway) → change ≡ Stay → IsToldChanges ports plan old new
