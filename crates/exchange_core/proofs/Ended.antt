@@ -51,7 +51,7 @@ pub record Shows (core : State) (names : Registered) (classes : Classes) (pool :
   pub ports : core.routing.ports ≡ names.ports
   pub tag : core.tag ≡ classes.tag
   pub kept : core.kept ≡ classes.kept
-  pub pool : IsPoolOf core pool
+  pub free : IsPoolOf core pool
   pub table : core.table ≡ switch.table
   pub capacity : core.capacity ≡ switch.capacity
   pub told : core.told ≡ adverts.told
@@ -64,12 +64,17 @@ shown_by phase base size names served resolved classes adverts installed program
   ports = refl;
   tag = refl;
   kept = refl;
-  pool = record { free = sym is.free; size = is.size; base = is.base };
+  free = record { free = sym is.free; size = is.size; base = is.base };
   table = refl;
   capacity = refl;
   told = refl;
   present = sym present;
 }
+
+-- so they have where room was reserved
+pub shown_still : (core : State) (names : Registered) (classes : Classes) (pool : Tags) (switch : Installed) (adverts adverts' : Advertised) → Shows core names classes pool switch adverts → adverts'.told ≡ adverts.told → adverts'.present ≡ adverts.present
+    → Shows core names classes pool switch adverts'
+shown_still core names classes pool switch adverts adverts' shows told present = record shows { told = shows.told ∙ sym told; present = shows.present ∙ sym present }
 
 -- the exchange with a job is steady where it is without
 pub steady_with : (core s : State) → without_job s ≡ core → IsSteady core → OwesFew s.owed → IsSteadyInJob s
@@ -96,7 +101,7 @@ module _ (core : State) (names : Registered) (classes : Classes) (pool : Tags) (
   parts = record {
     tag = ap (λ (x : State). x.tag) is ∙ shows.tag;
     kept = ap (λ (x : State). x.kept) is ∙ shows.kept;
-    pool = subst (λ (x : State). IsPoolOf x pool) (sym is) shows.pool;
+    pool = subst (λ (x : State). IsPoolOf x pool) (sym is) shows.free;
     table = ap (λ (x : State). x.table) is ∙ shows.table;
     capacity = ap (λ (x : State). x.capacity) is ∙ shows.capacity;
     told = ap (λ (x : State). x.told) is ∙ shows.told;
@@ -126,26 +131,36 @@ module _ (phase : Phase) (base : Ip) (size : ℕ) (names : Registered) (served :
 
   -- what the parts have once it is committed
   pub record Committed (s : State) : Type 0 where
-    pub tag : classes'.tag ≡ (ended s swap end).tag
-    pub kept : classes'.kept ≡ (ended s swap end).kept
-    pub told : told' ≡ (ended s swap end).told
-    pub table : installed'.table ≡ (ended s swap end).table
-    pub capacity : installed'.capacity ≡ installed.capacity
+    pub tag_is : classes'.tag ≡ (ended s swap end).tag
+    pub kept_is : classes'.kept ≡ (ended s swap end).kept
+    pub told_is : told' ≡ (ended s swap end).told
+    pub table_is : installed'.table ≡ (ended s swap end).table
+    pub capacity_is : installed'.capacity ≡ installed.capacity
+
+  module _ (pool : Tags) (adverts : Advertised) (shows : Shows core names classes pool installed adverts) (law : EndsLeadOn) (steady : IsSteady core) (swaps : IsSwap (setting_of core) swap)
+      (ends : (s : State) → IsSteadyInJob s → without_job s ≡ core → IsEnd s swap end) where
+    pub reached : (s : State) → IsSteadyInJob s → without_job s ≡ core → LeadsTo (ended s swap end) swap end classes pool installed adverts
+    reached s in_job is = law s swap end classes pool installed adverts (end_of core s is steady in_job.few swap end swaps (ends s in_job is)) (parts core names classes pool installed adverts shows s is)
+
+    pub committed : classes'.tag ≡ moved classes.tag swap.moves → classes'.kept ≡ kept_without classes.kept end.dead.items → installed'.table ≡ table_with installed.table swap.built end.gone end.changed
+        → installed'.capacity ≡ installed.capacity → told' ≡ adverts.told → (s : State) → IsSteadyInJob s → without_job s ≡ core → Committed s
+    committed tag kept table capacity same s in_job is =
+        let to = reached s in_job is in record { tag_is = tag ∙ to.tag; kept_is = kept ∙ to.kept; told_is = same ∙ to.told; table_is = table ∙ to.table; capacity_is = capacity }
 
   pub then_ended : (s : State) → without_job s ≡ core → Committed s → after ≡ ended s swap end
   then_ended s is done = λ i. record {
     phase = Running;
     base = ap (λ (x : State). x.base) (sym is) i;
     size = ap (λ (x : State). x.size) (sym is) i;
-    capacity = (done.capacity ∙ ap (λ (x : State). x.capacity) (sym is)) i;
+    capacity = (done.capacity_is ∙ ap (λ (x : State). x.capacity) (sym is)) i;
     routing = ap (λ (x : State). x.routing) (sym is) i;
     outbound = ap (λ (x : State). x.outbound) (sym is) i;
     inbound = ap (λ (x : State). x.inbound) (sym is) i;
-    tag = done.tag i;
-    kept = done.kept i;
-    told = done.told i;
+    tag = done.tag_is i;
+    kept = done.kept_is i;
+    told = done.told_is i;
     resolved = ap (λ (x : State). x.resolved) (sym is) i;
-    table = done.table i;
+    table = done.table_is i;
     owed = None;
   }
 
