@@ -90,7 +90,7 @@ swap : (a b : ℕ) → a + b ≡ b + a
 swap a b = omega arith
 
 cells_count : (ports : List PortInfo) (cs : List Class) → length (union_over (cells ports) cs) ≡ length cs * length ports
-cells_count ports [] = refl
+cells_count ports [] = omega arith
 cells_count ports (c ∷ cs) =
     length-append (cells ports c) (union_over (cells ports) cs)
     ∙ ap (λ n. n + length (union_over (cells ports) cs)) (length-map ports (λ (q : PortInfo). pair_at c.tag q.number))
