@@ -81,12 +81,12 @@ module _ (s : State) (steady : IsSteady (without_job s)) (built : Rules) (gone :
     drops_each : (pair : Pair) → Member pair (dropped_pairs gone changed) → goes s s1 other pair ≡ true
     drops_each pair m = elim (Member-append_cases gone changed pair ((ordered_same pair_cmp pairs_total tie (gone ++ changed)).onto pair m)) [
       | inl k ↦
-        let is = are.each pair k in
-        and_from (is_live_pair s pair) (not (is_live_pair s1 pair) || other pair) is.0 (or_left (not (is_live_pair s1 pair)) (other pair) (ap not is.1))
+          let is = are.each pair k in
+          and_from (is_live_pair s pair) (not (is_live_pair s1 pair) || other pair) is.0 (or_left (not (is_live_pair s1 pair)) (other pair) (ap not is.1))
       | inr k ↦
-        let parts = and_parts (is_live_pair s1 pair) (is_new s other pair) (those.each pair k) in
-        let live : is_live_pair s pair ≡ true = pair_was_live s steady pair parts.0 in
-        and_from (is_live_pair s pair) (not (is_live_pair s1 pair) || other pair) live (or_right (not (is_live_pair s1 pair)) (other pair) (second (is_live_pair s pair) (other pair) live parts.1))
+          let parts = and_parts (is_live_pair s1 pair) (is_new s other pair) (those.each pair k) in
+          let live : is_live_pair s pair ≡ true = pair_was_live s steady pair parts.0 in
+          and_from (is_live_pair s pair) (not (is_live_pair s1 pair) || other pair) live (or_right (not (is_live_pair s1 pair)) (other pair) (second (is_live_pair s pair) (other pair) live parts.1))
     ]
 
     drops_all : (pair : Pair) → goes s s1 other pair ≡ true → Member pair (dropped_pairs gone changed)

@@ -17,12 +17,6 @@ use Rattle.route_server.specs.Rows.{held_by, offered, held_at}
 use Rattle.route_server.specs.declared.held.Held.{Held}
 use Rattle.route_server.proofs.RowSteps.{offered_more, map_push}
 
--- one item more of a list is mapped
-pub map_more : {A B : Type 0} (f : A → B) (xs : List A) (i : ℕ) (x : A) (ys zs : List B) (y : B) → i < length xs → x ≡ get_or xs i x → y ≡ f x → zs ≡ ys ++ y ∷ [] → ys ≡ map f (take i xs) → zs ≡ map f (take (i + 1) xs)
-map_more f xs i x ys zs y within at is now old =
-    now ∙ (λ j. old j ++ is j ∷ []) ∙ sym (map_push f (take i xs) x)
-    ∙ ap (map f) (ap (λ z. take i xs ++ z ∷ []) at ∙ sym (take_more xs i x within))
-
 -- one route more that is given, and one that isn't
 pub at_more : (r : Routing) (to : Pid) (p : Prefix) (row : List Held) (place : ℕ) (given now : List ℕ) (h : Held) → place < length row → h ≡ get_or row place h → true ≡ is_given r h.from to p h.attrs → now ≡ given ++ place ∷ []
     → AreAt r row given (offered r to p (take place row)) → AreAt r row now (offered r to p (take (place + 1) row))
