@@ -251,8 +251,8 @@ pub same_kept : (s : State) (j j' : Underway) → IsKept s (Some j) → j'.owed 
 same_kept s j j' kept owes covers = record { has = (refl, covers); few = subst (λ n. n ≤ 1125899906842624) (sym owes) kept.few }
 
 -- where the swap is ready the units are enough
-pub ready_enough : {s : Setting} {units : ℕ} {old new : Underway} {p : Progress} {swap : Swap} → p ≡ Ready swap → IsProgress s units old new p → old.owed ≤ units
-ready_enough {s} {units} {old} {new} is progress = (subst (IsProgress s units old new) is progress).0
+pub ready_enough : (s : Setting) (units : ℕ) (old new : Underway) (p : Progress) (swap : Swap) → p ≡ Ready swap → IsProgress s units old new p → old.owed ≤ units
+ready_enough s units old new p swap is progress = (subst (IsProgress s units old new) is progress).0
 
 -- the job has ended
 pub ended_step : (s s' : State) (j : Underway) (units : ℕ) (reply : Reply) → IsSteady s → IsSteady s' → IsKept s (Some j) → is_declared s.phase ≡ true → j.owed ≤ units → EndsJob s reply s' → IsStep (with_job s (Some j)) (Work units) reply (with_job s' None)
