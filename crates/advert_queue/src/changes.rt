@@ -45,15 +45,27 @@ pub(crate) fn tag_of(entry: Option<&Entry>) -> Option<Tag>
     }
 }
 
+/// The entry that is present at a prefix, where there is one.
+pub(crate) fn present_entry<'a>(
+    told: &'a PrefixMap<Entry>,
+    news: &'a News,
+    prefix: Prefix,
+) -> Option<&'a Entry>
+    requires rising { IsTrue (is_sorted prefix_cmp news.now.items) }
+    ensures { option_copied result ≡ get (changed told.now.map news.now.items) prefix }
+{
+    match news.get(&prefix) {
+        Some(now) => now.as_ref(),
+        None => told.get(prefix),
+    }
+}
+
 /// The tag of the entry that is present at a prefix, where there is one.
 pub(crate) fn present_tag(told: &PrefixMap<Entry>, news: &News, prefix: Prefix) -> Option<Tag>
     requires rising { IsTrue (is_sorted prefix_cmp news.now.items) }
     ensures { result ≡ tag_in (get (changed told.now.map news.now.items) prefix) }
 {
-    match news.get(&prefix) {
-        Some(now) => tag_of(now.as_ref()),
-        None => tag_of(told.get(prefix)),
-    }
+    tag_of(present_entry(told, news, prefix))
 }
 
 /// Whether both are absent, or both are there with the same tag and the same attributes.

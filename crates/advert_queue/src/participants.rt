@@ -170,6 +170,14 @@ impl Adverts {
         self.session(who).told(prefix)
     }
 
+    /// What is present of a prefix for a participant, if anything.
+    pub fn present(&self, who: Pid, prefix: Prefix) -> Option<&Entry>
+        requires declared { HasQueue self.now who }
+        ensures { option_copied result ≡ map.get (present_of self.now who) prefix }
+    {
+        self.session(who).present(prefix)
+    }
+
     /// The longest prefix of which a participant was told something that covers an address, with its entry; none where
     /// there is none.
     pub fn longest(&self, who: Pid, ip: Ip) -> Option<(Prefix, &Entry)>

@@ -12,7 +12,8 @@ ghost use Rattle.advert_queue.specs.Taken.{gone_tags, news_of, told_then};
 ghost use Rattle.advert_queue.specs.Telling.{adverts, tags_of};
 
 use crate::changes::{
-    Entries, News, first_entries, first_messages, limited, note, present_tag, tag_of, tell,
+    Entries, News, first_entries, first_messages, limited, note, present_entry, present_tag,
+    tag_of, tell,
 };
 use crate::counts::{Counts, is_used, recount, used_tags};
 use crate::leaving::{gone, leaving};
@@ -164,6 +165,13 @@ impl Session {
         ensures { option_copied result ≡ map.get self.now.told prefix }
     {
         self.told.get(prefix)
+    }
+
+    /// What is present of a prefix, if anything.
+    pub(crate) fn present(&self, prefix: Prefix) -> Option<&Entry>
+        ensures { option_copied result ≡ map.get self.now.present prefix }
+    {
+        present_entry(&self.told, &self.news, prefix)
     }
 
     /// The longest prefix of which something was told that covers an address, with its entry; none where there is none.

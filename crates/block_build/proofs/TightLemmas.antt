@@ -1,4 +1,4 @@
--- Rules without those that lie within an earlier one are right where all were, tight, and no more.
+-- Rules without those that lie within an earlier one are a tight form of all, which is right where all were.
 use Rattle.std.proofs.Common.{◌≡◌, ◌≤◌, Bool, true, false, ◌||◌, cond, Some, List, [], ◌∷◌, ◌++◌, length, refl, inl, inr, sym, ap, ◌∙◌, arith}
 use Rattle.std.proofs.lemmas.Bool.{cases_Bool, or_parts, or_cases, false≢true}
 use Rattle.events.specs.Sound.{IsRightBy, IsTight, cubes_of}
@@ -12,7 +12,7 @@ use Rattle.net_types.specs.declared.address.PortNo.{PortNo}
 use Rattle.net_types.specs.declared.cube.Cube.{Cube}
 use Rattle.net_types.specs.declared.headers.Headers.{Headers}
 use Rattle.net_types.specs.declared.rule.Rule.{Rule}
-use Rattle.block_build.specs.Tight.{is_inside, sifted}
+use Rattle.block_build.specs.Tight.{IsTightForm, is_inside, sifted, TightFormsStayRight}
 
 -- ---- the first rule stays the first
 
@@ -79,14 +79,6 @@ differ-sifted earlier (r ∷ rs) d = of (is_inside earlier r.cube) (differ-sifte
     of true dropped kept = dropped
     of false dropped kept = (λ k. d.0 (cubes-sifted (earlier ++ r.cube ∷ []) rs r.cube k), kept)
 
-pub right-sifted : (port : PortNo) (answer : Headers → List Leaving) (atoms : List Cube) (rs : List Rule) → IsRightBy port answer atoms rs → IsRightBy port answer atoms (sifted [] rs)
-right-sifted port answer atoms rs right = record {
-  gives = λ h valid at. let g = right.gives h valid at in (g.0, first-sifted [] rs h (λ c k. elim k [ ]) ∙ g.1, g.2);
-  differ = differ-sifted [] rs right.differ;
-  meets = λ c k. right.meets c (cubes-sifted [] rs c k);
-  ordered = λ x k. right.ordered x (Member-sifted [] rs x k);
-}
-
 -- ---- tight
 
 -- what is left lies in none of the earlier cubes
@@ -108,7 +100,7 @@ inside-last : (cubes : List Cube) (c d : Cube) → is_inside (cubes ++ c ∷ [])
 inside-last [] c d e = (or_parts (lies_within_cube d c) false e).0
 inside-last (x ∷ cubes) c d e = inside-last cubes c d (or_parts (lies_within_cube d x) (is_inside (cubes ++ c ∷ []) d) e).1
 
-pub tight-sifted : (earlier : List Cube) (rs : List Rule) → IsTight (sifted earlier rs)
+tight-sifted : (earlier : List Cube) (rs : List Rule) → IsTight (sifted earlier rs)
 tight-sifted earlier [] = tt
 tight-sifted earlier (r ∷ rs) = of (is_inside earlier r.cube) (tight-sifted earlier rs) (tight-sifted (earlier ++ r.cube ∷ []) rs)
   where
@@ -118,10 +110,42 @@ tight-sifted earlier (r ∷ rs) = of (is_inside earlier r.cube) (tight-sifted ea
 
 -- ---- no more
 
-pub fewer-sifted : (earlier : List Cube) (rs : List Rule) → length (sifted earlier rs) ≤ length rs
+fewer-sifted : (earlier : List Cube) (rs : List Rule) → length (sifted earlier rs) ≤ length rs
 fewer-sifted earlier [] = omega arith
 fewer-sifted earlier (r ∷ rs) = of (is_inside earlier r.cube) (fewer-sifted earlier rs) (fewer-sifted (earlier ++ r.cube ∷ []) rs)
   where
     of : (b : Bool) → length (sifted earlier rs) ≤ length rs → length (sifted (earlier ++ r.cube ∷ []) rs) ≤ length rs → length (cond b (sifted earlier rs) (r ∷ sifted (earlier ++ r.cube ∷ []) rs)) ≤ length (r ∷ rs)
     of true dropped kept = omega (arith, dropped)
     of false dropped kept = omega (arith, kept)
+
+-- ---- a tight form
+
+pub sifted-form : (rs : List Rule) → IsTightForm rs (sifted [] rs)
+sifted-form rs = record {
+  tight = tight-sifted [] rs;
+  fewer = fewer-sifted [] rs;
+  first = λ h. first-sifted [] rs h (λ c k. elim k [ ]);
+  among = Member-sifted [] rs;
+  differ = differ-sifted [] rs;
+}
+
+-- a cube of a rule among some is one of theirs
+cubes-among : (rules old : List Rule) → ((x : Rule) → Member x rules → Member x old) → (c : Cube) → Member c (cubes_of rules) → Member c (cubes_of old)
+cubes-among [] old f c k = elim k [ ]
+cubes-among (r ∷ rules) old f c k = elim k [
+  | inl same ↦ rw same (cube-of old r (f r (inl refl)))
+  | inr later ↦ cubes-among rules old (λ x m. f x (inr m)) c later
+]
+  where
+    cube-of : (rs : List Rule) (x : Rule) → Member x rs → Member x.cube (cubes_of rs)
+    cube-of [] x m = m
+    cube-of (y ∷ rs) x (inl e) = inl (ap (λ (z : Rule). z.cube) e)
+    cube-of (y ∷ rs) x (inr m) = inr (cube-of rs x m)
+
+pub tight_forms_stay_right : TightFormsStayRight
+tight_forms_stay_right port answer atoms old rules form right = record {
+  gives = λ h valid at. let g = right.gives h valid at in (g.0, form.first h ∙ g.1, g.2);
+  differ = form.differ right.differ;
+  meets = λ c k. right.meets c (cubes-among rules old form.among c k);
+  ordered = λ x k. right.ordered x (form.among x k);
+}

@@ -1,6 +1,7 @@
 //! What is right for a view is right for the policies, and the other way round. The functions have empty bodies, and their contracts are the laws.
 
 ghost use Rattle.block_build.specs.Laws.{NoInports, NoMoreCells, RightForPolicies, RightForViews, ViewsAreOf};
+ghost use Rattle.block_build.specs.Tight.{TightFormsStayRight};
 
 /// Rules that are right for a view are right for the policies that its classifiers were made of.
 pub fn right_for_policies()
@@ -25,4 +26,9 @@ pub fn no_inports()
 /// A view of the classifiers of all participants is one of the policies that they do.
 pub fn views_are_of()
     ensures { ViewsAreOf }
+{}
+
+/// A tight form of right rules is right, whatever they are right for.
+pub fn tight_forms_stay_right()
+    ensures { TightFormsStayRight }
 {}

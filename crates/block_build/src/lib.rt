@@ -17,7 +17,10 @@ mod views;
 pub use block::{Block, BuildFault};
 pub use blocks::Blocks;
 pub use building::build;
-pub use laws::{no_inports, no_more_cells, right_for_policies, right_for_views, views_are_of};
+pub use laws::{
+    no_inports, no_more_cells, right_for_policies, right_for_views, tight_forms_stay_right,
+    views_are_of,
+};
 pub use tight::build_tight;
 pub use view::View;
 pub use views::Views;

@@ -1,14 +1,12 @@
 //! Rules without those that lie within an earlier one.
 
-ghost use Rattle.std.specs.Prelude.{◌≡◌, ◌≤◌, ◌+◌, ◌++◌, ◌∷◌, [], length, IfOk, OnOk, if◌then◌else◌};
-ghost use Rattle.events.specs.Sound.{IsTight, cubes_of};
-ghost use Rattle.block_build.specs.Right.{IsRightFor};
-ghost use Rattle.block_build.specs.Tight.{is_inside, sifted};
+ghost use Rattle.std.specs.Prelude.{◌≡◌, ◌+◌, ◌++◌, ◌∷◌, [], IfOk, OnOk, if◌then◌else◌};
+ghost use Rattle.events.specs.Sound.{cubes_of};
+ghost use Rattle.block_build.specs.Tight.{IsTightForm, is_inside, sifted};
 
 use crate::block::Block;
-use crate::view::View;
 use cube::within;
-use net_types::{Cube, Memory, Part, PortNo, Rule, Steps, TryCopy};
+use net_types::{Cube, Memory, Rule, Steps, TryCopy};
 use std::alloc::Global;
 use std::sync::ledger::Ledger;
 
@@ -45,22 +43,15 @@ fn tight_rules(alloc: Global, old: &[Rule]) -> Result<Vec<Rule>, Memory>
     Ok(rules)
 }
 
-/// Right and tight rules in place of right ones, and no more of them. It counts one step. Memory is the only refusal.
-///
-/// The rules that remain are those that aren't hidden by an earlier one: what the view gives, they give already.
+/// A tight form of rules: those that don't lie within an earlier one's, which are all that are ever the first. It counts one
+/// step. Memory is the only refusal.
 pub fn build_tight<L: Ledger>(
     alloc: Global,
-    view: &View<'_>,
-    port: PortNo,
-    part: &Part,
     old: &[Rule],
     steps: &mut Steps<L>,
 ) -> Result<Block, Memory>
-    requires { IsRightFor view.now port part.now old.now }
     ensures step { steps.new ≡ steps.old + 1 }
-    ensures right { IfOk result (λ block. IsRightFor view.now port part.now block) }
-    ensures tight { IfOk result (λ block. IsTight block) }
-    ensures fewer { IfOk result (λ block. length block ≤ length old.now) }
+    ensures tight { IfOk result (λ block. IsTightForm old.now block) }
 {
     steps.tick();
     let rules = tight_rules(alloc, old)?;

@@ -7,6 +7,7 @@ use Rattle.std.specs.Option.{option_map_or}
 use Rattle.std.proofs.lemmas.Bool.{leb-false}
 use Rattle.events.proofs.Reached.{declared_pid}
 use Rattle.events.specs.After.{after, received_by, restarted, running, sent_by, settled, with_known, with_named, with_outbound, with_participant, with_port, with_told}
+use Rattle.events.specs.Fits.{is_of_job}
 use Rattle.events.specs.Forms.{IsWellFormed}
 use Rattle.events.specs.Pending.{pending, with_all_news}
 use Rattle.events.specs.Refusals.{if_short, inbound_refusal, is_name_taken, is_placed, is_port_taken, isolation_refusal, outbound_refusal, policy_refusal, refusal, refused_if, tags_refusal}
@@ -240,22 +241,22 @@ inbound_step s name text none =
 
 -- ---- each line
 
-pub step_of : (s : State) (e : Event) → refusal s e ≡ None → IsWellFormed e → Step s e (after s e)
-step_of s Bad none formed = absurd (let never = (passes s Bad none).1 in cc)
-step_of s (Exchange base size capacity) none formed = quiet _ (exchange_step s base size capacity none formed)
-step_of s (DeclaresParticipant name asn id) none formed = quiet _ (participant_step s name asn id none)
-step_of s (DeclaresPort name number ip mac) none formed = quiet _ (port_step s name number ip mac none formed)
-step_of s (Update name bytes) none formed = rerouting_step s (Update name bytes) refl refl none
-step_of s (Down name) none formed = rerouting_step s (Down name) refl refl none
-step_of s (Export name text) none formed = rerouting_step s (Export name text) refl refl none
-step_of s (Outbound name text) none formed = outbound_step s name text none
-step_of s (Inbound name text) none formed = inbound_step s name text none
-step_of s (Take name count) none formed = take_step s name count none
-step_of s (Drain name) none formed = drain_step s name none
-step_of s (Arp n bytes) none formed = quiet _ (arp_step s n bytes none)
-step_of s (Resolve n) none formed = quiet _ (resolve_step s n none)
-step_of s (Packet n bytes) none formed = quiet _ (running_step s (Packet n bytes) refl none)
-step_of s (Frame n bytes) none formed = quiet _ (running_step s (Frame n bytes) refl none)
-step_of s Recompile none formed = absurd formed
-step_of s (Work units) none formed = absurd formed
-step_of s Table none formed = quiet _ (running_step s Table refl none)
+pub step_of : (s : State) (e : Event) → refusal s e ≡ None → IsWellFormed e → is_of_job e ≡ false → Step s e (after s e)
+step_of s Bad none formed other = absurd (let never = (passes s Bad none).1 in cc)
+step_of s (Exchange base size capacity) none formed other = quiet _ (exchange_step s base size capacity none formed)
+step_of s (DeclaresParticipant name asn id) none formed other = quiet _ (participant_step s name asn id none)
+step_of s (DeclaresPort name number ip mac) none formed other = quiet _ (port_step s name number ip mac none formed)
+step_of s (Update name bytes) none formed other = rerouting_step s (Update name bytes) refl refl none
+step_of s (Down name) none formed other = rerouting_step s (Down name) refl refl none
+step_of s (Export name text) none formed other = rerouting_step s (Export name text) refl refl none
+step_of s (Outbound name text) none formed other = outbound_step s name text none
+step_of s (Inbound name text) none formed other = inbound_step s name text none
+step_of s (Take name count) none formed other = take_step s name count none
+step_of s (Drain name) none formed other = drain_step s name none
+step_of s (Arp n bytes) none formed other = quiet _ (arp_step s n bytes none)
+step_of s (Resolve n) none formed other = quiet _ (resolve_step s n none)
+step_of s (Packet n bytes) none formed other = quiet _ (running_step s (Packet n bytes) refl none)
+step_of s (Frame n bytes) none formed other = quiet _ (running_step s (Frame n bytes) refl none)
+step_of s Recompile none formed other = absurd (cc)
+step_of s (Work units) none formed other = absurd (cc)
+step_of s Table none formed other = quiet _ (running_step s Table refl none)

@@ -4,7 +4,7 @@ use Rattle.std.specs.Prelude.{Option, Some, None, MatchOption, is_some}
 use Rattle.std.specs.FinMap.{get, keys}
 use Rattle.events.specs.After.{after, next}
 use Rattle.events.specs.Forms.{IsWellFormed}
-use Rattle.events.specs.Fits.{FitsBy, IsAccepted, IsAnswer, IsSent, IsTagged, Passes, asks_for, bare, by_table, destination, is_building, responder_reply}
+use Rattle.events.specs.Fits.{FitsBy, IsAccepted, IsAnswer, IsSent, IsTagged, Passes, asks_for, bare, by_table, destination, is_building, is_of_job, responder_reply}
 use Rattle.events.specs.Refusals.{refusal}
 use Rattle.events.specs.Resolving.{is_pool_request, is_resolved, pool_mac, tag_address, unresolved}
 use Rattle.events.specs.Sound.{IsSound}
@@ -29,25 +29,25 @@ use Rattle.net_types.specs.declared.rule.Pair.{Pair}
 
 -- ---- what a line does
 
-quiet_step : (s : State) (e : Event) → refusal s e ≡ None → IsWellFormed e → is_quiet e ≡ true → QuietStep s (after s e)
-quiet_step s Bad none formed calm = absurd (let never = (passes s Bad none).1 in cc)
-quiet_step s (Exchange base size capacity) none formed calm = exchange_step s base size capacity none formed
-quiet_step s (DeclaresParticipant name asn id) none formed calm = participant_step s name asn id none
-quiet_step s (DeclaresPort name number ip mac) none formed calm = port_step s name number ip mac none formed
-quiet_step s (Update name bytes) none formed calm = absurd (cc)
-quiet_step s (Down name) none formed calm = absurd (cc)
-quiet_step s (Export name text) none formed calm = absurd (cc)
-quiet_step s (Outbound name text) none formed calm = absurd (cc)
-quiet_step s (Inbound name text) none formed calm = absurd (cc)
-quiet_step s (Take name count) none formed calm = absurd (cc)
-quiet_step s (Drain name) none formed calm = absurd (cc)
-quiet_step s (Arp n bytes) none formed calm = arp_step s n bytes none
-quiet_step s (Resolve n) none formed calm = resolve_step s n none
-quiet_step s (Packet n bytes) none formed calm = running_step s (Packet n bytes) refl none
-quiet_step s (Frame n bytes) none formed calm = running_step s (Frame n bytes) refl none
-quiet_step s Recompile none formed calm = absurd formed
-quiet_step s (Work units) none formed calm = absurd formed
-quiet_step s Table none formed calm = running_step s Table refl none
+quiet_step : (s : State) (e : Event) → refusal s e ≡ None → IsWellFormed e → is_of_job e ≡ false → is_quiet e ≡ true → QuietStep s (after s e)
+quiet_step s Bad none formed other calm = absurd (let never = (passes s Bad none).1 in cc)
+quiet_step s (Exchange base size capacity) none formed other calm = exchange_step s base size capacity none formed
+quiet_step s (DeclaresParticipant name asn id) none formed other calm = participant_step s name asn id none
+quiet_step s (DeclaresPort name number ip mac) none formed other calm = port_step s name number ip mac none formed
+quiet_step s (Update name bytes) none formed other calm = absurd (cc)
+quiet_step s (Down name) none formed other calm = absurd (cc)
+quiet_step s (Export name text) none formed other calm = absurd (cc)
+quiet_step s (Outbound name text) none formed other calm = absurd (cc)
+quiet_step s (Inbound name text) none formed other calm = absurd (cc)
+quiet_step s (Take name count) none formed other calm = absurd (cc)
+quiet_step s (Drain name) none formed other calm = absurd (cc)
+quiet_step s (Arp n bytes) none formed other calm = arp_step s n bytes none
+quiet_step s (Resolve n) none formed other calm = resolve_step s n none
+quiet_step s (Packet n bytes) none formed other calm = running_step s (Packet n bytes) refl none
+quiet_step s (Frame n bytes) none formed other calm = running_step s (Frame n bytes) refl none
+quiet_step s Recompile none formed other calm = absurd (cc)
+quiet_step s (Work units) none formed other calm = absurd (cc)
+quiet_step s Table none formed other calm = running_step s Table refl none
 
 -- the table stays
 step_table : (s : State) {s1 : State} → QuietStep s s1 → s1.table ≡ s.table
@@ -139,8 +139,8 @@ builds_nothing (Work units) calm = refl
 builds_nothing e calm = cc
 
 pub quiet_lines_are_accepted : QuietLinesAreAccepted
-quiet_lines_are_accepted s e reply steady formed none calm answer =
-    let step : QuietStep s (after s e) = quiet_step s e none formed calm in
+quiet_lines_are_accepted s e reply steady formed other none calm answer =
+    let step : QuietStep s (after s e) = quiet_step s e none formed other calm in
     let is : next s e reply ≡ after s e = answer_next s e reply (next s e reply) calm answer ∙ (λ i. record (after s e) { table = sym (step_table s step) i }) in
     let accepted : IsAccepted s e reply = record { answer = answer; sound = subst IsSound (sym is) (sound_after s step steady (quiet_new s step steady.new)) } in
     (is, subst (λ o. FitsBy o s e reply) (sym none) (subst (λ b. Passes b s e reply) (sym (builds_nothing e calm)) accepted))

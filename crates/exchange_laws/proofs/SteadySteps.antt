@@ -1,11 +1,11 @@
 -- Any line with a reply that fits leaves a steady state steady.
-use Rattle.std.proofs.Common.{◌≡◌, ℕ, zero, suc, true, List, [], ◌∷◌, sym, subst, refl, arith, inl, inr}
+use Rattle.std.proofs.Common.{◌≡◌, ℕ, zero, suc, true, false, List, [], ◌∷◌, sym, subst, refl, arith, inl, inr}
 use Rattle.std.specs.Prelude.{Option, Some, None, is_some, slice_get}
 use Rattle.std.specs.FinMap.{get, get-empty}
 use Rattle.events.proofs.Reached.{first_sound, step_sound}
 use Rattle.events.specs.After.{accepted, after, next, next_by}
 use Rattle.events.specs.Forms.{IsWellFormed}
-use Rattle.events.specs.Fits.{FitsBy}
+use Rattle.events.specs.Fits.{FitsBy, is_of_job}
 use Rattle.events.specs.Legal.{LegalFrom, state_from}
 use Rattle.events.specs.Refusals.{refusal}
 use Rattle.events.specs.Sound.{IsSound}
@@ -121,10 +121,10 @@ tidy s steady = record {
   sized = steady.sized;
 }
 
-module _ (s : State) (e : Event) (r : Reply) (steady : IsSteady s) (formed : IsWellFormed e) where
+module _ (s : State) (e : Event) (r : Reply) (steady : IsSteady s) (formed : IsWellFormed e) (other : is_of_job e ≡ false) where
   accepted_laid : refusal s e ≡ None → IsLaid (accepted s e r)
   accepted_laid none =
-      let step : Step s e (after s e) = step_of s e none formed in
+      let step : Step s e (after s e) = step_of s e none formed other in
       let new : IsNewYet (after s e) = step_new s e step steady.new in
       retable (after s e) _ (record { tidy = step_tidy s e step steady.new (tidy s steady); passed = step_passed s e step new steady.policies; new = new })
 
@@ -167,16 +167,17 @@ module _ (s : State) (e : Event) (r : Reply) (steady : IsSteady s) (formed : IsW
   step None none fits = passed none (step_sound s e r None steady.sound fits)
 
 pub steps_stay_steady : StepsStaySteady
-steps_stay_steady s e r steady formed fits = step s e r steady formed (refusal s e) refl fits
+steps_stay_steady s e r steady formed other fits = step s e r steady formed other (refusal s e) refl fits
 
 -- ---- a run
 
-from_steady : (s : State) (es : List Event) (rs : List Reply) → ((e : Event) → Member e es → IsWellFormed e) → IsSteady s → LegalFrom s es rs → IsSteady (state_from s es rs)
+from_steady : (s : State) (es : List Event) (rs : List Reply) → ((e : Event) → Member e es → IsWellFormed e × (is_of_job e ≡ false)) → IsSteady s → LegalFrom s es rs → IsSteady (state_from s es rs)
 from_steady s [] [] formed steady legal = steady
 from_steady s [] (r ∷ rs) formed steady legal = absurd legal
 from_steady s (e ∷ es) [] formed steady legal = absurd legal
 from_steady s (e ∷ es) (r ∷ rs) formed steady legal =
-    from_steady (next s e r) es rs (λ x m. formed x (inr m)) (steps_stay_steady s e r steady (formed e (inl refl)) legal.0) legal.1
+    let here = formed e (inl refl) in
+    from_steady (next s e r) es rs (λ x m. formed x (inr m)) (steps_stay_steady s e r steady here.0 here.1 legal.0) legal.1
 
 pub runs_stay_steady : RunsStaySteady
 runs_stay_steady es rs formed legal = from_steady first es rs formed starts_steady legal

@@ -2,7 +2,7 @@
 use Rattle.std.specs.Prelude.{◌≡◌, Bool, true, false, None}
 use Rattle.events.specs.After.{after, next}
 use Rattle.events.specs.Forms.{IsWellFormed}
-use Rattle.events.specs.Fits.{Fits, IsAnswer}
+use Rattle.events.specs.Fits.{Fits, IsAnswer, is_of_job}
 use Rattle.events.specs.Refusals.{refusal}
 use Rattle.events.specs.State.{State}
 use Rattle.events.specs.declared.Event.{Event}
@@ -31,8 +31,8 @@ is_quiet Recompile = true
 is_quiet (Work units) = false
 is_quiet Table = true
 
--- such a line is accepted with its answer, and the table stays as it was
+-- such a line that isn't a job's is accepted with its answer, and the table stays as it was
 abbrev pub QuietLinesAreAccepted : Type 0
 QuietLinesAreAccepted =
-    (s : State) (e : Event) (reply : Reply) → IsSteady s → IsWellFormed e → refusal s e ≡ None → is_quiet e ≡ true → IsAnswer s e reply (next s e reply)
+    (s : State) (e : Event) (reply : Reply) → IsSteady s → IsWellFormed e → is_of_job e ≡ false → refusal s e ≡ None → is_quiet e ≡ true → IsAnswer s e reply (next s e reply)
     → (next s e reply ≡ after s e) × Fits s e reply

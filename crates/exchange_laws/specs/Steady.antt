@@ -1,9 +1,9 @@
 -- What holds of the state between any two lines (this exchange's own rule).
-use Rattle.std.specs.Prelude.{◌≡◌, ℕ, ◌+◌, ◌≤◌, List, [], codes, length, map, slice_get, Some, None}
+use Rattle.std.specs.Prelude.{◌≡◌, ℕ, ◌+◌, ◌≤◌, false, List, [], codes, length, map, slice_get, Some, None}
 use Rattle.std.specs.FinMap.{FinMap, empty}
 use Rattle.events.specs.After.{next}
 use Rattle.events.specs.Forms.{IsWellFormed}
-use Rattle.events.specs.Fits.{Fits}
+use Rattle.events.specs.Fits.{Fits, is_of_job}
 use Rattle.events.specs.Legal.{Legal, state_after}
 use Rattle.events.specs.Sound.{IsSound, HopsAreOwn}
 use Rattle.events.specs.State.{State, ArePassed, ArePolicies, first}
@@ -89,10 +89,10 @@ pub record IsSteady (s : State) : Type 0 where
 abbrev pub StartsSteady : Type 0
 StartsSteady = IsSteady first
 
--- any line that can be written, with a reply that fits, leaves a steady state steady
+-- any line that can be written and isn't a job's, with a reply that fits, leaves a steady state steady
 abbrev pub StepsStaySteady : Type 0
-StepsStaySteady = (s : State) (e : Event) (r : Reply) → IsSteady s → IsWellFormed e → Fits s e r → IsSteady (next s e r)
+StepsStaySteady = (s : State) (e : Event) (r : Reply) → IsSteady s → IsWellFormed e → is_of_job e ≡ false → Fits s e r → IsSteady (next s e r)
 
--- so the state after any legal run is steady
+-- so the state after any legal run of such lines is steady
 abbrev pub RunsStaySteady : Type 0
-RunsStaySteady = (es : List Event) (rs : List Reply) → ((e : Event) → Member e es → IsWellFormed e) → Legal es rs → IsSteady (state_after es rs)
+RunsStaySteady = (es : List Event) (rs : List Reply) → ((e : Event) → Member e es → IsWellFormed e × (is_of_job e ≡ false)) → Legal es rs → IsSteady (state_after es rs)

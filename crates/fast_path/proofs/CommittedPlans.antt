@@ -40,11 +40,11 @@ module _ (s : State) (r : Routing) (is_rebuilt : Pair → Bool) (plan : Plan) (b
   s2 = planned s r plan
 
   -- the plan's fresh tags have the signatures that the state keeps
-  plan_signed : signed plan.fresh.items ≡ group_kept s r
+  pub plan_signed : signed plan.fresh.items ≡ group_kept s r
   plan_signed = ap signed is.fresh ∙ signed_back plan.tags (group_kept s r)
 
   -- and are the state's
-  plan_tags : tags_of (signed plan.fresh.items) ≡ group_tags s r
+  pub plan_tags : tags_of (signed plan.fresh.items) ≡ group_tags s r
   plan_tags = ap tags_of plan_signed ∙ tags_kept s r is.enough
 
   -- ---- what is committed

@@ -157,7 +157,7 @@ module _ (m m1 : FinMap prefix_cmp Tag) where
       map_itself (p ∷ ps) = ap (λ qs. p ∷ qs) (map_itself ps)
 
   -- a prefix whose tag is another one has a key
-  key_there : (p : Prefix) → differs p ≡ true → Member p (keys m ++ keys m1)
+  pub key_there : (p : Prefix) → differs p ≡ true → Member p (keys m ++ keys m1)
   key_there p other = by (get m p) (get m1 p) refl refl other
     where
       by : (o o1 : Option Tag) → get m p ≡ o → get m1 p ≡ o1 → not (same_option same_tag o o1) ≡ true → Member p (keys m ++ keys m1)

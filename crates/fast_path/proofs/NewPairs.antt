@@ -165,7 +165,7 @@ module _ (s : State) (r : Routing) (change : IsChange s r) (own : PortsDiffer s.
         subst IsNew (sym image.is) (one_new c.sig c.tag of_part.of image.of (class_fresh c of_class.stands) of_part.stands image.stands)
 
     -- the class of a group
-    group_class : (g : Group) (t : Tag) → Member g (groups s r) → fresh_tag s r g ≡ Some t → (c : Class) × (c.tag ≡ t) × (c.sig ≡ g.after) × Member c made
+    pub group_class : (g : Group) (t : Tag) → Member g (groups s r) → fresh_tag s r g ≡ Some t → (c : Class) × (c.tag ≡ t) × (c.sig ≡ g.after) × Member c made
     group_class g t m fresh =
         let place = place_of (groups s r) g m in
         let signed : slice_get (group_signatures s r) place.0 ≡ Some g.after = mapped_at (λ (x : Group). x.after) (groups s r) place.0 g place.1 in

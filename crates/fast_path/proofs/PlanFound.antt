@@ -13,7 +13,7 @@ use Rattle.events.specs.Fits.{tag_changes}
 use Rattle.events.specs.Sound.{owners_part}
 use Rattle.events.specs.State.{State, ArePolicies}
 use Rattle.events.specs.Tags as events
-use Rattle.events.specs.Tags.{Group, groups, is_live, is_live_pair, live_pairs, retagged, tags, tells}
+use Rattle.events.specs.Tags.{Group, carried, groups, is_carried, is_live, is_live_pair, live_pairs, retagged, tags, tells}
 use Rattle.events.specs.declared.Entry.{Entry}
 use Rattle.events.specs.declared.TagChange.{TagChange}
 use Rattle.exchange_laws.proofs.Counted.{live_Member, live_rise}
@@ -30,6 +30,7 @@ use Rattle.fast_path.proofs.DeadTags.{untold_are_dead}
 use Rattle.fast_path.proofs.EmptiedTags.{emptied_are_those}
 use Rattle.fast_path.proofs.GonePairs.{gone_pairs_are_those}
 use Rattle.fast_path.proofs.KnownSignatures.{Names, known_kept, sender_stays}
+use Rattle.fast_path.proofs.NewlyCarried.{newly_counted}
 use Rattle.fast_path.proofs.NewPairs.{HasOwners, kept_place, made, new_pairs_all, new_pairs_each, owners_found}
 use Rattle.fast_path.proofs.PortsAndTags.{tie}
 use Rattle.fast_path.proofs.TagOrder.{rising_tags, tag_tie}
@@ -41,6 +42,7 @@ use Rattle.fast_path.specs.Drafts.{IsDraft, given_tags}
 use Rattle.fast_path.specs.Emptied.{emptied, is_left, old_tags}
 use Rattle.fast_path.specs.Grouping.{Known, groups_of, known_by, more_groups, moved_groups, part_by}
 use Rattle.fast_path.specs.LiveOnly.{AreDead, AreEmptied, group_signatures, group_tags, registered}
+use Rattle.fast_path.specs.Newly.{newly_tagged}
 use Rattle.fast_path.specs.Offers.{AreOffers, adverts_from, declared_pids, others, tagged}
 use Rattle.fast_path.specs.Pairs.{fresh_pairs, gone_pairs, is_among, pair_at, part_pairs, staying, tag_pairs, untold, was_told}
 use Rattle.fast_path.specs.Planned.{group_kept, is_tag_below}
@@ -186,6 +188,12 @@ module _ (s : State) (r : Routing) (is_rebuilt : Pair → Bool) (names : Registe
       emptied_are : AreEmptied s s1 es
       emptied_are =
           subst (AreEmptied s s1) (sym (ap (λ m. emptied m draft.tags) (sym asked.shown.tag) ∙ ap (emptied s.tag) changes_are)) (emptied_are_those s r)
+
+      pub emptied_listed : AreEmptied s s1 draft.emptied.items
+      emptied_listed = subst (AreEmptied s s1) (sym is.emptied) emptied_are
+
+      pub newly_are : draft.newly ≡ length (filter (λ q. not (is_carried s.routing q)) (carried r))
+      newly_are = is.newly ∙ ap (λ m. newly_tagged m draft.tags) (sym asked.shown.tag) ∙ ap (newly_tagged s.tag) changes_are ∙ newly_counted s r asked.base.tagged.tagged enough
 
       pub dead_are : AreDead s s1 draft.dead.items
       dead_are = subst (AreDead s s1) (sym (is.dead ∙ ap (λ m. untold m es) (sym asked.shown.told))) (untold_are_dead s r es emptied_are)

@@ -26,13 +26,13 @@ use Rattle.fast_path.proofs.CommittedRules.{rules_with}
 use Rattle.fast_path.proofs.CommittedSignatures.{nothing}
 use Rattle.fast_path.proofs.CommittedTable.{blocks_apart, new_rules, not_left, old_rules, table_pairs}
 use Rattle.fast_path.proofs.CountedRules.{rules_none, rules_without}
-use Rattle.fast_path.proofs.PlanFound.{block_right, built_are, built_count, change, changes_are, dead_are, dead_rise, drops_are, enough, fresh_are, in_order, offers_are, owns, parts_are}
+use Rattle.fast_path.proofs.PlanFound.{block_right, built_are, built_count, change, changes_are, dead_are, dead_rise, drops_are, emptied_listed, enough, fresh_are, in_order, newly_are, offers_are, owns, parts_are}
 use Rattle.fast_path.proofs.PortsAndTags.{tie}
 use Rattle.fast_path.specs.Building.{AreBlocksFor, AreInOrder, HasPart, IsFullBy, IsRefusedFor, Site, rules_left, site_of}
 use Rattle.fast_path.specs.Committing.{Block, block_count, classes_of, with_blocks}
 use Rattle.fast_path.specs.Drafts.{IsDraft, IsDrafted}
 use Rattle.fast_path.specs.Grouping.{Known, groups_of, known_by, more_groups, moved_groups}
-use Rattle.fast_path.specs.LiveOnly.{AreDead}
+use Rattle.fast_path.specs.LiveOnly.{AreDead, AreEmptied}
 use Rattle.fast_path.specs.Offers.{AreOffers}
 use Rattle.fast_path.specs.Planned.{group_kept, is_tag_below}
 use Rattle.fast_path.specs.Plans.{IsAsked, IsAskedFor, IsFault, IsPlan, IsWithinSteps, pair_of}
@@ -188,6 +188,9 @@ module _ (s : State) (r : Routing) (is_rebuilt : Pair → Bool) (names : Registe
       right = λ b m ps read. right_all b (subst (Member b) drafted.blocks m) ps read;
       adds = drafted.adds ∙ ap (union_over flows_of) (sym drafted.blocks);
       fresh = drafted.fresh ∙ fresh_are s r is_rebuilt names classes pool was_told switch all p rebuild asked fs are room draft is ∙ ap (λ cs. classes_of cs (group_kept s r)) (sym drafted.tags);
+      added = drafted.added ∙ sym made.pairs_are ∙ ap (map pair_of) (sym drafted.blocks);
+      emptied = subst (AreEmptied s s1) (sym drafted.emptied) (emptied_listed s r is_rebuilt names classes pool was_told switch all p rebuild asked fs are room draft is);
+      newly = drafted.newly ∙ newly_are s r is_rebuilt names classes pool was_told switch all p rebuild asked fs are room draft is;
       dead = subst (AreDead s s1) (sym drafted.dead) (dead_are s r is_rebuilt names classes pool was_told switch all p rebuild asked fs are room draft is);
       rising = subst (IsRising is_tag_below) (sym drafted.dead) (dead_rise s r is_rebuilt names classes pool was_told switch all p rebuild asked fs are room draft is);
       offers = subst (AreOffers s s1) (sym drafted.offers) (offers_are s r is_rebuilt names classes pool was_told switch all p rebuild asked fs are room draft is);

@@ -7,6 +7,7 @@ use Rattle.events.specs.declared.TagChange.{TagChange}
 use Rattle.fast_path.specs.Committing.{Block, classes_of, kept_of}
 use Rattle.fast_path.specs.Emptied.{emptied}
 use Rattle.fast_path.specs.Grouping.{known_by}
+use Rattle.fast_path.specs.Newly.{newly_tagged}
 use Rattle.fast_path.specs.Offers.{adverts_from, declared_pids, others, tagged}
 use Rattle.fast_path.specs.Pairs.{built_pairs, dropped_pairs, gone_pairs, untold}
 use Rattle.fast_path.specs.declared.draft.Draft.{Draft}
@@ -35,7 +36,9 @@ pub record IsDraft (names : Registered) (classes : Classes) (pool : Tags) (was_t
   pub fresh : draft.fresh.items ≡ classes_of draft.tags (kept_of (given_tags pool groups) (map (λ (f : Fresh). f.sig) groups))
   pub drops : draft.drops ≡ dropped_pairs (gone_pairs names classes.kept was_told (emptied classes.tag draft.tags)) rebuild
   pub built : draft.built ≡ built_pairs names draft.fresh.items (gone_pairs names classes.kept was_told (emptied classes.tag draft.tags)) rebuild
+  pub emptied : draft.emptied.items ≡ emptied classes.tag draft.tags
   pub dead : draft.dead.items ≡ untold was_told (emptied classes.tag draft.tags)
+  pub newly : draft.newly ≡ newly_tagged classes.tag draft.tags
   pub offers : draft.offers.items ≡ adverts_from proposal (declared_pids names) 0 (tagged_by classes pool proposal groups)
 
 -- the plan is the draft with the blocks of its pairs
@@ -43,8 +46,11 @@ pub record IsDrafted (draft : Draft) (proposal : Proposed) (built : List Block) 
   pub tags : plan.tags ≡ draft.tags
   pub drops : plan.drops ≡ draft.drops
   pub adds : plan.adds ≡ union_over flows_of built
+  pub added : plan.added ≡ draft.built
   pub blocks : plan.blocks.items ≡ built
   pub fresh : plan.fresh.items ≡ draft.fresh.items
+  pub emptied : plan.emptied.items ≡ draft.emptied.items
   pub dead : plan.dead.items ≡ draft.dead.items
+  pub newly : plan.newly ≡ draft.newly
   pub offers : plan.offers.items ≡ draft.offers.items
   pub named : plan.named ≡ proposal.named

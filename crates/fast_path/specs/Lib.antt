@@ -1,5 +1,6 @@
 pub mod Pairs
 pub mod LiveOnly
+pub mod Newly
 pub mod Emptied
 pub mod Grouping
 pub mod Shown

@@ -1,5 +1,5 @@
 -- What a plan says, and why there is none (this exchange's own rule).
-use Rattle.std.specs.Prelude.{◌≡◌, ℕ, ◌+◌, ◌≤◌, ◌<◌, Bool, ◌&&◌, List, length, filter, map}
+use Rattle.std.specs.Prelude.{◌≡◌, ℕ, ◌+◌, ◌≤◌, ◌<◌, Bool, ◌&&◌, List, not, length, filter, map}
 use Rattle.std.specs.FinMap.{FinMap}
 use Rattle.block_build.specs.Lent.{AreOf, Lent}
 use Rattle.events.specs.After.{without_pairs}
@@ -7,7 +7,7 @@ use Rattle.events.specs.Fits.{flows_of, tag_changes}
 use Rattle.events.specs.Sound.{rule_count}
 use Rattle.events.specs.State.{State, ArePolicies}
 use Rattle.events.specs.Tags as events
-use Rattle.events.specs.Tags.{groups, is_live_pair, live_pairs, retagged}
+use Rattle.events.specs.Tags.{carried, groups, is_carried, is_live_pair, live_pairs, retagged}
 use Rattle.events.specs.declared.Entry.{Entry}
 use Rattle.exchange_laws.specs.Editing.{IsBase}
 use Rattle.exchange_laws.specs.Fitting.{AreWithinCells}
@@ -16,7 +16,7 @@ use Rattle.exchange_laws.specs.Listed.{AreThose, comes, goes}
 use Rattle.exchange_laws.specs.Rules.{IsDeclaredAlike, IsRightAt}
 use Rattle.fast_path.specs.Committing.{Block, classes_of, with_blocks}
 use Rattle.fast_path.specs.Grouping.{known_by}
-use Rattle.fast_path.specs.LiveOnly.{AreDead}
+use Rattle.fast_path.specs.LiveOnly.{AreDead, AreEmptied}
 use Rattle.fast_path.specs.Offers.{AreOffers}
 use Rattle.fast_path.specs.Planned.{group_kept, is_tag_below}
 use Rattle.fast_path.specs.Shown.{AreShown}
@@ -64,8 +64,9 @@ pair_of b = b.0
 abbrev pub planned : State → Routing → Plan → State
 planned s r plan = record (retagged s r) { table = with_blocks (without_pairs s.table plan.drops) plan.blocks.items }
 
--- The plan has what becomes of tags and rules, the fresh tags with their signatures and members, the tags that are live no
--- more, and what becomes present for each participant. The rules that come are right, and fit the table.
+-- The plan has what becomes of tags and rules, the fresh tags with their signatures and members, the pairs that come, the tags
+-- that lose their last prefix, those that are live no more, how many prefixes become carried, and what becomes present for each
+-- participant. The rules that come are right, and fit the table.
 pub record IsPlan (s : State) (r : Routing) (is_rebuilt : Pair → Bool) (plan : Plan) : Type 0 where
   pub tags : plan.tags ≡ tag_changes s.tag (retagged s r).tag
   pub gone : AreThose (goes s (retagged s r) is_rebuilt) plan.drops
@@ -73,6 +74,9 @@ pub record IsPlan (s : State) (r : Routing) (is_rebuilt : Pair → Bool) (plan :
   pub right : (b : Block) → Member b plan.blocks.items → (ps : Policies) → ArePolicies s ps → IsRightAt ps (retagged s r) b.0 b.1
   pub adds : plan.adds ≡ union_over flows_of plan.blocks.items
   pub fresh : plan.fresh.items ≡ classes_of plan.tags (group_kept s r)
+  pub added : plan.added ≡ map pair_of plan.blocks.items
+  pub emptied : AreEmptied s (retagged s r) plan.emptied.items
+  pub newly : plan.newly ≡ length (filter (λ p. not (is_carried s.routing p)) (carried r))
   pub dead : AreDead s (retagged s r) plan.dead.items
   pub rising : IsRising is_tag_below plan.dead.items
   pub offers : AreOffers s (retagged s r) plan.offers.items

@@ -230,8 +230,8 @@ pub fn rules_for<B: Blocks, L: Ledger>(
     }
 }
 
-/// Puts copies of a pair's rules last.
-fn push_flows(flows: &mut Flows, pair: Pair, rules: &[Rule]) -> Result<(), Memory>
+/// Puts copies of a pair's rules last. Memory is the only refusal.
+pub fn push_flows(flows: &mut Flows, pair: Pair, rules: &[Rule]) -> Result<(), Memory>
     ensures { OnOk result (flows.new ≡ flows.old ++ flows_of (pair, rules.now)) }
 {
     for rule in rules {

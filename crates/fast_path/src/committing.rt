@@ -70,6 +70,7 @@ pub fn commit<B: Blocks>(
         dead,
         offers,
         named,
+        ..
     } = plan;
     trim_named(classes, named);
     take_all(pool, &fresh);

@@ -15,8 +15,12 @@ pub struct Draft {
     pub built: Pairs,
     /// The fresh tags, with their signatures and the prefixes that get them.
     pub fresh: Vec<Class>,
-    /// The tags that are live no more.
+    /// The tags that lose their last prefix, ascending.
+    pub emptied: Vec<Tag>,
+    /// Those of them that are live no more.
     pub dead: Vec<Tag>,
+    /// How many prefixes get a tag that had none.
+    pub newly: u64,
     /// What becomes present for the participants of the touched prefixes.
     pub offers: Vec<Advert>,
 }

@@ -14,8 +14,12 @@ use net_types::{Memory, Tag};
 use prefix_classes::ClassMap;
 use std::alloc::Global;
 
-/// The tags that the changed prefixes had, in order of the changes.
-fn old_tags(alloc: Global, classes: &ClassMap, changes: &[TagChange]) -> Result<Vec<Tag>, Memory>
+/// The tags that the changed prefixes had, in order of the changes. Memory is the only refusal.
+pub fn old_tags(
+    alloc: Global,
+    classes: &ClassMap,
+    changes: &[TagChange],
+) -> Result<Vec<Tag>, Memory>
     ensures { IfOk result (λ tags. tags.items ≡ old_tags classes.now.tag changes.now) }
 {
     let mut tags = Vec::new(alloc);

@@ -94,7 +94,7 @@ fn fresh_pairs(alloc: Global, names: &Registry, fresh: &[Class]) -> Result<Vec<P
 }
 
 /// Whether a pair stands among rising ones.
-fn is_among(pairs: &[Pair], pair: Pair) -> bool
+pub fn is_among(pairs: &[Pair], pair: Pair) -> bool
     requires { IsRising is_pair_before pairs.now }
     ensures { result ≡ is_among pairs.now pair }
 {

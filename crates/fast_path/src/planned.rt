@@ -16,12 +16,18 @@ pub struct Plan {
     pub drops: Pairs,
     /// The rules that are put in.
     pub adds: Flows,
+    /// The pairs whose rules are put in, in order.
+    pub added: Pairs,
     /// The same rules, by pair.
     pub blocks: Vec<(Pair, Block)>,
     /// The fresh tags, with their signatures and the prefixes that get them.
     pub fresh: Vec<Class>,
-    /// The tags that are live no more.
+    /// The tags that lose their last prefix, ascending.
+    pub emptied: Vec<Tag>,
+    /// Those of them that are live no more.
     pub dead: Vec<Tag>,
+    /// How many prefixes the line makes carried: they get a tag and had none.
+    pub newly: u64,
     /// What becomes present for the participants of the prefixes that the line touches.
     pub offers: Vec<Advert>,
     /// Whom the policy of a participant names from now on, where the line is one that says so: the signatures that are

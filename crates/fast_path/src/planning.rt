@@ -17,6 +17,7 @@ use crate::emptied::emptied;
 use crate::fresh::Fresh;
 use crate::grouping::{groups, same_tags};
 use crate::known::KnownClasses;
+use crate::newly::newly_tagged;
 use crate::offering::offers_of;
 use crate::pairs::{built_pairs, dropped_pairs, gone_pairs, untold};
 use crate::planned::{Class, FastFault, Plan};
@@ -96,13 +97,16 @@ fn drafted(
     let fresh = with_tags(alloc, groups, &given, tags.items())?;
     let built = built_pairs(alloc, names, &fresh, gone.items(), rebuild)?;
     let dead = untold(alloc, adverts, &left)?;
+    let newly = newly_tagged(classes, tags.items()) as u64;
     let offers = offers_of(alloc, names, proposal, after.items())?;
     Ok(Draft {
         tags,
         drops,
         built,
         fresh,
+        emptied: left,
         dead,
+        newly,
         offers,
     })
 }
@@ -149,9 +153,12 @@ fn joined(
         tags: draft.tags,
         drops: draft.drops,
         adds,
+        added: draft.built,
         blocks,
         fresh: draft.fresh,
+        emptied: draft.emptied,
         dead: draft.dead,
+        newly: draft.newly,
         offers: draft.offers,
         named,
     })

@@ -3,7 +3,8 @@ use Rattle.std.proofs.Common.{◌≡◌, ℕ, ◌-◌, ◌≤◌, Bool, true, fa
 use Rattle.std.specs.Prelude.{Option, Some, None, MatchOption}
 use Rattle.std.specs.Option.{option_map}
 use Rattle.events.specs.After.{after, all_units, merged, next, next_by, put_flows, without_pairs}
-use Rattle.events.specs.Fits.{FitsBy, bare, IsFinished, IsWorked, Passes, is_building}
+use Rattle.events.specs.Fits.{FitsBy, bare, IsFinished, IsWorked, Passes, is_building, is_of_job}
+use Rattle.events.specs.Forms.{IsWellFormed}
 use Rattle.events.specs.Legal.{LegalFrom, state_from}
 use Rattle.events.specs.Refusals.{refusal}
 use Rattle.events.specs.Sound.{IsSound}
@@ -22,8 +23,8 @@ use Rattle.job_laws.proofs.EndedJobs.{ended_steady, ends_leave}
 use Rattle.job_laws.proofs.JobUnits.{all_few, owes_steady, rest_few, starts_later, works_later, works_leave}
 use Rattle.job_laws.proofs.OtherLines.{fits_alike, leaves_alike}
 use Rattle.job_laws.proofs.OwedUnits.{owed_after}
-use Rattle.job_laws.specs.Jobs.{IsSteadyInJob, is_of_job, without_job}
-use Rattle.job_laws.specs.Steps.{AllRunsStaySteady, AllStepsStaySteady, IsFormedBut, SteadyWithoutJobs}
+use Rattle.job_laws.specs.Jobs.{IsSteadyInJob, without_job}
+use Rattle.job_laws.specs.Steps.{AllRunsStaySteady, AllStepsStaySteady, SteadyWithoutJobs}
 use Rattle.job_laws.specs.Units.{owing}
 use Rattle.net_types.specs.Sets.{Member}
 
@@ -99,11 +100,11 @@ all_steps_stay_steady s e r steady formed fits = by (is_of_job e) refl
     by : (b : Bool) → is_of_job e ≡ b → IsSteadyInJob (next s e r)
     by true own = own_step s r steady e (refusal s e) own refl fits
     by false other = record {
-      steady = subst IsSteady (sym (leaves_alike s e r other)) (steps_stay_steady (without_job s) e r steady.steady (formed other) (fits_alike s None e r other fits));
+      steady = subst IsSteady (sym (leaves_alike s e r other)) (steps_stay_steady (without_job s) e r steady.steady formed other (fits_alike s None e r other fits));
       few = few_next s e r r.head other steady.few;
     }
 
-from_steady : (s : State) (es : List Event) (rs : List Reply) → ((e : Event) → Member e es → IsFormedBut e) → IsSteadyInJob s → LegalFrom s es rs → IsSteadyInJob (state_from s es rs)
+from_steady : (s : State) (es : List Event) (rs : List Reply) → ((e : Event) → Member e es → IsWellFormed e) → IsSteadyInJob s → LegalFrom s es rs → IsSteadyInJob (state_from s es rs)
 from_steady s [] [] formed steady legal = steady
 from_steady s [] (r ∷ rs) formed steady legal = absurd legal
 from_steady s (e ∷ es) [] formed steady legal = absurd legal

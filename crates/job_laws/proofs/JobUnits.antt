@@ -48,8 +48,8 @@ pub runs_steady : (s : State) → IsSteady s → (s.phase ≡ Start → ⊥) →
 runs_steady s steady later =
     let reply : Reply = record (bare Fine) { adds = all_flows s } in
     let none : refusal s Table ≡ None = not_refused s later in
-    let law = quiet_lines_are_accepted s Table reply steady tt none refl refl in
-    subst IsSteady law.0 (steps_stay_steady s Table reply steady tt law.1)
+    let law = quiet_lines_are_accepted s Table reply steady tt refl none refl refl in
+    subst IsSteady law.0 (steps_stay_steady s Table reply steady tt refl law.1)
 
 -- ---- a job that owes
 

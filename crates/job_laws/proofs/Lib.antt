@@ -8,5 +8,4 @@ pub mod SameRules
 pub mod ListedChanges
 pub mod EndedJobs
 pub mod AllSteps
-pub mod PortMacs
 pub mod Replies

@@ -4,6 +4,7 @@ use Rattle.std.specs.Prelude.{Option, Some, None, Result, Ok, Err, slice_set, ta
 use Rattle.std.specs.Option.{option_map, option_map_or}
 use Rattle.std.proofs.lemmas.Bool.{ltb-false}
 use Rattle.events.specs.After.{after, all_units, bound_read, received_by, ruled, running, sent_by, settled, taken, updated, with_known, with_named, with_outbound, with_port, with_told, without_from}
+use Rattle.events.specs.Fits.{is_of_job}
 use Rattle.events.specs.Pending.{pending}
 use Rattle.events.specs.Refusals.{if_short, inbound_refusal, outbound_refusal}
 use Rattle.events.specs.Resolving.{is_pool_request, port_place, resolved_at, unresolved, with_answer, with_resolved}
@@ -15,7 +16,6 @@ use Rattle.events.specs.declared.Refusal.{Refusal}
 use Rattle.exchange_laws.proofs.LineSteps.{short}
 use Rattle.exchange_laws.proofs.Rerouted.{known, passes}
 use Rattle.grammar.specs.TextReading.{Fault as Misread}
-use Rattle.job_laws.specs.Jobs.{is_of_job}
 use Rattle.job_laws.specs.Steps.{UnitsAreAdded, UnitsStartAnew, UnitsStay}
 use Rattle.net_types.specs.ExportReading.{rules_of_text}
 use Rattle.net_types.specs.Exports.{Routing, pid_of}

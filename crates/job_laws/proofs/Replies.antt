@@ -5,10 +5,11 @@ use Rattle.std.specs.FinMap.{get, keys}
 use Rattle.std.specs.Option.{option_map}
 use Rattle.std.specs.Ordering.{eq_by_cmp}
 use Rattle.std.proofs.lemmas.Bool.{cases_lt}
-use Rattle.block_build.proofs.TightLemmas.{fewer-sifted, right-sifted, tight-sifted}
+use Rattle.block_build.proofs.TightLemmas.{sifted-form, tight_forms_stay_right}
 use Rattle.block_build.specs.Tight.{sifted}
 use Rattle.events.specs.After.{all_units, merged, next}
-use Rattle.events.specs.Fits.{Fits, FitsBy, IsTightened, added, bare, dropped, has_other_rules, tag_changes}
+use Rattle.events.specs.Fits.{Fits, FitsBy, IsTightened, added, bare, dropped, has_other_rules, is_of_job, tag_changes}
+use Rattle.events.specs.Forms.{IsWellFormed}
 use Rattle.events.specs.Legal.{LegalFrom}
 use Rattle.events.specs.Refusals.{is_placed, refusal, suits_job}
 use Rattle.events.specs.Sound.{IsRight, IsTight}
@@ -28,12 +29,10 @@ use Rattle.job_laws.proofs.AllSteps.{all_steps_stay_steady, first_steady}
 use Rattle.job_laws.proofs.EndedJobs.{jobs_end}
 use Rattle.job_laws.proofs.JobUnits.{recompiles_are_accepted, works_are_accepted}
 use Rattle.job_laws.proofs.MergedStates.{pair_was_live, part_stays}
-use Rattle.job_laws.proofs.PortMacs.{next_macs}
 use Rattle.job_laws.proofs.OtherLines.{fits_alike, owed_policies}
 use Rattle.job_laws.specs.Ending.{IsTableAtEnd}
-use Rattle.job_laws.specs.Jobs.{IsSteadyInJob, is_of_job, without_job}
+use Rattle.job_laws.specs.Jobs.{IsSteadyInJob, without_job}
 use Rattle.job_laws.specs.Replying.{AllLinesHaveReplies, AllRunsGoOn}
-use Rattle.job_laws.specs.Steps.{IsFormedBut}
 use Rattle.net_types.proofs.OrderLemmas.{pairs_total}
 use Rattle.net_types.proofs.TieLemmas.{pair_cmp-IsAntisymmetric, same_from_tie}
 use Rattle.net_types.specs.Answers.{Policies, part_answer}
@@ -44,6 +43,7 @@ use Rattle.net_types.specs.Sets.{Member}
 use Rattle.net_types.specs.declared.rule.Pair.{Pair}
 use Rattle.net_types.specs.declared.rule.Rule.{Rule}
 use Rattle.reply_laws.proofs.EveryLine.{lines_have_replies}
+use Rattle.reply_laws.proofs.PortMacs.{ports_keep_macs}
 use Rattle.reply_laws.specs.Replying.{HasOctets, PortsHaveMacs}
 
 -- ---- a table for the end of a job
@@ -96,7 +96,7 @@ module _ (s : State) (steady : IsSteady (without_job s)) where
       let before = subst (λ x. IsRightAt x s pair from.old) (policies_are_one steady.sound.right.1 (owed_policies s None ps are)) (steady.sound.right.2 pair from.old from.had) in (
         before.0,
         part_stays s steady pair from.live ∙ before.1,
-        subst (λ rs. IsRight ps before.0 pair.port rs) (sym from.is) (right-sifted pair.port (part_answer ps before.0) (cell_atoms ps pair.port before.0) from.old before.2),
+        subst (λ rs. IsRight ps before.0 pair.port rs) (sym from.is) (tight_forms_stay_right pair.port (part_answer ps before.0) (cell_atoms ps pair.port before.0) from.old (sifted [] from.old) (sifted-form from.old) before.2),
       )
 
   fewer : (pair : Pair) → length (unwrap_or (get table pair) []) ≤ length (unwrap_or (get s.table pair) [])
@@ -104,12 +104,12 @@ module _ (s : State) (steady : IsSteady (without_job s)) where
     where
       by : (b : Bool) (o : Option (List Rule)) → length (unwrap_or (cond b (option_map (sifted []) o) None) []) ≤ length (unwrap_or o [])
       by true None = omega arith
-      by true (Some old) = fewer-sifted [] old
+      by true (Some old) = (sifted-form old).fewer
       by false o = omega arith
 
   tightened : IsTightened s (record (merged s) { table = table })
   tightened = record {
-    tight = λ pair rules has. let from = sifted_from pair rules has in subst IsTight (sym from.is) (tight-sifted [] from.old);
+    tight = λ pair rules has. let from = sifted_from pair rules has in subst IsTight (sym from.is) (sifted-form from.old).tight;
     fewer = fewer;
   }
 
@@ -156,27 +156,27 @@ all_lines_have_replies s e steady macs formed octets = by (is_of_job e) refl
 
     by : (b : Bool) → is_of_job e ≡ b → (r : Reply) × Fits s e r
     by true own = stopped (refusal s e) own refl
-    by false other = let r = lines_have_replies (without_job s) e steady.steady macs (formed other) octets in (r.0, fits_alike (without_job s) s.owed e r.0 other r.1)
+    by false other = let r = lines_have_replies (without_job s) e steady.steady macs formed other octets in (r.0, fits_alike (without_job s) s.owed e r.0 other r.1)
 
 -- ---- runs
 
 -- replies to further lines
-replies_from : (s : State) (fs : List Event) → IsSteadyInJob s → PortsHaveMacs s → ((e : Event) → Member e fs → IsFormedBut e × HasOctets e) → (more : List Reply) × LegalFrom s fs more
+replies_from : (s : State) (fs : List Event) → IsSteadyInJob s → PortsHaveMacs s → ((e : Event) → Member e fs → IsWellFormed e × HasOctets e) → (more : List Reply) × LegalFrom s fs more
 replies_from s [] steady macs written = ([], tt)
 replies_from s (e ∷ fs) steady macs written =
     let here = written e (inl refl) in
     let r = all_lines_have_replies s e steady macs here.0 here.1 in
-    let later = replies_from (next s e r.0) fs (all_steps_stay_steady s e r.0 steady here.0 r.1) (next_macs s e r.0 r.0.head macs here.1) (λ x m. written x (inr m)) in
+    let later = replies_from (next s e r.0) fs (all_steps_stay_steady s e r.0 steady here.0 r.1) (ports_keep_macs s e r.0 macs here.1) (λ x m. written x (inr m)) in
     (r.0 ∷ later.0, (r.1, later.1))
 
-from_go_on : (s : State) (es fs : List Event) (rs : List Reply) → IsSteadyInJob s → PortsHaveMacs s → ((e : Event) → Member e (es ++ fs) → IsFormedBut e × HasOctets e) → LegalFrom s es rs
+from_go_on : (s : State) (es fs : List Event) (rs : List Reply) → IsSteadyInJob s → PortsHaveMacs s → ((e : Event) → Member e (es ++ fs) → IsWellFormed e × HasOctets e) → LegalFrom s es rs
     → (more : List Reply) × LegalFrom s (es ++ fs) (rs ++ more)
 from_go_on s [] fs [] steady macs written legal = replies_from s fs steady macs written
 from_go_on s [] fs (r ∷ rs) steady macs written legal = absurd legal
 from_go_on s (e ∷ es) fs [] steady macs written legal = absurd legal
 from_go_on s (e ∷ es) fs (r ∷ rs) steady macs written legal =
     let here = written e (inl refl) in
-    let later = from_go_on (next s e r) es fs rs (all_steps_stay_steady s e r steady here.0 legal.0) (next_macs s e r r.head macs here.1) (λ x m. written x (inr m)) legal.1 in
+    let later = from_go_on (next s e r) es fs rs (all_steps_stay_steady s e r steady here.0 legal.0) (ports_keep_macs s e r macs here.1) (λ x m. written x (inr m)) legal.1 in
     (later.0, (legal.0, later.1))
 
 pub all_runs_go_on : AllRunsGoOn

@@ -2,7 +2,7 @@
 use Rattle.std.specs.Prelude.{◌≡◌, ◌+◌, ◌↔◌, true, false, List, None}
 use Rattle.std.specs.Option.{option_map}
 use Rattle.events.specs.After.{after, all_units, next}
-use Rattle.events.specs.Fits.{Fits, is_building}
+use Rattle.events.specs.Fits.{Fits, is_building, is_of_job}
 use Rattle.events.specs.Forms.{IsWellFormed}
 use Rattle.events.specs.Legal.{Legal, state_after}
 use Rattle.events.specs.Refusals.{refusal}
@@ -12,13 +12,9 @@ use Rattle.events.specs.declared.Event.{Event}
 use Rattle.events.specs.declared.Reply.{Reply}
 use Rattle.exchange_laws.specs.Rerouting.{IsRerouting, is_rerouting}
 use Rattle.exchange_laws.specs.Steady.{IsSteady}
-use Rattle.job_laws.specs.Jobs.{IsSteadyInJob, is_of_job, without_job}
+use Rattle.job_laws.specs.Jobs.{IsSteadyInJob, without_job}
 use Rattle.net_types.specs.Exports.{Routing}
 use Rattle.net_types.specs.Sets.{Member}
-
--- What is so of an event, where it isn't one of a job's lines: these may have any content.
-abbrev pub IsFormedBut : Event → Type 0
-IsFormedBut e = is_of_job e ≡ false → IsWellFormed e
 
 -- a steady state is one in which a job may run, and none does
 abbrev pub SteadyWithoutJobs : Type 0
@@ -44,10 +40,10 @@ abbrev pub UnitsStartAnew : Type 0
 UnitsStartAnew =
     (s : State) (e : Event) → refusal s e ≡ None → is_building e ≡ true → is_rerouting e ≡ false → (after s e).owed ≡ option_map (λ n. all_units (after s e)) s.owed
 
--- any line, with a reply that fits, leaves a state steady in which a job may run
+-- any line that can be written, with a reply that fits, leaves a state steady in which a job may run
 abbrev pub AllStepsStaySteady : Type 0
-AllStepsStaySteady = (s : State) (e : Event) (r : Reply) → IsSteadyInJob s → IsFormedBut e → Fits s e r → IsSteadyInJob (next s e r)
+AllStepsStaySteady = (s : State) (e : Event) (r : Reply) → IsSteadyInJob s → IsWellFormed e → Fits s e r → IsSteadyInJob (next s e r)
 
 -- so the state after any legal run is steady
 abbrev pub AllRunsStaySteady : Type 0
-AllRunsStaySteady = (es : List Event) (rs : List Reply) → ((e : Event) → Member e es → IsFormedBut e) → Legal es rs → IsSteadyInJob (state_after es rs)
+AllRunsStaySteady = (es : List Event) (rs : List Reply) → ((e : Event) → Member e es → IsWellFormed e) → Legal es rs → IsSteadyInJob (state_after es rs)

@@ -2,7 +2,8 @@
 
 ghost use Rattle.job_laws.specs.Replying.{AllLinesHaveReplies, AllRunsGoOn};
 
-/// In a steady state in which a job may run, and whose ports have MACs, some reply fits each line.
+/// In a steady state in which a job may run, and whose ports have MACs, some reply fits each line that
+/// can be written.
 pub fn all_lines_have_replies()
     ensures { AllLinesHaveReplies }
 {}

@@ -27,7 +27,7 @@ pub fn units_start_anew()
     ensures { UnitsStartAnew }
 {}
 
-/// Any line, with a reply that fits, leaves a state steady in which a job may run.
+/// Any line that can be written, with a reply that fits, leaves a state steady in which a job may run.
 pub fn all_steps_stay_steady()
     ensures { AllStepsStaySteady }
 {}

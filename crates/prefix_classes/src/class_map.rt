@@ -108,6 +108,13 @@ impl ClassMap {
         first_used(&self.kept, after)
     }
 
+    /// How many prefixes have a tag.
+    pub fn carried(&self) -> usize
+        ensures { result ≡ length (map.entries self.now.tag) }
+    {
+        self.tags.len()
+    }
+
     /// How many tags are kept.
     pub fn tagged(&self) -> usize
         ensures { result ≡ length (map.entries self.now.kept) }

@@ -15,6 +15,25 @@ pub struct Built {
     blocks: OrderedMap<Pair, Block>,
 }
 
+impl Model for Built {
+    ghost use Rattle.std.specs.Prelude.{List};
+    ghost use Rattle.std.specs.Coded.{codes};
+    ghost use Rattle.std.specs.FinMap as map;
+    ghost use Rattle.net_types.specs.Keys.{pair_cmp};
+    ghost use Rattle.net_types.specs.declared.rule.Rule.{Rule};
+
+    ghost Value = { map.FinMap pair_cmp (List Rule) };
+
+    ghost coded = { Prim.hlevel (codes, map.code) };
+
+    ghost use Rattle.std.specs.Prelude.{IsTrue};
+    ghost use Rattle.std.specs.FinMap.Entries.{is_sorted};
+
+    ghost view = { λ a. map.from_sorted a.blocks.items };
+
+    ghost invariant = { λ a. IsTrue (is_sorted pair_cmp a.blocks.items) };
+}
+
 /// What a job ends with: the moves that merge the classes, and a tight block for each pair of the table.
 #[derive(Drop)]
 pub struct Swap {
@@ -34,10 +53,19 @@ pub enum Progress {
 impl Built {
     /// The rules that were built for a pair.
     pub fn get(&self, pair: Pair) -> Option<&[Rule]>
-        ensures { option_copied result ≡ map.get self.now pair };
+        ensures { option_copied result ≡ map.get self.now pair }
+    {
+        match self.blocks.get(&pair) {
+            Some(block) => Some(block.rules()),
+            None => None,
+        }
+    }
 
     /// Takes the block of a pair out. It takes no memory.
     pub fn take(&mut self, pair: Pair) -> Option<Block>
         ensures block { result ≡ map.get self.old pair }
-        ensures rest { self.new ≡ map.remove self.old pair };
+        ensures rest { self.new ≡ map.remove self.old pair }
+    {
+        self.blocks.remove(&pair)
+    }
 }

@@ -11,9 +11,9 @@ use Rattle.net_types.specs.Sets.{Member}
 use Rattle.replay_run.specs.Bounds.{first_bound, run_bound}
 use Rattle.replay_run.specs.Progress.{IsPartOf}
 use Rattle.replay_run.specs.Run.{Begins}
-use Rattle.replay_run.proofs.Octets.{events_written}
+use Rattle.replay_run.proofs.Octets.{events_written, may_run}
 use Rattle.replay_run.proofs.Runs.{bare_append, bound_append, first_within, legal_rest}
-use Rattle.reply_laws.specs.Replying.{RunsGoOn}
+use Rattle.job_laws.specs.Replying.{AllRunsGoOn}
 
 text_append : (s : State) (es fs : List Numbered) (rs more : List Reply) → LegalFrom s (bare_events es) rs → text (es ++ fs) (rs ++ more) ≡ text es rs ++ text fs more
 text_append s [] fs [] more legal = refl
@@ -30,10 +30,10 @@ within_all s es fs rs more before after legal all few =
     omega (arith, few, bound_append s es fs rs more legal, first_within (state_from s es rs) fs more (legal_rest s es fs rs more legal all))
 
 -- what begins the text of replies to the first events begins that of replies to all
-pub begins : RunsGoOn → (octets w : List ℕ) (before after : ℕ) → IsPartOf first octets w before after → Begins octets w before after
+pub begins : AllRunsGoOn → (octets w : List ℕ) (before after : ℕ) → IsPartOf first octets w before after → Begins octets w before after
 begins runs_go_on octets w before after part =
     let all : bare_events (events_of octets) ≡ bare_events part.events ++ bare_events part.others = ap bare_events part.front ∙ bare_append part.events part.others in
-    let on = runs_go_on (bare_events part.events) (bare_events part.others) part.replies (λ e m. events_written octets e (subst (Member e) (sym all) m)) part.legal in
+    let on = runs_go_on (bare_events part.events) (bare_events part.others) part.replies (λ e m. may_run e (events_written octets e (subst (Member e) (sym all) m))) part.legal in
     record {
       replies = part.replies ++ on.0;
       rest = part.rest ++ text part.others on.0;

@@ -13,7 +13,7 @@ use Rattle.events.specs.declared.Event.{Event}
 use Rattle.load_gen.specs.Generated.{generated}
 use Rattle.net_types.specs.Routes.{numbers}
 use Rattle.net_types.specs.Sets.{Member}
-use Rattle.reply_laws.specs.Replying.{RunsGoOn}
+use Rattle.job_laws.specs.Replying.{AllRunsGoOn}
 use Rattle.sdx_core.specs.Steps.{step_bound}
 use Rattle.replay_run.specs.Bounds.{first_bound, line_bound, run_bound}
 use Rattle.replay_run.specs.Load.{BeginsSummary, CountsEvent, HasLoaded, Loaded, LoadedBy, Loads, Summarizes, counted_with, generated_events, generated_lines, live_count, load_events, summary, tally_of, tally_text}
@@ -26,7 +26,7 @@ use Rattle.replay_run.specs.declared.tally.Tally.{Tally}
 use Rattle.replay_run.proofs.Begun.{within_all}
 use Rattle.replay_run.proofs.Bytes.{Appends_none}
 use Rattle.replay_run.proofs.LineSplits.{numbered-append}
-use Rattle.replay_run.proofs.Octets.{IsWritten, lines_written}
+use Rattle.replay_run.proofs.Octets.{IsWritten, lines_written, may_run}
 use Rattle.replay_run.proofs.Parts.{within_more}
 use Rattle.replay_run.proofs.Runs.{bare_append, legal_more, line_within, state_more}
 use Rattle.replay_run.proofs.Tallies.{refused_counted, tally_more}
@@ -129,12 +129,12 @@ nothing_loaded seed before = record { replies = []; legal = tt; counted = refl; 
 -- ---- lines that are given up
 
 -- where at most the line behind the first took steps too, replies go on to all
-go_on : RunsGoOn → (seed j k : ℕ) (tally : Tally) (s : State) (before mid after : ℕ) → after ≤ mid + line_bound s (event_of (generated seed j)) → Loaded seed j tally s before mid → Loads seed (j + suc k) before after
+go_on : AllRunsGoOn → (seed j k : ℕ) (tally : Tally) (s : State) (before mid after : ℕ) → after ≤ mid + line_bound s (event_of (generated seed j)) → Loaded seed j tally s before mid → Loads seed (j + suc k) before after
 go_on runs_go_on seed j k tally s before mid after few h =
     let es : List Event = load_events seed j in
     let fs : List Event = bare_events (behind seed j (suc k)) in
     let all : load_events seed (j + suc k) ≡ es ++ fs = events_split seed j (suc k) in
-    let on = runs_go_on es fs h.replies (λ e m. loads_written seed (j + suc k) e (subst (Member e) (sym all) m)) h.legal in
+    let on = runs_go_on es fs h.replies (λ e m. may_run e (loads_written seed (j + suc k) e (subst (Member e) (sym all) m))) h.legal in
     let one : line_bound s (event_of (generated seed j)) ≤ first_bound s fs = line_within s (1 + j) (event_of (generated seed j)) (numbered (1 + j + 1) (from seed (j + 1) k)) in
     let here : after ≤ mid + first_bound (state_from first es h.replies) fs = subst (λ x. after ≤ mid + first_bound x fs) h.state (widened after mid (line_bound s (event_of (generated seed j))) (first_bound s fs) few one) in
     record {
@@ -147,14 +147,14 @@ go_on runs_go_on seed j k tally s before mid after few h =
 all_lines : (j lines : ℕ) → j < lines → j + suc (lines - j - 1) ≡ lines
 all_lines j lines within = omega arith
 
-pub loads_on : RunsGoOn → (seed j lines : ℕ) (line : List ℕ) (tally : Tally) (s : State) (before mid after : ℕ) → j < lines → line ≡ generated seed j → after ≤ mid + line_bound s (event_of line)
+pub loads_on : AllRunsGoOn → (seed j lines : ℕ) (line : List ℕ) (tally : Tally) (s : State) (before mid after : ℕ) → j < lines → line ≡ generated seed j → after ≤ mid + line_bound s (event_of line)
     → Loaded seed j tally s before mid → Loads seed lines before after
 loads_on law seed j lines line tally s before mid after within is few h =
     let whole : j + suc (lines - j - 1) ≡ lines = all_lines j lines within in
     subst (λ n. Loads seed n before after) whole (go_on law seed j (lines - j - 1) tally s before mid after (subst (λ l. after ≤ mid + line_bound s (event_of l)) is few) h)
 
 -- the same where the line took no steps
-pub loads_here : RunsGoOn → (seed j lines : ℕ) (tally : Tally) (s : State) (before mid : ℕ) → j < lines → Loaded seed j tally s before mid → Loads seed lines before mid
+pub loads_here : AllRunsGoOn → (seed j lines : ℕ) (tally : Tally) (s : State) (before mid : ℕ) → j < lines → Loaded seed j tally s before mid → Loads seed lines before mid
 loads_here law seed j lines tally s before mid within h = loads_on law seed j lines (generated seed j) tally s before mid mid within refl (no_steps mid (line_bound s (event_of (generated seed j)))) h
 
 -- ---- the end
@@ -232,7 +232,7 @@ pub counted_result : {T E : Type 0} (result : Result T E) (seed j : ℕ) (line :
 counted_result (Ok x) seed j line old new s t before mid after is r few h = loaded_line seed j line old new s t before mid after is r few h
 counted_result (Err e) seed j line old new s t before mid after is r few h = tt
 
-pub stopped_result : RunsGoOn → {T E : Type 0} (result : Result T E) (seed j lines : ℕ) (line : List ℕ) (tally : Tally) (s : State) (before mid after : ℕ) → j < lines → line ≡ generated seed j → after ≤ mid + line_bound s (event_of line)
+pub stopped_result : AllRunsGoOn → {T E : Type 0} (result : Result T E) (seed j lines : ℕ) (line : List ℕ) (tally : Tally) (s : State) (before mid after : ℕ) → j < lines → line ≡ generated seed j → after ≤ mid + line_bound s (event_of line)
     → Loaded seed j tally s before mid → OnErr result (Loads seed lines before after)
 stopped_result law (Ok x) seed j lines line tally s before mid after within is few h = tt
 stopped_result law (Err e) seed j lines line tally s before mid after within is few h = loads_on law seed j lines line tally s before mid after within is few h

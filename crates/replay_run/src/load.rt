@@ -10,10 +10,10 @@ use crate::Status;
 use crate::outside::Sink;
 use crate::progress::{done_or_refused, fault_status, write_all};
 use crate::tally::{Tally, summary};
+use job_laws::all_runs_go_on;
 use load_gen::line;
 use net_types::{Memory, Steps};
 use replay_text::read_line;
-use reply_laws::runs_go_on;
 use sdx_core::Sdx;
 use std::alloc::Global;
 use std::sync::ledger::Ledger;
@@ -53,7 +53,7 @@ fn run_generated<L: Ledger>(
     ensures ok { (before : ℕ) → Loaded seed number tally.old sdx.old before steps.old → OnOk result (Loaded seed (number + 1) tally.new sdx.new before steps.new) }
     ensures err { (before lines : ℕ) → number < lines → Loaded seed number tally.old sdx.old before steps.old → OnErr result (Loads seed lines before steps.new) }
 {
-    runs_go_on();
+    all_runs_go_on();
     let line = line(alloc, seed, number)?;
     count_line(alloc, line.as_slice(), tally, sdx, steps)
 }

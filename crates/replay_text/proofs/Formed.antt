@@ -6,7 +6,7 @@ use Rattle.std.proofs.lemmas.Bool.{and_parts, leb-true}
 use Rattle.net_types.specs.declared.address.Ip.{Ip}
 use Rattle.net_types.specs.declared.address.PortNo.{PortNo}
 use Rattle.events.specs.declared.Event.{Event}
-use Rattle.events.specs.declared.Event.TheVariants.{Bad, Exchange, Participant, Port, Update, Down, Export, Outbound, Inbound, Take, Drain, Arp, Resolve, Packet, Frame, Table}
+use Rattle.events.specs.declared.Event.TheVariants.{Bad, Exchange, Participant, Port, Update, Down, Export, Outbound, Inbound, Take, Drain, Arp, Resolve, Packet, Frame, Recompile, Work, Table}
 use Rattle.events.specs.Forms.{IsWellFormed}
 use Rattle.events.specs.Lines.{only_if, number, number_within, port_number, as_number, address, hardware_address, is_name, name, is_utf8, is_text, bytes, first_space, exchange_event, exchange_line, participant_line, port_line, update_line, arp_line, packet_line, frame_line, name_and_text, export_line, out_line, in_line, take_line, is_word, or_bad, pieces, event_of_word, event_of_words, event_of_verb, event_of_line}
 
@@ -92,6 +92,9 @@ at_port f is a b =
 resolve_formed : (a : List ℕ) → IfSome (option_map (λ n. Resolve n) (port_number a)) IsWellFormed
 resolve_formed a = map_holds (λ n. (1 ≤ n.0) × (n.0 ≤ 65279)) IsWellFormed (port_number a) (λ n. Resolve n) (port_holds a) (λ n h. h)
 
+work_formed : (a : List ℕ) → IfSome (option_map (λ units. Work units) (number_within 1 1000000000 a)) IsWellFormed
+work_formed a = map_holds (IsWithin 1 1000000000) IsWellFormed (number_within 1 1000000000 a) (λ units. Work units) (number_holds 1 1000000000 a) (λ units h. h)
+
 drain_formed : (a : List ℕ) → IfSome (option_map (λ who. Drain who) (name a)) IsWellFormed
 drain_formed a = map_holds (λ who. IsTrue (is_name who)) IsWellFormed (name a) (λ who. Drain who) (name_holds a) (λ who n. n)
 
@@ -116,11 +119,12 @@ take_formed a b =
     (λ who n. map_holds (IsWithin 1 1000000) IsWellFormed (number_within 1 1000000 b) (λ count. Take who count) (number_holds 1 1000000 b) (λ count h. (n, h.0, h.1)))
 
 -- What is so of the events of all kinds of lines is so of the event of each line.
-module _ (Q : Event → Type 0) (bad : Q Bad) (table : Q Table)
+module _ (Q : Event → Type 0) (bad : Q Bad) (table : Q Table) (recompile : Q Recompile)
     (exchange : (a b c : List ℕ) → IfSome (exchange_line a b c) Q) (participant : (a b c : List ℕ) → IfSome (participant_line a b c) Q) (port : (a b c d : List ℕ) → IfSome (port_line a b c d) Q)
     (update : (a b : List ℕ) → IfSome (update_line a b) Q) (down : (a : List ℕ) → IfSome (option_map (λ who. Down who) (name a)) Q) (export : (rest : List ℕ) → IfSome (export_line rest) Q)
     (outbound : (rest : List ℕ) → IfSome (out_line rest) Q) (inbound : (rest : List ℕ) → IfSome (in_line rest) Q) (takes : (a b : List ℕ) → IfSome (take_line a b) Q)
     (drain : (a : List ℕ) → IfSome (option_map (λ who. Drain who) (name a)) Q) (arp : (a b : List ℕ) → IfSome (arp_line a b) Q) (resolve : (a : List ℕ) → IfSome (option_map (λ n. Resolve n) (port_number a)) Q)
+    (work : (a : List ℕ) → IfSome (option_map (λ units. Work units) (number_within 1 1000000000 a)) Q)
     (packet : (a b : List ℕ) → IfSome (packet_line a b) Q) (frame : (a b : List ℕ) → IfSome (frame_line a b) Q) where
   or_bad_holds : (o : Option Event) → IfSome o Q → Q (or_bad o)
   or_bad_holds None h = bad
@@ -130,13 +134,17 @@ module _ (Q : Event → Type 0) (bad : Q Bad) (table : Q Table)
   if_holds true e f h k = h
   if_holds false e f h k = k
 
+  word_holds : (w : List ℕ) → Q (event_of_word w)
+  word_holds w = if_holds (is_word w (codes "table")) _ _ table (if_holds (is_word w (codes "recompile")) _ _ recompile bad)
+
   words_hold : (ws : List (List ℕ)) → Q (event_of_words ws)
   words_hold [] = bad
-  words_hold (w ∷ []) = if_holds (is_word w (codes "table")) _ _ table bad
+  words_hold (w ∷ []) = word_holds w
   words_hold (w ∷ a ∷ []) =
       if_holds (is_word w (codes "drain")) _ _ (or_bad_holds _ (drain a))
       (if_holds (is_word w (codes "down")) _ _ (or_bad_holds _ (down a))
-      (if_holds (is_word w (codes "resolve")) _ _ (or_bad_holds _ (resolve a)) bad))
+      (if_holds (is_word w (codes "resolve")) _ _ (or_bad_holds _ (resolve a))
+      (if_holds (is_word w (codes "work")) _ _ (or_bad_holds _ (work a)) bad)))
   words_hold (w ∷ a ∷ b ∷ []) =
       if_holds (is_word w (codes "update")) _ _ (or_bad_holds _ (update a b))
       (if_holds (is_word w (codes "take")) _ _ (or_bad_holds _ (takes a b))
@@ -155,9 +163,6 @@ module _ (Q : Event → Type 0) (bad : Q Bad) (table : Q Table)
       (if_holds (is_word w (codes "out")) _ _ (or_bad_holds _ (outbound rest))
       (if_holds (is_word w (codes "in")) _ _ (or_bad_holds _ (inbound rest)) (words_hold (w ∷ pieces 32 rest))))
 
-  word_holds : (w : List ℕ) → Q (event_of_word w)
-  word_holds w = if_holds (is_word w (codes "table")) _ _ table bad
-
   at_holds : (line : List ℕ) (o : Option ℕ) → Q (option_map_or (λ at. event_of_verb (take at line) (drop (at + 1) line)) o (event_of_word line))
   at_holds line None = word_holds line
   at_holds line (Some at) = verb_holds (take at line) (drop (at + 1) line)
@@ -168,6 +173,6 @@ module _ (Q : Event → Type 0) (bad : Q Bad) (table : Q Table)
 -- whatever a line says
 pub line_formed : (line : List ℕ) → IsWellFormed (event_of_line line)
 line_formed =
-    line_holds IsWellFormed tt tt exchange_formed participant_formed port_formed update_formed down_formed (with_text (λ who text. Export who text) (λ who t n h. (n, h)))
-    (with_text (λ who text. Outbound who text) (λ who t n h. (n, h))) (with_text (λ who text. Inbound who text) (λ who t n h. (n, h))) take_formed drain_formed (at_port (λ n octets. Arp n octets) (λ n octets h. h)) resolve_formed
+    line_holds IsWellFormed tt tt tt exchange_formed participant_formed port_formed update_formed down_formed (with_text (λ who text. Export who text) (λ who t n h. (n, h)))
+    (with_text (λ who text. Outbound who text) (λ who t n h. (n, h))) (with_text (λ who text. Inbound who text) (λ who t n h. (n, h))) take_formed drain_formed (at_port (λ n octets. Arp n octets) (λ n octets h. h)) resolve_formed work_formed
     (at_port (λ n octets. Packet n octets) (λ n octets h. h)) (at_port (λ n octets. Frame n octets) (λ n octets h. h))

@@ -222,6 +222,16 @@ fn resolve(text: &[u8]) -> Option<Event>
     Some(Event::Resolve { port })
 }
 
+fn work(text: &[u8]) -> Option<Event>
+    ensures { or_bad result ≡ event_of_words (codes "work" ∷ pieces 32 text.now) }
+{
+    let units = one_piece(text, b' ')?;
+    let units = number_within(1, 1000000000, units)?;
+    Some(Event::Work {
+        units: u64::from(units),
+    })
+}
+
 fn octets_at(alloc: Global, port: &[u8], octets: &[u8]) -> Result<Option<(PortNo, Bytes)>, Memory>
     ensures arp { IfOk result (λ parts. option_map (λ p. Arp p.0 p.1) parts ≡ arp_line port.now octets.now) }
     ensures packet { IfOk result (λ parts. option_map (λ p. Packet p.0 p.1) parts ≡ packet_line port.now octets.now) }
@@ -281,6 +291,7 @@ fn word_event(word: &[u8]) -> Event
 {
     match word {
         b"table" => Event::Table,
+        b"recompile" => Event::Recompile,
         _ => Event::Bad,
     }
 }
@@ -305,6 +316,8 @@ fn words_event(alloc: Global, word: &[u8], rest: &[u8]) -> Result<Option<Event>,
         arp(alloc, rest)
     } else if word == b"resolve".as_slice() {
         Ok(resolve(rest))
+    } else if word == b"work".as_slice() {
+        Ok(work(rest))
     } else if word == b"exchange".as_slice() {
         Ok(exchange(rest))
     } else if word == b"participant".as_slice() {

@@ -1,2 +1,3 @@
 pub mod BuiltLines
+pub mod PortMacs
 pub mod EveryLine

@@ -1,7 +1,8 @@
 -- Each line has a reply that fits, so legal replies to the first lines of a run go on (this exchange's own rule).
-use Rattle.std.specs.Prelude.{List, ◌++◌}
+use Rattle.std.specs.Prelude.{◌≡◌, false, List, ◌++◌}
 use Rattle.events.specs.Forms.{IsWellFormed}
-use Rattle.events.specs.Fits.{Fits}
+use Rattle.events.specs.After.{next}
+use Rattle.events.specs.Fits.{Fits, is_of_job}
 use Rattle.events.specs.Legal.{Legal}
 use Rattle.events.specs.State.{State}
 use Rattle.events.specs.declared.Event.{Event}
@@ -37,12 +38,16 @@ HasOctets Table = Unit {0}
 abbrev pub PortsHaveMacs : State → Type 0
 PortsHaveMacs s = (q : PortInfo) → Member q s.routing.ports → IsMac q.mac
 
--- in a steady state some reply to each line fits
-abbrev pub LinesHaveReplies : Type 0
-LinesHaveReplies = (s : State) (e : Event) → IsSteady s → PortsHaveMacs s → IsWellFormed e → HasOctets e → (r : Reply) × Fits s e r
+-- any line, a job's too, and any reply leave each port its MAC
+abbrev pub PortsKeepMacs : Type 0
+PortsKeepMacs = (s : State) (e : Event) (r : Reply) → PortsHaveMacs s → HasOctets e → PortsHaveMacs (next s e r)
 
--- so legal replies to the first lines of a run go on
+-- in a steady state some reply to each line that isn't a job's fits
+abbrev pub LinesHaveReplies : Type 0
+LinesHaveReplies = (s : State) (e : Event) → IsSteady s → PortsHaveMacs s → IsWellFormed e → is_of_job e ≡ false → HasOctets e → (r : Reply) × Fits s e r
+
+-- so legal replies to the first lines of a run of such lines go on
 abbrev pub RunsGoOn : Type 0
 RunsGoOn =
-    (es fs : List Event) (rs : List Reply) → ((e : Event) → Member e (es ++ fs) → IsWellFormed e × HasOctets e) → Legal es rs
+    (es fs : List Event) (rs : List Reply) → ((e : Event) → Member e (es ++ fs) → IsWellFormed e × (is_of_job e ≡ false) × HasOctets e) → Legal es rs
     → (more : List Reply) × Legal (es ++ fs) (rs ++ more)

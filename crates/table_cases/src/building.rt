@@ -73,7 +73,7 @@ fn both<L: Ledger>(
     requires all { IsTrue (has_all view.now part.now.offers) }
 {
     let block = build(alloc, view, port, part, room, steps)?;
-    let tight = build_tight(alloc, view, port, part, block.rules(), steps)?;
+    let tight = build_tight(alloc, block.rules(), steps)?;
     Ok((block, tight))
 }
 

@@ -43,7 +43,7 @@ returns-then-count-eq0-clause-replay g c =
       subst (λ b. Consumes (g.S.Source.left c.args.source.now) (g.S.Source.left c.read_at_most.new.source) b) none (Consumes_then _ _ _ i.0 (take c.in-Ok.count buffer) i.2 c.in-Ok.ensures.bytes.0),
       Appends_then _ _ _ i.1 end.0 i.3 end.1,
       omega (arith, few),
-      replayed_end c.runs_go_on.ensures c.finish.result i.0 (i.1 ++ end.0) (g.S.Source.left c.read_at_most.new.source) c.finish.new.sdx c.args.steps.now c.finish.new.steps (c.in-Ok.ensures.bytes.1 c.if-count-eq0.true (omega arith)) few end.2,
+      replayed_end c.all_runs_go_on.ensures c.finish.result i.0 (i.1 ++ end.0) (g.S.Source.left c.read_at_most.new.source) c.finish.new.sdx c.args.steps.now c.finish.new.steps (c.in-Ok.ensures.bytes.1 c.if-count-eq0.true (omega arith)) few end.2,
     )
 
 pub returns-then-count-eq0-clause-read : goal.returns-then-count-eq0-clause-read
@@ -96,7 +96,7 @@ returns-in-Err-Failed-clause-replay g c =
       Consumes_then _ _ _ i.0 (take count buffer) i.2 c.in-Ok.ensures.bytes.0,
       Appends_then _ _ _ i.1 more.0 i.3 more.1,
       taken_few i.0 buffer count c.in-Ok.ensures.bound (omega (arith, i.4, c.in-Ok.ensures.most)),
-      begins c.runs_go_on.ensures (i.0 ++ take count buffer) (i.1 ++ more.0) c.args.steps.now c.run_piece.new.steps
+      begins c.all_runs_go_on.ensures (i.0 ++ take count buffer) (i.1 ++ more.0) c.args.steps.now c.run_piece.new.steps
           (subst (λ b. IsPartOf first b (i.1 ++ more.0) c.args.steps.now c.run_piece.new.steps) (sym (taken_parts limit i.0 buffer count c.min-within.result few within)) (more.2 (drop c.min-within.result (take count buffer)))),
     )
 
@@ -113,7 +113,7 @@ returns-in-Err-Memory-clause-replay g c =
       Consumes_then _ _ _ i.0 (take count buffer) i.2 c.in-Ok.ensures.bytes.0,
       Appends_then _ _ _ i.1 more.0 i.3 more.1,
       taken_few i.0 buffer count c.in-Ok.ensures.bound (omega (arith, i.4, c.in-Ok.ensures.most)),
-      begins c.runs_go_on.ensures (i.0 ++ take count buffer) (i.1 ++ more.0) c.args.steps.now c.run_piece.new.steps
+      begins c.all_runs_go_on.ensures (i.0 ++ take count buffer) (i.1 ++ more.0) c.args.steps.now c.run_piece.new.steps
           (subst (λ b. IsPartOf first b (i.1 ++ more.0) c.args.steps.now c.run_piece.new.steps) (sym (taken_parts limit i.0 buffer count c.min-within.result few within)) (more.2 (drop c.min-within.result (take count buffer)))),
     )
 

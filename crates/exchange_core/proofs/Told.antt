@@ -1,0 +1,133 @@
+-- A job that is told of a plan covers what the line leaves.
+use Rattle.std.proofs.Common.{◌≡◌, ℕ, ◌+◌, ◌*◌, ◌≤◌, Bool, true, false, List, length, map, sym, ap, subst, ◌∙◌, refl}
+use Rattle.std.specs.Prelude.{Option, Some, None, Result, Ok, Err, IfOk}
+use Rattle.std.proofs.lemmas.List.{length-map}
+use Rattle.events.specs.After.{next}
+use Rattle.events.specs.Fits.{Fits, IsStep, bare, is_building, is_of_job}
+use Rattle.events.specs.Forms.{IsWellFormed}
+use Rattle.events.specs.State.{State}
+use Rattle.events.specs.Tags.{capped}
+use Rattle.events.specs.declared.Event.{Event}
+use Rattle.events.specs.declared.Event.TheVariants.{Bad, Exchange, Participant as DeclaresParticipant, Port as DeclaresPort, Update, Down, Export, Outbound as Out, Inbound as In, Take, Drain, Arp, Resolve, Packet, Frame, Recompile, Work, Table}
+use Rattle.events.specs.declared.Head.TheVariants.{Refused}
+use Rattle.events.specs.declared.Refusal.{Refusal}
+use Rattle.events.specs.declared.Reply.{Reply}
+use Rattle.exchange_laws.specs.Editing.{IsEdit}
+use Rattle.exchange_laws.specs.Rerouting.{is_rerouting}
+use Rattle.exchange_laws.specs.Steady.{IsSteady}
+use Rattle.fast_path.specs.Carried.{IsPlanned, plan_reply}
+use Rattle.fast_path.specs.Committing.{Kept, signed, tags_of}
+use Rattle.fast_path.specs.Plans.{IsPlan}
+use Rattle.fast_path.specs.declared.planned.Class.{Class}
+use Rattle.fast_path.specs.declared.planned.Plan.{Plan}
+use Rattle.job_laws.specs.Jobs.{without_job}
+use Rattle.job_upkeep.specs.Upkeep.{AddedAreFew, HasJob, NoJobsStart, PoliciesKeepJobs, QuietLinesKeepJobs, ReroutingsKeepJobs, fresh_of}
+use Rattle.net_types.specs.Exports.{Routing}
+use Rattle.net_types.specs.declared.memory.Memory.{Memory}
+use Rattle.net_types.specs.declared.rule.Pair.{Pair}
+use Rattle.recompile.specs.Underway.{Underway}
+use Rattle.exchange_core.specs.Building.{Asks, IsOfKind, Leads, base_by, base_of}
+use Rattle.exchange_core.specs.Jobs.{IsTold, IsToldBy, IsToldPolicy, KeepsJob}
+use Rattle.exchange_core.specs.declared.programs.PolicyChange.{PolicyChange}
+use Rattle.exchange_core.specs.declared.programs.PolicyChange.TheVariants.{Inbound, Outbound, Stay}
+use Rattle.exchange_core.specs.declared.request.Request.{Request}
+use Rattle.exchange_core.proofs.Builds.{edit_of, planned_of}
+
+-- ---- lines that leave the job as it is
+
+-- a refused line leaves the state as it is
+pub refused_keeps : (s : State) (e : Event) (why : Refusal) (reply : Reply) (old new : Option Underway) → reply ≡ bare (Refused why) → new ≡ old → KeepsJob s e reply old new
+refused_keeps s e why reply old new is same = λ w core has. subst (HasJob (next w e reply)) (sym same) (subst (λ (r : Reply). HasJob (next w e r) old) (sym is) has)
+
+-- a line that builds no rules, with a reply that fits
+pub quiet_keeps : QuietLinesKeepJobs → (s : State) (e : Event) (reply : Reply) (s' : State) (old new : Option Underway) → IsSteady s → IsWellFormed e → is_of_job e ≡ false → is_building e ≡ false → IsStep s e reply s' → new ≡ old
+    → KeepsJob s e reply old new
+quiet_keeps law s e reply s' old new steady formed line quiet step same = λ w core has.
+    subst (HasJob (next w e reply)) (sym same) (law w e reply old (subst IsSteady (sym core) steady) formed line quiet (subst (λ (x : State). Fits x e reply) (sym core) step.fits) has)
+
+-- ---- lines that build rules
+
+-- no line that builds rules is a job's
+pub not_of_job : (e : Event) → is_building e ≡ true → is_of_job e ≡ false
+not_of_job Bad is = refl
+not_of_job (Exchange base size capacity) is = refl
+not_of_job (DeclaresParticipant name asn id) is = refl
+not_of_job (DeclaresPort name number ip mac) is = refl
+not_of_job (Update name bytes) is = refl
+not_of_job (Down name) is = refl
+not_of_job (Export name text) is = refl
+not_of_job (Out name text) is = refl
+not_of_job (In name text) is = refl
+not_of_job (Take name count) is = refl
+not_of_job (Drain name) is = refl
+not_of_job (Arp port bytes) is = refl
+not_of_job (Resolve port) is = refl
+not_of_job (Packet port bytes) is = refl
+not_of_job (Frame port bytes) is = refl
+not_of_job Recompile is = sym is
+not_of_job (Work units) is = sym is
+not_of_job Table is = refl
+
+-- as many fresh tags as classes
+fresh_count : (plan : Plan) → length (fresh_of plan) ≡ length plan.fresh.items
+fresh_count plan = length-map (signed plan.fresh.items) (λ (f : Kept). f.0) ∙ length-map plan.fresh.items (λ (c : Class). let k : Kept = (c.tag, c.sig) in k)
+
+module _ (s : State) (e : Event) (r : Routing) (is_rebuilt : Pair → Bool) (q : Request) (plan : Plan) (leads : Leads s e r is_rebuilt q) (plans : IsPlan (base_of s q) r is_rebuilt plan) where
+  is_edit : IsEdit s e (base_of s q) r is_rebuilt
+  is_edit = edit_of s e r is_rebuilt q leads plans.enough
+
+  is_planned : IsPlanned (base_of s q) r is_rebuilt plan
+  is_planned = planned_of s e r is_rebuilt q plan leads plans
+
+  -- where all policies stay, the routes change, on the state before the line
+  module _ (stays : q.change ≡ Stay) where
+    kind : IsOfKind e q.proposal.named Stay
+    kind = subst (IsOfKind e q.proposal.named) stays leads.kind
+
+    base_is : base_of s q ≡ s
+    base_is = λ i. base_by s (kind.1 i) (stays i)
+
+    pub few_added : AddedAreFew → IsSteady s → length plan.added ≤ length (fresh_of plan) * length s.routing.ports
+    few_added law steady =
+        subst (λ n. length plan.added ≤ n * length s.routing.ports) (sym (fresh_count plan))
+        (law s e r is_rebuilt plan steady kind.0 (subst (λ (x : State). IsEdit s e x r is_rebuilt) base_is is_edit) (subst (λ (x : State). IsPlanned x r is_rebuilt plan) base_is is_planned))
+
+  module _ (reroutings : ReroutingsKeepJobs) (policies : PoliciesKeepJobs) (none : NoJobsStart) (steady : IsSteady s) (formed : IsWellFormed e) (w : State) (core : without_job w ≡ s) where
+    -- the job of a state is told of a change of the routes, or of a policy
+    told_covers : (change : PolicyChange) → q.change ≡ change → (old new : Underway) → IsToldBy (length s.routing.ports) s.tag s.table change plan old new → HasJob w (Some old) → HasJob (next w e (plan_reply plan)) (Some new)
+    told_covers Stay is old new told has =
+        let here = kind is in
+        let edit = subst (λ (x : State). IsEdit x e x r is_rebuilt) (sym core) (subst (λ (x : State). IsEdit s e x r is_rebuilt) (base_is is) is_edit) in
+        let planned = subst (λ (x : State). IsPlanned x r is_rebuilt plan) (sym core) (subst (λ (x : State). IsPlanned x r is_rebuilt plan) (base_is is) is_planned) in
+        reroutings w e r is_rebuilt plan old new (subst IsSteady (sym core) steady) formed here.0 edit planned told.covers (subst (λ (x : State). new.owed ≡ capped (old.owed + (plan.newly + length (fresh_of plan) * (length x.routing.ports + 1)))) (sym core) told.owed) has
+    told_covers (Outbound who program) is old new told has =
+        let kind = subst (IsOfKind e q.proposal.named) is leads.kind in
+        let now = subst (λ (x : State). IsToldPolicy x.tag x.table plan new) (sym core) told in
+        policies w e (base_of s q) r is_rebuilt plan old new (subst IsSteady (sym core) steady) formed kind (subst (λ (x : State). IsEdit x e (base_of s q) r is_rebuilt) (sym core) is_edit) is_planned now.covers now.owed has
+    told_covers (Inbound who program) is old new told has =
+        let kind = subst (IsOfKind e q.proposal.named) is leads.kind in
+        let now = subst (λ (x : State). IsToldPolicy x.tag x.table plan new) (sym core) told in
+        policies w e (base_of s q) r is_rebuilt plan old new (subst IsSteady (sym core) steady) formed kind (subst (λ (x : State). IsEdit x e (base_of s q) r is_rebuilt) (sym core) is_edit) is_planned now.covers now.owed has
+
+    told_has : (old new : Option Underway) → IsTold (length s.routing.ports) s.tag s.table q.change plan old new → HasJob w old → HasJob (next w e (plan_reply plan)) new
+    told_has None new told has = subst (HasJob (next w e (plan_reply plan))) (sym told) (none w e (plan_reply plan) (not_of_job e leads.building) has)
+    told_has (Some old) new told has = subst (HasJob (next w e (plan_reply plan))) (sym told.1) (told_covers q.change refl old told.0 told.2 has)
+
+  -- so the line keeps the job that is told of its plan
+  pub told_keeps : ReroutingsKeepJobs → PoliciesKeepJobs → NoJobsStart → IsSteady s → IsWellFormed e → (reply : Reply) → reply ≡ plan_reply plan → (old new : Option Underway) → IsTold (length s.routing.ports) s.tag s.table q.change plan old new → KeepsJob s e reply old new
+  told_keeps reroutings policies none steady formed reply is old new told = λ w core has.
+      subst (λ (x : Reply). HasJob (next w e x) new) (sym is) (told_has reroutings policies none steady formed w core old new told has)
+
+-- ---- what is asked
+
+-- what is asked for is answered for each line that asks for it
+pub keeps_asked : (s : State) (q : Request) (asked : Result Request Refusal) → asked ≡ Ok q → (result : Result Reply Memory) (old new : Option Underway)
+    → IfOk result (λ reply. (e : Event) (r : Routing) (is_rebuilt : Pair → Bool) → IsWellFormed e → Leads s e r is_rebuilt q → KeepsJob s e reply old new) → IfOk result (λ reply. (e : Event) → IsWellFormed e → Asks s e asked → KeepsJob s e reply old new)
+keeps_asked s q asked is (Ok reply) old new done = λ e formed asks. let leads = subst (Asks s e) is asks in done e leads.0 leads.1 formed leads.2
+keeps_asked s q asked is (Err m) old new done = tt
+
+-- what is answered for each line is answered for this one
+pub keeps_line : (s : State) (e : Event) (asked : Result Request Refusal) (result : Result Reply Memory) (old new : Option Underway) → IfOk result (λ reply. (e : Event) → IsWellFormed e → Asks s e asked → KeepsJob s e reply old new) → IsWellFormed e → Asks s e asked
+    → IfOk result (λ reply. KeepsJob s e reply old new)
+keeps_line s e asked (Ok reply) old new done formed asks = done e formed asks
+keeps_line s e asked (Err m) old new done formed asks = tt

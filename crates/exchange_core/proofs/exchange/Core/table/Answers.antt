@@ -1,0 +1,14 @@
+use Rattle.std.proofs.Common.{sym, ◌∙◌}
+use Rattle.events.specs.declared.Event.TheVariants.{Table}
+use Rattle.exchange_core.proofs.Lists.{table_kept, table_step}
+use Rattle.exchange_core.proofs.Steps.{step_from}
+use Rattle.exchange_core.proofs.exchange.Core.table.Goals as goal
+
+pub invariant_of-self : goal.invariant_of-self
+invariant_of-self c = record { kept = table_kept c.self.invariant.kept (sym c.is_declared.ensures ∙ c.if-not-is_declared.false); present = c.self.invariant.present }
+
+pub returns-clause-step : goal.returns-clause-step
+returns-clause-step c =
+    let plain = c.bare_reply-reply.ensures in
+    step_from _ c.args.self.now Table _ _ c.self.view_is
+    (table_step c.self.invariant.kept (sym c.is_declared.ensures ∙ c.if-not-is_declared.false) _ (λ i. record (plain i) { adds = c.in_ok-flows.ensures i }))

@@ -1,0 +1,31 @@
+-- What the participants are offered at the end of a job (this exchange's own rule).
+use Rattle.std.specs.Prelude.{List, [], ◌∷◌, Option, Some, None}
+use Rattle.std.specs.FinMap.{get}
+use Rattle.events.specs.declared.Entry.{Entry}
+use Rattle.fast_path.specs.Offers.{Present, present_to}
+use Rattle.fast_path.specs.declared.planned.Advert.{Advert}
+use Rattle.net_types.specs.Sets.{union_over}
+use Rattle.net_types.specs.declared.address.Pid.{Pid}
+use Rattle.net_types.specs.declared.address.Tag.{Tag}
+use Rattle.net_types.specs.declared.prefix.Prefix.{Prefix}
+
+-- a prefix with the tag that it moves to
+abbrev pub Move : Type 0
+Move = Prefix × Tag
+
+-- what is present of a moved prefix, with the new tag; nothing where nothing is
+abbrev pub retold : Pid → Move → Option Entry → List Advert
+retold who m None = []
+retold who m (Some e) = record { who = who; prefix = m.0; entry = Some (record { attrs = e.attrs; tag = m.1 }) } ∷ []
+
+-- what a participant is offered of a moved prefix
+abbrev pub offers_to : Present → Move → Pid → List Advert
+offers_to all m who = retold who m (get (present_to all who) m.0)
+
+-- what these participants are offered of it
+abbrev pub offers_at : Present → List Pid → Move → List Advert
+offers_at all whos m = union_over (offers_to all m) whos
+
+-- and of each of the moved prefixes
+abbrev pub offers_of : Present → List Pid → List Move → List Advert
+offers_of all whos moves = union_over (offers_at all whos) moves

@@ -1,0 +1,84 @@
+//! The pairs that stay and get other rules.
+
+ghost use Rattle.std.specs.Prelude.{◌≡◌, ◌&&◌, not, option_copied, IfOk};
+ghost use Rattle.std.specs.Cmp.Lexicographic.{pointwise};
+ghost use Rattle.events.specs.Fits.{flows_of};
+ghost use Rattle.events.specs.Sound.{same_rule};
+ghost use Rattle.exchange_laws.specs.Listed.{is_pair_before};
+ghost use Rattle.job_end.specs.Rebuilt.{blocks_of, changed_pairs, has_others};
+ghost use Rattle.net_types.specs.Attributes.{same_option};
+ghost use Rattle.net_types.specs.Sets.{IsRising, union_over};
+
+use block_build::Blocks;
+use events::Flows;
+use fast_path::{is_among, push_flows};
+use job_laws::same_rules_are_equal;
+use net_types::{Items, Memory, Pair, Pairs, Rule};
+use recompile::Built;
+use std::alloc::Global;
+
+/// Whether two rules are the same.
+fn same_rule(one: &Rule, other: &Rule) -> bool
+    ensures { result ≡ same_rule one.now other.now }
+{
+    one.cube == other.cube && one.actions.items() == other.actions.items()
+}
+
+/// Whether the rules are the same, one by one.
+fn same_rules(one: &[Rule], other: &[Rule]) -> bool
+    ensures { result ≡ pointwise same_rule one.now other.now }
+{
+    if one.len() != other.len() {
+        return false;
+    }
+    for (at, rule) in one.iter().enumerate() {
+        if !same_rule(rule, &other[at]) {
+            return false;
+        }
+    }
+    true
+}
+
+/// Whether the rules that were built for a pair aren't those that it has.
+fn has_others<B: Blocks>(switch: &B, built: &Built, pair: Pair) -> bool
+    ensures { result ≡ has_others (B.installed switch.now).table built.now pair }
+{
+    match (switch.rules_of(pair), built.get(pair)) {
+        (None, None) => false,
+        (Some(old), Some(new)) => !same_rules(old, new),
+        _ => true,
+    }
+}
+
+/// Those of the pairs that don't go and get other rules, in their order. Memory is the only refusal.
+pub fn changed_pairs<B: Blocks>(
+    alloc: Global,
+    switch: &B,
+    built: &Built,
+    gone: &[Pair],
+    pairs: &[Pair],
+) -> Result<Pairs, Memory>
+    requires { IsRising is_pair_before gone.now }
+    ensures { IfOk result (λ changed. changed ≡ changed_pairs (B.installed switch.now).table built.now gone.now pairs.now) }
+{
+    let mut changed = Items::new(alloc);
+    for &pair in pairs {
+        if !is_among(gone, pair) && has_others(switch, built, pair) {
+            changed.push(pair)?;
+        }
+    }
+    Ok(changed)
+}
+
+/// Copies of the rules that were built for the pairs. Memory is the only refusal.
+pub fn built_flows(alloc: Global, built: &Built, pairs: &[Pair]) -> Result<Flows, Memory>
+    ensures { IfOk result (λ flows. flows ≡ union_over flows_of (blocks_of built.now pairs.now)) }
+{
+    let mut flows = Items::new(alloc);
+    for &pair in pairs {
+        if let Some(rules) = built.get(pair) {
+            push_flows(&mut flows, pair, rules)?;
+        }
+    }
+    Ok(flows)
+}

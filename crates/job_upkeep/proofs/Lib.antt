@@ -1,0 +1,10 @@
+pub mod Tagged
+pub mod Few
+pub mod Carried
+pub mod Quiet
+pub mod Lines
+pub mod Listed
+pub mod Planned
+pub mod Reroutings
+pub mod Added
+pub mod Policies

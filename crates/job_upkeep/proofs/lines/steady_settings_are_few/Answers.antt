@@ -1,0 +1,5 @@
+use Rattle.job_upkeep.proofs.Lines.{settings_are_few}
+use Rattle.job_upkeep.proofs.lines.steady_settings_are_few.Goals as goal
+
+pub returns : goal.returns
+returns c = settings_are_few c.right_rules_are_some.ensures

@@ -1,0 +1,18 @@
+-- What entries that rise are seen as, and what it is without one of them.
+use Rattle.std.proofs.Common.{◌≡◌, Bool, true, List, sym, ap, ◌∙◌}
+use Rattle.std.specs.FinMap.{FinMap, from_sorted, get, remove}
+use Rattle.std.specs.FinMap.Entries.{find, is_sorted}
+use Rattle.net_types.proofs.OrderLemmas.{pairs_total}
+use Rattle.net_types.proofs.PlaceLemmas.{get_sorted, remove_sorted}
+use Rattle.net_types.proofs.TieLemmas.{pair_cmp-IsAntisymmetric}
+use Rattle.net_types.specs.Keys.{pair_cmp}
+use Rattle.net_types.specs.declared.rule.Pair.{Pair}
+use Rattle.net_types.specs.declared.rule.Rule.{Rule}
+use Rattle.ordered_map.specs.Entries.{without}
+
+module _ (es : List (Pair × List Rule)) (rises : is_sorted pair_cmp es ≡ true) (m : FinMap pair_cmp (List Rule)) (is : from_sorted es ≡ m) where
+  pub found_is : (pair : Pair) → find pair_cmp pair es ≡ get m pair
+  found_is pair = sym (get_sorted pair_cmp es pair rises) ∙ ap (λ n. get n pair) is
+
+  pub without_is : (pair : Pair) (ds : List (Pair × List Rule)) → ds ≡ without pair_cmp pair es → from_sorted ds ≡ remove m pair
+  without_is pair ds e = ap from_sorted e ∙ remove_sorted pair_cmp pairs_total pair_cmp-IsAntisymmetric pair es rises ∙ ap (λ n. remove n pair) is
