@@ -1,6 +1,7 @@
 -- A job that is told of a plan covers what the line leaves.
 use Rattle.std.proofs.Common.{◌≡◌, ℕ, ◌+◌, ◌*◌, ◌≤◌, Bool, true, false, List, length, map, sym, ap, subst, ◌∙◌, refl}
 use Rattle.std.specs.Prelude.{Option, Some, None, Result, Ok, Err, IfOk}
+use Rattle.std.specs.FinMap.{FinMap}
 use Rattle.std.proofs.lemmas.List.{length-map}
 use Rattle.events.specs.After.{next}
 use Rattle.events.specs.Fits.{Fits, IsStep, bare, is_building, is_of_job}
@@ -23,11 +24,14 @@ use Rattle.fast_path.specs.declared.planned.Plan.{Plan}
 use Rattle.job_laws.specs.Jobs.{without_job}
 use Rattle.job_upkeep.specs.Upkeep.{AddedAreFew, HasJob, NoJobsStart, PoliciesKeepJobs, QuietLinesKeepJobs, ReroutingsKeepJobs, fresh_of}
 use Rattle.net_types.specs.Exports.{Routing}
+use Rattle.net_types.specs.Keys.{pair_cmp, prefix_cmp}
+use Rattle.net_types.specs.declared.address.Tag.{Tag}
 use Rattle.net_types.specs.declared.memory.Memory.{Memory}
 use Rattle.net_types.specs.declared.rule.Pair.{Pair}
+use Rattle.net_types.specs.declared.rule.Rule.{Rule}
 use Rattle.recompile.specs.Underway.{Underway}
 use Rattle.exchange_core.specs.Building.{Asks, IsOfKind, Leads, base_by, base_of}
-use Rattle.exchange_core.specs.Jobs.{IsTold, IsToldBy, IsToldPolicy, KeepsJob}
+use Rattle.exchange_core.specs.Jobs.{IsTold, IsToldBy, IsToldChanges, IsToldPolicy, KeepsJob}
 use Rattle.exchange_core.specs.declared.programs.PolicyChange.{PolicyChange}
 use Rattle.exchange_core.specs.declared.programs.PolicyChange.TheVariants.{Inbound, Outbound, Stay}
 use Rattle.exchange_core.specs.declared.request.Request.{Request}
@@ -44,6 +48,12 @@ pub quiet_keeps : QuietLinesKeepJobs → (s : State) (e : Event) (reply : Reply)
     → KeepsJob s e reply old new
 quiet_keeps law s e reply s' old new steady formed line quiet step same = λ w core has.
     subst (HasJob (next w e reply)) (sym same) (law w e reply old (subst IsSteady (sym core) steady) formed line quiet (subst (λ (x : State). Fits x e reply) (sym core) step.fits) has)
+
+-- so it is where the line is one of these
+pub quiet_result : QuietLinesKeepJobs → (s : State) (e d : Event) → e ≡ d → is_building d ≡ false → IsSteady s → IsWellFormed e → is_of_job e ≡ false → (result : Result Reply Memory) (s' : State) (job : Option Underway)
+    → IfOk result (λ reply. IsStep s d reply s') → IfOk result (λ reply. KeepsJob s e reply job job)
+quiet_result law s e d is quiet steady formed line (Ok reply) s' job step = quiet_keeps law s e reply s' job job steady formed line (ap is_building is ∙ quiet) (subst (λ x. IsStep s x reply s') (sym is) step) refl
+quiet_result law s e d is quiet steady formed line (Err m) s' job step = tt
 
 -- ---- lines that build rules
 
@@ -67,6 +77,18 @@ not_of_job (Frame port bytes) is = refl
 not_of_job Recompile is = sym is
 not_of_job (Work units) is = sym is
 not_of_job Table is = refl
+
+-- a job that is told of changes where all policies stay
+pub told_changes : (ports : ℕ) (tags : FinMap prefix_cmp Tag) (table : FinMap pair_cmp (List Rule)) (change : PolicyChange) (plan : Plan) (old new : Underway) → change ≡ Stay → IsToldChanges ports plan old new
+    → IsTold ports tags table change plan (Some old) (Some new)
+told_changes ports tags table change plan old new stays told = (new, refl, subst (λ c. IsToldBy ports tags table c plan old new) (sym stays) told)
+
+-- and of a policy where one is another
+pub told_policy : (ports : ℕ) (tags : FinMap prefix_cmp Tag) (table : FinMap pair_cmp (List Rule)) (change : PolicyChange) (plan : Plan) (old new : Underway) → (change ≡ Stay → ⊥) → IsToldPolicy tags table plan new
+    → IsTold ports tags table change plan (Some old) (Some new)
+told_policy ports tags table Stay plan old new other told = absurd (other refl)
+told_policy ports tags table (Outbound who program) plan old new other told = (new, refl, told)
+told_policy ports tags table (Inbound who program) plan old new other told = (new, refl, told)
 
 -- as many fresh tags as classes
 fresh_count : (plan : Plan) → length (fresh_of plan) ≡ length plan.fresh.items

@@ -125,6 +125,7 @@ impl Core {
         ensures steps { steps.new ≤ steps.old + step_bound self.old event.now }
     {
         quiet_lines_keep_jobs();
+        self.is_steady();
         match event {
             Event::Bad => Ok(refused(self.alloc, Refusal::BadLine)),
             Event::Exchange {

@@ -3,6 +3,7 @@
 
 mod address_set;
 mod arp_responder;
+mod exchange;
 mod line_order;
 mod next_hops;
 mod octets;
@@ -12,7 +13,6 @@ mod programs;
 mod rebuilt;
 mod replies;
 mod request;
-mod exchange;
 mod taking;
 mod telling;
 

@@ -55,12 +55,7 @@ fn pairs_after(alloc: Global, switch: &Switch, plan: &Plan) -> Result<Pairs, Mem
 }
 
 /// A job is told what a plan changes.
-fn tell_changes(
-    names: &Registry,
-    fresh: &[Tag],
-    plan: &Plan,
-    job: &mut Job,
-) -> Result<(), Memory>
+fn tell_changes(names: &Registry, fresh: &[Tag], plan: &Plan, job: &mut Job) -> Result<(), Memory>
     requires fresh { fresh.now ≡ fresh_of plan.now }
     requires few { length plan.now.added ≤ length (fresh_of plan.now) * length names.now.ports }
     ensures told { OnOk result (IsToldChanges (length names.now.ports) plan.now job.old job.new) }

@@ -28,7 +28,7 @@ with_is : (m : KeptOf) (es : List Kept) → kept_with m es ≡ with_all tag_cmp 
 with_is m [] = refl
 with_is m (e ∷ es) = with_is (insert m e.0 e.1) es
 
-without_is : (m : KeptOf) (ts : List Tag) → kept_without m ts ≡ without_all tag_cmp tags_total tag_tie m ts
+pub without_is : (m : KeptOf) (ts : List Tag) → kept_without m ts ≡ without_all tag_cmp tags_total tag_tie m ts
 without_is m [] = refl
 without_is m (t ∷ ts) = without_is (remove m t) ts
 

@@ -29,11 +29,11 @@ use Rattle.fast_path.proofs.PortsAndTags.{tie}
 use Rattle.fast_path.specs.Committing.{Block, with_blocks}
 use Rattle.fast_path.specs.Plans.{pair_of}
 
-with_is : (m : TableOf) (bs : List Block) → with_blocks m bs ≡ with_all pair_cmp pairs_total tie m bs
+pub with_is : (m : TableOf) (bs : List Block) → with_blocks m bs ≡ with_all pair_cmp pairs_total tie m bs
 with_is m [] = refl
 with_is m (b ∷ bs) = with_is (insert m b.0 b.1) bs
 
-without_is : (m : TableOf) (qs : List Pair) → without_pairs m qs ≡ without_all pair_cmp pairs_total tie m qs
+pub without_is : (m : TableOf) (qs : List Pair) → without_pairs m qs ≡ without_all pair_cmp pairs_total tie m qs
 without_is m [] = refl
 without_is m (q ∷ qs) = without_is (remove m q) qs
 

@@ -1,7 +1,7 @@
 -- The pairs of the tags that no prefix has any more are those that are live no more.
 use Rattle.std.proofs.Common.{◌≡◌, ◌<◌, Bool, true, false, cond, List, [], length, map, sym, ap, subst, ◌∙◌, refl, inl, inr}
 use Rattle.std.specs.Prelude.{Some, is_some, unwrap_or}
-use Rattle.std.specs.FinMap.{get}
+use Rattle.std.specs.FinMap.{FinMap, get}
 use Rattle.std.proofs.lemmas.Bool.{false_from_ne_true, or_cases, or_left, or_right}
 use Rattle.net_types.proofs.OrderedLemmas.{ordered_rises, ordered_same}
 use Rattle.events.specs.State.{State, port_of, present, told_to}
@@ -12,7 +12,7 @@ use Rattle.exchange_laws.proofs.OwnHops.{numbered_port}
 use Rattle.exchange_laws.proofs.TagsAfter.{live_of, live_tags_stay, signatures_are_kept}
 use Rattle.exchange_laws.specs.Steady.{PortsDiffer}
 use Rattle.exchange_laws.specs.Listed.{AreLiveOnly}
-use Rattle.exchange_laws.specs.Rules.{IsChange}
+use Rattle.exchange_laws.specs.Rules.{IsChange, OwnersAreDeclared}
 use Rattle.fast_path.proofs.PortsAndTags.{IsPortOf, found_number, has_prefix_of, number_listed, port_listed, prefix_with, present_from, tie}
 use Rattle.fast_path.proofs.SignatureParts.{has_part, part_senders, same_senders}
 use Rattle.fast_path.specs.LiveOnly.{AreEmptied, has_prefix, registered}
@@ -20,7 +20,7 @@ use Rattle.fast_path.specs.Pairs.{gone_pairs, pair_at, part_pairs, tag_pairs, wa
 use Rattle.net_types.proofs.OrderLemmas.{pairs_total}
 use Rattle.net_types.proofs.SetLemmas.{Member-map, Member-union, map-Member, union-Member}
 use Rattle.net_types.specs.Exports.{Routing}
-use Rattle.net_types.specs.Keys.{pair_cmp}
+use Rattle.net_types.specs.Keys.{pair_cmp, prefix_cmp}
 use Rattle.net_types.specs.Routes.{best}
 use Rattle.net_types.specs.Sets.{Member, union_over}
 use Rattle.net_types.specs.Signatures.{signature}
@@ -38,15 +38,19 @@ pub Member-unless : {A : Type 0} (b : Bool) (xs : List A) (x : A) → Member x (
 Member-unless true xs x m = elim m [ ]
 Member-unless false xs x m = (refl, m)
 
-module _ (s : State) (r : Routing) (change : IsChange s r) where
+-- Prefixes have other tags by a routing in which the same ports are declared, and where they have a tag in turn their signatures
+-- are the same.
+module _ (s : State) (r : Routing) (tags : FinMap prefix_cmp Tag) (ports : r.ports ≡ s.routing.ports) (owners : OwnersAreDeclared s.routing)
+    (kept : (p : Prefix) (t : Tag) → get s.tag p ≡ Some t → get s.kept t ≡ Some (signature s.routing p))
+    (alike : (p q : Prefix) (t : Tag) → get s.tag p ≡ Some t → get tags q ≡ Some t → signature s.routing p ≡ signature r q) where
   abbrev s1 : State
-  s1 = retagged s r
+  s1 = record s { routing = r; tag = tags }
 
-  pub same_port : (n : PortNo) → port_of s1 n ≡ port_of s n
-  same_port n = ap (λ ports. port_of (record s { routing = record r { ports = ports } }) n) change.alike.ports
+  same_port : (n : PortNo) → port_of s1 n ≡ port_of s n
+  same_port n = ap (λ qs. port_of (record s { routing = record r { ports = qs } }) n) ports
 
-  pub declared : (pair : Pair) (q : PortInfo) → port_of s pair.port ≡ Some q → q.owner.0 < length s.routing.participants
-  declared pair q at = change.owners q (port_Member s pair q at)
+  declared : (pair : Pair) (q : PortInfo) → port_of s pair.port ≡ Some q → q.owner.0 < length s.routing.participants
+  declared pair q at = owners q (port_Member s pair q at)
 
   abbrev names : Registered
   names = registered s
@@ -87,7 +91,7 @@ module _ (s : State) (r : Routing) (change : IsChange s r) where
         let t : Tag = of_tag.of in
         let empty = emptied.each t of_tag.stands in
         let p = prefix_with s t empty.0 in
-        let among : Member pair (union_over (part_pairs names s.told t) (signature s.routing p.prefix)) = subst (λ o. Member pair (union_over (part_pairs names s.told t) (unwrap_or o []))) (change.tagged.kept p.prefix t p.tagged) of_tag.gives in
+        let among : Member pair (union_over (part_pairs names s.told t) (signature s.routing p.prefix)) = subst (λ o. Member pair (union_over (part_pairs names s.told t) (unwrap_or o []))) (kept p.prefix t p.tagged) of_tag.gives in
         let of_part = union-Member (part_pairs names s.told t) (signature s.routing p.prefix) pair among in
         part_gone t p.prefix of_part.of pair p.tagged empty.1 of_part.stands of_part.gives
 
@@ -103,8 +107,7 @@ module _ (s : State) (r : Routing) (change : IsChange s r) where
       none_left : (p : Prefix) → get s.tag p ≡ Some pair.tag → is_some (best s.routing q.owner p) ≡ true → has_prefix s1 pair.tag ≡ false
       none_left p tagged routed = false_from_ne_true (has_prefix s1 pair.tag) (λ has.
           let p1 = prefix_with s1 pair.tag has in
-          let stays = live_tags_stay s r change.pooled pair.tag (live_of s p pair.tag tagged) (live_of s1 p1.prefix pair.tag p1.tagged) in
-          let same : signature s.routing p ≡ signature r p1.prefix = some_of (signature s.routing p) (signature r p1.prefix) (sym (change.tagged.kept p pair.tag tagged) ∙ sym stays ∙ signatures_are_kept s r change.pooled p1.prefix pair.tag p1.tagged) in
+          let same : signature s.routing p ≡ signature r p1.prefix = alike p p1.prefix pair.tag tagged p1.tagged in
           clash (live_from s1 pair q (same_port pair.port ∙ at) (or_right (tells (told_to s q.owner) pair.tag) (tells (present s1 q.owner) pair.tag)
           (present_from s1 q.owner p1.prefix pair.tag (same_senders s.routing r p p1.prefix q.owner same (declared pair q at) routed) p1.tagged))) dead)
 
@@ -119,7 +122,7 @@ module _ (s : State) (r : Routing) (change : IsChange s r) where
           subst (λ w. Member pair (cond (was_told s.told w pair.tag) [] (map (pair_at pair.tag) (ports_of names w)))) (sym has.sender)
           (subst (λ b. Member pair (cond b [] (map (pair_at pair.tag) (ports_of names q.owner)))) (sym not_told) at_ports) in
           Member-union (tag_pairs names s.kept s.told) ts pair.tag pair (emptied.all pair.tag (has_prefix_of s p pair.tag tagged) (none_left p tagged routed))
-          (subst (λ o. Member pair (union_over (part_pairs names s.told pair.tag) (unwrap_or o []))) (sym (change.tagged.kept p pair.tag tagged))
+          (subst (λ o. Member pair (union_over (part_pairs names s.told pair.tag) (unwrap_or o []))) (sym (kept p pair.tag tagged))
           (Member-union (part_pairs names s.told pair.tag) (signature s.routing p) has.part pair has.stands here))
 
     all_gone : (pair : Pair) → is_live_pair s pair ≡ true → is_live_pair s1 pair ≡ false → Member pair (union_over (tag_pairs names s.kept s.told) ts)
@@ -141,4 +144,11 @@ module _ (s : State) (r : Routing) (change : IsChange s r) where
 -- the pairs of the emptied tags are those that are live no more
 pub gone_pairs_are_those : (s : State) (r : Routing) (ts : List Tag) → IsChange s r → PortsDiffer s.routing.ports → AreEmptied s (retagged s r) ts
     → AreLiveOnly s (retagged s r) (gone_pairs (registered s) s.kept s.told ts)
-gone_pairs_are_those s r ts change own emptied = gone_live_only s r change ts own emptied
+gone_pairs_are_those s r ts change own emptied =
+    let gone = gone_live_only s r (retagged s r).tag change.alike.ports change.owners change.tagged.kept alike ts own (record { each = emptied.each; all = emptied.all }) in
+    record { rising = gone.rising; each = gone.each; all = gone.all }
+  where
+    alike : (p q : Prefix) (t : Tag) → get s.tag p ≡ Some t → get (retagged s r).tag q ≡ Some t → signature s.routing p ≡ signature r q
+    alike p q t tagged now =
+        let stays = live_tags_stay s r change.pooled t (live_of s p t tagged) (live_of (retagged s r) q t now) in
+        some_of (signature s.routing p) (signature r q) (sym (change.tagged.kept p t tagged) ∙ sym stays ∙ signatures_are_kept s r change.pooled q t now)

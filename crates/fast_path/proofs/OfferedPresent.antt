@@ -129,10 +129,10 @@ count_is : {A : Type 0} (at : ℕ → A) (low count : ℕ) → length (map at (n
 count_is at low zero = refl
 count_is at low (suc count) = ap suc (count_is at (low + 1) count)
 
-state_length : (s : State) → length (all_present s) ≡ length s.routing.participants
+pub state_length : (s : State) → length (all_present s) ≡ length s.routing.participants
 state_length s = length-map (pids s.routing) (present s) ∙ count_is pid_at 0 (length s.routing.participants)
 
-state_at : (s : State) (who : Pid) → who.0 < length s.routing.participants → present_to (all_present s) who ≡ present s who
+pub state_at : (s : State) (who : Pid) → who.0 < length s.routing.participants → present_to (all_present s) who ≡ present s who
 state_at s who declared =
     ap (λ o. unwrap_or o empty) (mapped_at (present s) (pids s.routing) who.0 who (listed_at (length s.routing.participants) who declared))
 

@@ -190,7 +190,7 @@ module _ (s : State) (r : Routing) (is_rebuilt : Pair → Bool) (names : Registe
           subst (AreEmptied s s1) (sym (ap (λ m. emptied m draft.tags) (sym asked.shown.tag) ∙ ap (emptied s.tag) changes_are)) (emptied_are_those s r)
 
       pub emptied_listed : AreEmptied s s1 draft.emptied.items
-      emptied_listed = subst (AreEmptied s s1) (sym is.emptied) emptied_are
+      emptied_listed = subst (AreEmptied s s1) (sym is.left) emptied_are
 
       pub newly_are : draft.newly ≡ length (filter (λ q. not (is_carried s.routing q)) (carried r))
       newly_are = is.newly ∙ ap (λ m. newly_tagged m draft.tags) (sym asked.shown.tag) ∙ ap (newly_tagged s.tag) changes_are ∙ newly_counted s r asked.base.tagged.tagged enough

@@ -36,7 +36,7 @@ pub record IsDraft (names : Registered) (classes : Classes) (pool : Tags) (was_t
   pub fresh : draft.fresh.items ≡ classes_of draft.tags (kept_of (given_tags pool groups) (map (λ (f : Fresh). f.sig) groups))
   pub drops : draft.drops ≡ dropped_pairs (gone_pairs names classes.kept was_told (emptied classes.tag draft.tags)) rebuild
   pub built : draft.built ≡ built_pairs names draft.fresh.items (gone_pairs names classes.kept was_told (emptied classes.tag draft.tags)) rebuild
-  pub emptied : draft.emptied.items ≡ emptied classes.tag draft.tags
+  pub left : draft.emptied.items ≡ emptied classes.tag draft.tags
   pub dead : draft.dead.items ≡ untold was_told (emptied classes.tag draft.tags)
   pub newly : draft.newly ≡ newly_tagged classes.tag draft.tags
   pub offers : draft.offers.items ≡ adverts_from proposal (declared_pids names) 0 (tagged_by classes pool proposal groups)

@@ -97,8 +97,8 @@ fn drafted(
     let fresh = with_tags(alloc, groups, &given, tags.items())?;
     let built = built_pairs(alloc, names, &fresh, gone.items(), rebuild)?;
     let dead = untold(alloc, adverts, &left)?;
-    let newly = newly_tagged(classes, tags.items()) as u64;
     let offers = offers_of(alloc, names, proposal, after.items())?;
+    let newly = newly_tagged(classes, tags.items()) as u64;
     Ok(Draft {
         tags,
         drops,

@@ -2,6 +2,8 @@
 
 ghost use Rattle.job_end.specs.Laws.{EndsAreFinished, EndsCanBeCommitted, EndsFitLines, EndsLeadOn, OffersAreKnown};
 
+use job_laws::jobs_end;
+
 /// An end planned for a steady state can be committed to the parts that have the state, where there is room for its offers. The
 /// parts then have the state with merged classes and tight rules, and so has the line that ends the job, with the reply that
 /// says what the end says. Its offers are to participants that were told something, be it nothing.
@@ -11,4 +13,6 @@ pub fn ends_are_committed()
     ensures reached { EndsLeadOn }
     ensures finished { EndsAreFinished }
     ensures fits { EndsFitLines }
-{}
+{
+    jobs_end();
+}

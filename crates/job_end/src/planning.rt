@@ -90,5 +90,6 @@ pub fn plan_end<B: Blocks>(
     requires { IsEndingFor names.now classes.now adverts.now (B.installed switch.now) pairs.now swap.now }
     ensures { (s : State) → IsEnding s names.now classes.now adverts.now (B.installed switch.now) pairs.now swap.now → IfOk result (IsEnd s swap.now) }
 {
-    drafted(alloc, names, classes, adverts, switch, pairs, swap)
+    let end = drafted(alloc, names, classes, adverts, switch, pairs, swap)?;
+    Ok(end)
 }

@@ -29,14 +29,13 @@ fn swap_one<B: Blocks>(switch: &mut B, built: &mut Built, pair: Pair)
 }
 
 /// Puts what was built for the pairs in the place of their rules.
-pub fn swap_all<B: Blocks>(switch: &mut B, built: Built, pairs: &[Pair])
+pub fn swap_all<B: Blocks>(switch: &mut B, mut built: Built, pairs: &[Pair])
     requires rising { IsRising is_pair_before pairs.now }
     requires fewer { (pair : AnyPair) → Member pair pairs.now → IsFewer (B.installed switch.old).table built pair }
     requires few { rule_count (B.installed switch.old).table ≤ (B.installed switch.old).capacity }
     ensures table { (B.installed switch.new).table ≡ with_blocks (B.installed switch.old).table (blocks_of built pairs.now) }
     ensures capacity { (B.installed switch.new).capacity ≡ (B.installed switch.old).capacity }
 {
-    let mut built = built;
     for &pair in pairs {
         swap_one(switch, &mut built, pair);
     }

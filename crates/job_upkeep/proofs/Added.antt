@@ -2,6 +2,7 @@
 use Rattle.std.proofs.Common.{◌≡◌, ℕ, ◌+◌, ◌*◌, ◌≤◌, Bool, true, false, ◌&&◌, ◌||◌, not, List, [], ◌∷◌, ◌++◌, length, map, filter, sym, ap, subst, ◌∙◌, refl, arith}
 use Rattle.std.specs.Prelude.{Option, Some, None, is_none, is_some}
 use Rattle.std.specs.FinMap.{get, keys}
+use Rattle.std.proofs.Math.Nat.{suc-mul}
 use Rattle.std.proofs.lemmas.Bool.{and_parts, false_from_ne_true, or_right}
 use Rattle.std.proofs.lemmas.List.{length-append, length-map}
 use Rattle.events.specs.Fits.{IsAnswer, IsBuilt, added, bare, dropped, none_rebuilt, tag_changes}
@@ -85,12 +86,17 @@ module _ (s : State) (e : Event) (r : Routing) (is_rebuilt : Pair → Bool) (rer
 abbrev cells : List PortInfo → Class → List Pair
 cells ports c = map (λ (q : PortInfo). pair_at c.tag q.number) ports
 
+swap : (a b : ℕ) → a + b ≡ b + a
+swap a b = omega arith
+
 cells_count : (ports : List PortInfo) (cs : List Class) → length (union_over (cells ports) cs) ≡ length cs * length ports
-cells_count ports [] = refl
+cells_count ports [] = omega arith
 cells_count ports (c ∷ cs) =
     length-append (cells ports c) (union_over (cells ports) cs)
     ∙ ap (λ n. n + length (union_over (cells ports) cs)) (length-map ports (λ (q : PortInfo). pair_at c.tag q.number))
     ∙ ap (λ n. length ports + n) (cells_count ports cs)
+    ∙ swap (length ports) (length cs * length ports)
+    ∙ sym (suc-mul (length cs) (length ports))
 
 pub added_few : AddedAreFew
 added_few s e r is_rebuilt plan steady rerouting edit is =

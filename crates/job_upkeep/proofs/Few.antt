@@ -1,5 +1,5 @@
 -- The tags and pairs of a steady state are few: the pool's tags, and no more pairs than rules.
-use Rattle.std.proofs.Common.{◌≡◌, ℕ, zero, suc, ◌+◌, ◌<◌, ◌≤◌, ◌^◌, List, [], ◌∷◌, length, map, nat_eq, sum_by, sym, ap, ◌∙◌, refl, arith, inl, inr}
+use Rattle.std.proofs.Common.{◌≡◌, ℕ, zero, suc, ◌+◌, ◌<◌, ◌≤◌, ◌^◌, true, List, [], ◌∷◌, length, map, nat_eq, sum_by, sym, ap, ◌∙◌, refl, arith, inl, inr}
 use Rattle.std.specs.Prelude.{Some, is_some}
 use Rattle.std.specs.FinMap.{entries, get, keys}
 use Rattle.std.proofs.lemmas.Bool.{eqb-true}

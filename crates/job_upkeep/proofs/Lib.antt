@@ -2,7 +2,7 @@ pub mod Tagged
 pub mod Few
 pub mod Carried
 pub mod Quiet
-pub mod Lines
+pub mod QuietLines
 pub mod Listed
 pub mod Planned
 pub mod Reroutings

@@ -31,7 +31,7 @@ use Rattle.job_laws.proofs.OtherLines.{after_but}
 use Rattle.job_laws.specs.Jobs.{without_job}
 use Rattle.job_laws.specs.Steps.{JobsLeaveLines, UnitsStartAnew}
 use Rattle.job_upkeep.proofs.Carried.{entries_are, entries_carried}
-use Rattle.job_upkeep.proofs.Lines.{setting_without}
+use Rattle.job_upkeep.proofs.QuietLines.{setting_without}
 use Rattle.job_upkeep.proofs.Listed.{joined_once, rising_once}
 use Rattle.job_upkeep.proofs.Planned.{had_or_fresh}
 use Rattle.job_upkeep.proofs.Reroutings.{building_other, few_planned, refused_alike}

@@ -4,11 +4,11 @@ use Rattle.std.specs.Prelude.{Option, Some, None, MatchOption, is_some, slice_se
 use Rattle.std.specs.FinMap.{FinMap, get, get-remove, keys, remove}
 use Rattle.std.specs.Option.{option_map_or}
 use Rattle.std.specs.Ordering.{eq_by_cmp}
-use Rattle.events.specs.After.{accepted, after, next, next_by, put_flows, rules_put, running, settled, with_answer, with_known, with_port, with_resolved, with_told, without_pairs}
+use Rattle.events.specs.After.{accepted, after, next, next_by, put_flows, rules_put, running, settled, with_known, with_port, with_told, without_pairs}
 use Rattle.events.specs.Fits.{Fits, FitsBy, IsAccepted, IsAnswer, IsSent, IsTagged, IsTaken, Passes, asks_for, bare, by_table, destination, is_building, is_of_job, responder_reply}
 use Rattle.events.specs.Pending.{pending, with_all_news}
 use Rattle.events.specs.Refusals.{refusal}
-use Rattle.events.specs.Resolving.{is_pool_request, is_resolved, pool_mac, port_place, resolved_at, tag_address, unresolved}
+use Rattle.events.specs.Resolving.{is_pool_request, is_resolved, pool_mac, port_place, resolved_at, tag_address, unresolved, with_answer, with_resolved}
 use Rattle.events.specs.State.{State, port_of, present, told_to}
 use Rattle.events.specs.Tags.{is_live}
 use Rattle.events.specs.declared.Entry.{Entry}
@@ -188,14 +188,11 @@ module _ (s : State) (r : Reply) where
 -- what is left of a table is as it was
 left_same : (ks : List Pair) (m : TableOf) (pair : Pair) → is_some (get (without_pairs m ks) pair) ≡ true → get (without_pairs m ks) pair ≡ get m pair
 left_same [] m pair there = refl
-left_same (k ∷ ks) m pair there = by (eq_by_cmp pair_cmp pair k) refl
+left_same (k ∷ ks) m pair there = by (eq_by_cmp pair_cmp pair k) refl (left_same ks (remove m k) pair there ∙ get-remove pairs_total m k pair)
   where
-    rest : get (without_pairs (remove m k) ks) pair ≡ cond (eq_by_cmp pair_cmp pair k) None (get m pair)
-    rest = left_same ks (remove m k) pair there ∙ get-remove pairs_total m k pair
-
-    by : (b : Bool) → eq_by_cmp pair_cmp pair k ≡ b → get (without_pairs (remove m k) ks) pair ≡ get m pair
-    by true is = let none = ap is_some (rest ∙ ap (λ b. cond b None (get m pair)) is) in absurd (clash there none)
-    by false is = rest ∙ ap (λ b. cond b None (get m pair)) is
+    by : (b : Bool) → eq_by_cmp pair_cmp pair k ≡ b → get (without_pairs (remove m k) ks) pair ≡ cond (eq_by_cmp pair_cmp pair k) None (get m pair) → get (without_pairs (remove m k) ks) pair ≡ get m pair
+    by true is rest = let none = ap is_some (rest ∙ ap (λ b. cond b None (get m pair)) is) in absurd (clash there none)
+    by false is rest = rest ∙ ap (λ b. cond b None (get m pair)) is
 
 -- ---- the line
 

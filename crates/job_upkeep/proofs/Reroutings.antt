@@ -27,7 +27,7 @@ use Rattle.job_laws.proofs.OtherLines.{after_but}
 use Rattle.job_laws.specs.Jobs.{without_job}
 use Rattle.job_laws.specs.Steps.{JobsLeaveLines}
 use Rattle.job_upkeep.proofs.Few.{few_steady}
-use Rattle.job_upkeep.proofs.Lines.{setting_without}
+use Rattle.job_upkeep.proofs.QuietLines.{setting_without}
 use Rattle.job_upkeep.proofs.Planned.{told}
 use Rattle.job_upkeep.specs.Upkeep.{PlansTellChanges, ReroutingsKeepJobs, fresh_of, setting_of}
 use Rattle.net_types.specs.Exports.{Routing}

@@ -1,9 +1,9 @@
--- What entries that rise are seen as, and what it is without one of them.
-use Rattle.std.proofs.Common.{◌≡◌, Bool, true, List, sym, ap, ◌∙◌}
-use Rattle.std.specs.FinMap.{FinMap, from_sorted, get, remove}
-use Rattle.std.specs.FinMap.Entries.{find, is_sorted}
+-- What entries that rise are seen as, and what it is without one of them or with another.
+use Rattle.std.proofs.Common.{◌≡◌, true, List, sym, ap, ◌∙◌}
+use Rattle.std.specs.FinMap.{FinMap, from_sorted, get, insert, remove}
+use Rattle.std.specs.FinMap.Entries.{find, is_sorted, put}
 use Rattle.net_types.proofs.OrderLemmas.{pairs_total}
-use Rattle.net_types.proofs.PlaceLemmas.{get_sorted, remove_sorted}
+use Rattle.net_types.proofs.PlaceLemmas.{get_sorted, insert_sorted, remove_sorted}
 use Rattle.net_types.proofs.TieLemmas.{pair_cmp-IsAntisymmetric}
 use Rattle.net_types.specs.Keys.{pair_cmp}
 use Rattle.net_types.specs.declared.rule.Pair.{Pair}
@@ -16,3 +16,6 @@ module _ (es : List (Pair × List Rule)) (rises : is_sorted pair_cmp es ≡ true
 
   pub without_is : (pair : Pair) (ds : List (Pair × List Rule)) → ds ≡ without pair_cmp pair es → from_sorted ds ≡ remove m pair
   without_is pair ds e = ap from_sorted e ∙ remove_sorted pair_cmp pairs_total pair_cmp-IsAntisymmetric pair es rises ∙ ap (λ n. remove n pair) is
+
+  pub put_is : (pair : Pair) (rules : List Rule) (ds : List (Pair × List Rule)) → ds ≡ put pair_cmp pair rules es → from_sorted ds ≡ insert m pair rules
+  put_is pair rules ds e = ap from_sorted e ∙ insert_sorted pair_cmp pairs_total pair rules es rises ∙ ap (λ n. insert n pair rules) is

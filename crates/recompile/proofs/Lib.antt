@@ -1,1 +1,4 @@
 pub mod BuiltLemmas
+pub mod CoverLemmas
+pub mod ChangeLemmas
+pub mod ListLemmas

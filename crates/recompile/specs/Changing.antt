@@ -4,7 +4,6 @@ use Rattle.std.specs.FinMap.{FinMap, entries, get}
 use Rattle.net_types.specs.Keys.{prefix_cmp}
 use Rattle.net_types.specs.Sets.{Member}
 use Rattle.net_types.specs.declared.address.Tag.{Tag}
-use Rattle.net_types.specs.declared.prefix.Prefix.{Prefix}
 use Rattle.net_types.specs.declared.rule.Pair.{Pair}
 use Rattle.prefix_classes.specs.Classes.{members}
 use Rattle.recompile.specs.Covering.{AreFew, Covers}
@@ -12,10 +11,10 @@ use Rattle.recompile.specs.Setting.{Setting}
 use Rattle.recompile.specs.Underway.{Underway}
 
 -- No more prefixes have tags than before. A tag with members had some before, or is fresh. The pairs of the table are listed.
-pub record IsListed (s : Setting) (before : FinMap prefix_cmp Tag) (fresh : List Tag) (pairs : List Pair) : Type 0 where
+pub record IsListed (s : Setting) (before : FinMap prefix_cmp Tag) (fresh : List Tag) (listed : List Pair) : Type 0 where
   pub prefixes : length (entries s.tag) ≤ length (entries before)
   pub tags : (t : Tag) → 0 < members s.tag t → (0 < members before t) ⊎ Member t fresh
-  pub pairs : (pair : Pair) → is_some (get s.table pair) ≡ true → Member pair pairs
+  pub pairs : (pair : Pair) → is_some (get s.table pair) ≡ true → Member pair listed
   pub few : AreFew s
 
 -- A job covers whatever is listed so.

@@ -6,7 +6,6 @@ use Rattle.block_build.specs.Tight.{IsTightForm}
 use Rattle.net_types.specs.Keys.{pair_cmp, prefix_cmp, tag_cmp}
 use Rattle.net_types.specs.Sets.{Member}
 use Rattle.net_types.specs.declared.address.Tag.{Tag}
-use Rattle.net_types.specs.declared.prefix.Prefix.{Prefix}
 use Rattle.net_types.specs.declared.route.Part.{Part}
 use Rattle.net_types.specs.declared.rule.Pair.{Pair}
 use Rattle.net_types.specs.declared.rule.Rule.{Rule}

@@ -3,3 +3,4 @@ pub mod Underway
 pub mod Covering
 pub mod Working
 pub mod Changing
+pub mod Units

@@ -1,19 +1,24 @@
 //! A background job.
 
-ghost use Rattle.std.specs.Prelude.{◌≡◌, ◌≤◌, ◌+◌, ◌*◌, [], length, min, IfOk, OnErr, OnOk};
-ghost use Rattle.std.specs.FinMap.{entries};
+ghost use Rattle.std.specs.Prelude.{◌≡◌, ◌≤◌, ◌+◌, ◌*◌, [], true, false, length, min, IfOk, OnErr, OnOk};
+ghost use Rattle.std.specs.FinMap.{empty, entries};
 ghost use Rattle.events.specs.Tags.{capped};
 ghost use Rattle.recompile.specs.Changing.{CoversAfter, CoversListed};
-ghost use Rattle.recompile.specs.Covering.{Covers};
+ghost use Rattle.prefix_classes.specs.Merging.{IsFull, IsMergeOf};
+ghost use Rattle.recompile.specs.Covering.{Covers, IsKeptUp, NeedsAtMost};
 ghost use Rattle.recompile.specs.Setting.{setting};
+ghost use Rattle.recompile.specs.Units.{NeedsFewer};
 ghost use Rattle.recompile.specs.Working.{IsProgress, with_built};
 
+use crate::lists::{pair_to_do, push_both, tag_to_do, tags_with, take_out_each};
 use crate::swap::{Built, Progress, Swap};
+use crate::units::{all_units, more_units};
 use block_build::Blocks;
 use net_types::{Memory, Pair, Pairs, Steps, Tag};
 use prefix_classes::{ClassMap, Grouping};
 use std::alloc::Global;
 use std::marker::Model;
+use std::mem;
 use std::sync::ledger::Ledger;
 
 /// A job: what is done, what is still to do, and how many units it owes. Contracts see an `Underway`.
@@ -30,9 +35,13 @@ pub struct Job {
 }
 
 impl Model for Job {
+    ghost use Rattle.std.specs.Coded.{codes};
+    ghost use Rattle.std.specs.FinMap as map;
     ghost use Rattle.recompile.specs.Underway.{Underway};
 
     ghost Value = { Underway };
+
+    ghost coded = { Prim.hlevel (codes, map.code) };
 
     ghost view = { λ j. record { owed = j.owed; placed = j.placed; built = j.built; tags = j.tags.items; pairs = j.pairs.items } };
 }
@@ -40,11 +49,11 @@ impl Model for Job {
 impl Job {
     /// A job of which nothing is done, for classes and the pairs of a table, each once. It owes a unit for each prefix that has
     /// a tag and each pair. Memory is the only refusal.
-    pub fn start(_alloc: Global, _classes: &ClassMap, _pairs: Pairs) -> Result<Job, Memory>
-        ensures owed { IfOk result (λ job. job.owed ≡ capped (length (entries _classes.now.tag) + length _pairs)) }
-        ensures covers { IfOk result (CoversListed _classes.now.tag [] _pairs) }
+    pub fn start(alloc: Global, classes: &ClassMap, pairs: Pairs) -> Result<Job, Memory>
+        ensures owed { IfOk result (λ job. job.owed ≡ capped (length (entries classes.now.tag) + length pairs)) }
+        ensures covers { IfOk result (CoversListed classes.now.tag [] pairs) }
     {
-        Err(Memory)
+        Job::begin(alloc, classes, &[], pairs)
     }
 
     /// How many units the job owes.
@@ -70,7 +79,14 @@ impl Job {
         ensures kept { OnErr result (Covers (setting classes.now (B.installed switch.now).table) self.new) }
         ensures steps { steps.new ≤ steps.old + min units self.old.owed }
     {
-        Err(Memory)
+        let is_last = self.owed <= units;
+        let count = units.min(self.owed);
+        self.do_units(count, classes, switch, steps)?;
+        if is_last {
+            return Ok(Progress::Ready(self.finish(classes)?));
+        }
+        self.owed -= units;
+        Ok(Progress::Working(self.owed))
     }
 
     /// Takes a swap back, where its line is given up for want of memory. It takes no memory.
@@ -95,7 +111,11 @@ impl Job {
         ensures covers { OnOk result (CoversAfter fresh.now emptied.now added.now self.old self.new) }
         ensures unchanged { OnErr result (self.new ≡ self.old) }
     {
-        Err(Memory)
+        push_both(&mut self.tags, &mut self.pairs, fresh, added)?;
+        take_out_each(&mut self.placed, emptied);
+        self.built.take_each(added);
+        self.owed = more_units(self.owed, newly, fresh.len() as u64, ports);
+        Ok(())
     }
 
     /// A line has changed a policy, given fresh tags and built pairs anew: the job begins anew, for the classes as they were
@@ -110,6 +130,86 @@ impl Job {
         ensures covers { OnOk result (CoversListed classes.now.tag fresh.now pairs self.new) }
         ensures unchanged { OnErr result (self.new ≡ self.old) }
     {
-        Err(Memory)
+        *self = Job::begin(self.alloc, classes, fresh, pairs)?;
+        Ok(())
+    }
+
+    /// A job of which nothing is done, for the tags with members, fresh ones and these pairs.
+    fn begin(alloc: Global, classes: &ClassMap, fresh: &[Tag], pairs: Pairs) -> Result<Job, Memory>
+        ensures owed { IfOk result (λ job. job.owed ≡ capped (length (entries classes.now.tag) + length pairs)) }
+        ensures covers { IfOk result (CoversListed classes.now.tag fresh.now pairs) }
+    {
+        let tags = tags_with(alloc, classes, fresh)?;
+        let owed = all_units(classes.carried(), pairs.len());
+        Ok(Job {
+            alloc,
+            owed,
+            placed: Grouping::new(alloc),
+            built: Built::new(alloc),
+            tags,
+            pairs: pairs.into_vec(),
+        })
+    }
+
+    /// Does one unit, and answers whether there was one to do. It counts a step only where there was.
+    fn do_one<B: Blocks, L: Ledger>(
+        &mut self,
+        classes: &ClassMap,
+        switch: &B,
+        steps: &mut Steps<L>,
+    ) -> Result<bool, Memory>
+        requires { IsKeptUp (setting classes.now (B.installed switch.now).table) self.old }
+        ensures kept { IsKeptUp (setting classes.now (B.installed switch.now).table) self.new }
+        ensures owed { self.new.owed ≡ self.old.owed }
+        ensures done { IfOk result (λ more. more ≡ true → NeedsFewer (setting classes.now (B.installed switch.now).table) 1 self.old self.new) }
+        ensures none { IfOk result (λ more. more ≡ false → NeedsAtMost (setting classes.now (B.installed switch.now).table) self.new 0) }
+        ensures same { OnErr result (NeedsFewer (setting classes.now (B.installed switch.now).table) 0 self.old self.new) }
+        ensures steps { steps.new ≤ steps.old + 1 }
+    {
+        if let Some(tag) = tag_to_do(&mut self.tags, &self.placed, classes) {
+            self.placed.place(classes, tag, steps)?;
+            return Ok(true);
+        }
+        if let Some((pair, old)) = pair_to_do(&mut self.pairs, &self.built, switch) {
+            self.built.build(self.alloc, pair, old, steps)?;
+            return Ok(true);
+        }
+        Ok(false)
+    }
+
+    /// Does so many units, or all that there are to do.
+    fn do_units<B: Blocks, L: Ledger>(
+        &mut self,
+        count: u64,
+        classes: &ClassMap,
+        switch: &B,
+        steps: &mut Steps<L>,
+    ) -> Result<(), Memory>
+        requires { IsKeptUp (setting classes.now (B.installed switch.now).table) self.old }
+        ensures kept { IsKeptUp (setting classes.now (B.installed switch.now).table) self.new }
+        ensures owed { self.new.owed ≡ self.old.owed }
+        ensures done { OnOk result (NeedsFewer (setting classes.now (B.installed switch.now).table) count self.old self.new) }
+        ensures same { OnErr result (NeedsFewer (setting classes.now (B.installed switch.now).table) 0 self.old self.new) }
+        ensures steps { steps.new ≤ steps.old + count }
+    {
+        for _ in 0..count {
+            if !self.do_one(classes, switch, steps)? {
+                return Ok(());
+            }
+        }
+        Ok(())
+    }
+
+    /// The swap of a job of which all is done.
+    fn finish(&mut self, classes: &ClassMap) -> Result<Swap, Memory>
+        requires { IsFull classes.now.tag classes.now.kept self.old.placed }
+        ensures moves { IfOk result (λ swap. IsMergeOf classes.now.tag classes.now.kept swap.moves) }
+        ensures built { IfOk result (λ swap. swap.built ≡ self.old.built) }
+        ensures rest { OnOk result (self.new ≡ record self.old { built = empty }) }
+        ensures unchanged { OnErr result (self.new ≡ self.old) }
+    {
+        let moves = classes.merge_plan(&self.placed)?;
+        let built = mem::replace(&mut self.built, Built::new(self.alloc));
+        Ok(Swap { moves, built })
     }
 }

@@ -3,7 +3,9 @@
 
 mod job;
 mod laws;
+mod lists;
 mod swap;
+mod units;
 
 pub use job::Job;
 pub use laws::quiet_changes_keep_jobs;

@@ -289,10 +289,12 @@ fn frame(alloc: Global, text: &[u8]) -> Result<Option<Event>, Memory>
 fn word_event(word: &[u8]) -> Event
     ensures { result ≡ event_of_word word.now }
 {
-    match word {
-        b"table" => Event::Table,
-        b"recompile" => Event::Recompile,
-        _ => Event::Bad,
+    if word == b"table".as_slice() {
+        Event::Table
+    } else if word == b"recompile".as_slice() {
+        Event::Recompile
+    } else {
+        Event::Bad
     }
 }
 

@@ -1,4 +1,5 @@
 mod RowSteps
+mod ChoiceSteps
 mod RowLaws
 mod ServedLaws
 mod Parts
@@ -8,6 +9,8 @@ mod UpdateLaws
 mod ProposalLaws
 mod DownLaws
 mod ExportLaws
+mod ChoiceLaws
+mod CompareSteps
 mod BestLaws
 mod ShortPaths
 mod NameLaws

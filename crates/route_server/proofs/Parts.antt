@@ -1,17 +1,20 @@
 -- One sender more.
 use Rattle.std.proofs.Common.{◌≡◌, ℕ, suc, ◌+◌, ◌-◌, ◌<◌, Bool, true, false, cond, ◌&&◌, length, get_or, take, List, [], ◌∷◌, ◌++◌, map, Some, None, refl, sym, ap, ◌∙◌, arith, append_assoc, append-nil}
+use Rattle.std.specs.Prelude.{slice_get}
 use Rattle.std.specs.List.{filter_map, cons_option}
+use Rattle.std.specs.Option.{option_map}
 use Rattle.net_types.specs.Exports.{Routing, is_given}
 use Rattle.net_types.specs.Routes.{Candidate, numbers}
-use Rattle.net_types.specs.Signatures.{counts, is_hole, offer, port_with}
+use Rattle.net_types.specs.Signatures.{counts, offer}
 use Rattle.net_types.specs.declared.route.Offer.{Offer}
-use Rattle.net_types.specs.declared.address.PortNo.{PortNo}
 use Rattle.std.proofs.lemmas.List.Elements.{filter-append}
+use Rattle.std.proofs.lemmas.Option.{slice_get-map, slice_get-get_or, get_or_from_slice_get}
 use Rattle.net_types.proofs.SetLemmas.{map-append}
 use Rattle.route_server.proofs.RowSteps.{offered_more}
 use Rattle.net_types.specs.declared.prefix.Prefix.{Prefix}
 use Rattle.net_types.specs.declared.route.Part.{Part}
 use Rattle.net_types.specs.declared.address.Pid.{Pid}
+use Rattle.route_server.specs.Choices.{offers_by_row}
 use Rattle.route_server.specs.Rows.{counted, offered, names_at, part_of, held_by}
 use Rattle.route_server.specs.declared.held.Held.{Held}
 
@@ -19,7 +22,7 @@ use Rattle.route_server.specs.declared.held.Held.{Held}
 abbrev pub parts_from : Routing → Prefix → List Held → ℕ → ℕ → List Part
 parts_from r p row low count = filter_map (λ to. part_of r to (offered r to p row)) (map (λ n. record { 0 = n }) (numbers low count))
 
-parts_step : (r : Routing) (p : Prefix) (row : List Held) (low count : ℕ) → low < count → parts_from r p row low (count - low) ≡ cons_option (part_of r (record { 0 = low }) (offered r (record { 0 = low }) p row)) (parts_from r p row (low + 1) (count - (low + 1)))
+pub parts_step : (r : Routing) (p : Prefix) (row : List Held) (low count : ℕ) → low < count → parts_from r p row low (count - low) ≡ cons_option (part_of r (record { 0 = low }) (offered r (record { 0 = low }) p row)) (parts_from r p row (low + 1) (count - (low + 1)))
 parts_step r p row low count lt =
     let e : count - low ≡ suc (count - (low + 1)) = omega (arith, lt) in
     ap (parts_from r p row low) e
@@ -58,11 +61,17 @@ module _ (r : Routing) (to chosen : Pid) (p : Prefix) (row : List Held) (i : ℕ
   step_as t e = step (counts (names_at r.named to.0) chosen h.from) (is_given r h.from to p h.attrs) refl refl
       ∙ ap (λ u. offers_by r to chosen p (take i row) ++ cond u (offer r (held_by r h) ∷ []) []) (sym e)
 
+  -- what the route offers
+  pub offer_at : (all : List Offer) (d : Offer) → all ≡ offers_by_row r row → get_or all i d ≡ offer r (held_by r h)
+  offer_at all d all_is = get_or_from_slice_get all i (offer r (held_by r h)) d
+      (ap (λ xs. slice_get xs i) all_is ∙ slice_get-map (λ x. offer r (held_by r x)) row i
+      ∙ ap (option_map (λ x. offer r (held_by r x))) (slice_get-get_or row i h within ∙ ap (λ x. Some x) (sym is)))
+
   -- one offer more
-  pub offer_more : (xs ys : List Offer) (port : PortNo) (hole : Bool) → true ≡ (counts (names_at r.named to.0) chosen h.from && is_given r h.from to p h.attrs) → port ≡ port_with r.ports h.attrs.next_hop → hole ≡ is_hole h.attrs
-      → xs ≡ offers_by r to chosen p (take i row) → ys ≡ xs ++ record { exporter = h.from; port = port; hole = hole } ∷ [] → ys ≡ offers_by r to chosen p (take (i + 1) row)
-  offer_more xs ys port hole e at held old now =
-      now ∙ (λ j. old j ++ record { exporter = h.from; port = at j; hole = held j } ∷ []) ∙ sym (step_as true e)
+  pub offer_more : (xs ys : List Offer) (x : Offer) → true ≡ (counts (names_at r.named to.0) chosen h.from && is_given r h.from to p h.attrs) → x ≡ offer r (held_by r h)
+      → xs ≡ offers_by r to chosen p (take i row) → ys ≡ xs ++ x ∷ [] → ys ≡ offers_by r to chosen p (take (i + 1) row)
+  offer_more xs ys x e at old now =
+      now ∙ (λ j. old j ++ at j ∷ []) ∙ sym (step_as true e)
 
   pub offer_same : (xs ys : List Offer) → false ≡ (counts (names_at r.named to.0) chosen h.from && is_given r h.from to p h.attrs)
       → xs ≡ offers_by r to chosen p (take i row) → ys ≡ xs → ys ≡ offers_by r to chosen p (take (i + 1) row)

@@ -1,82 +1,45 @@
 //! What changes of rows do: which prefixes they touch, and what is true of these afterwards.
 
-ghost use Rattle.std.specs.Prelude.{◌≡◌, ◌≤◌, ◌&&◌, length, map, IfOk};
+ghost use Rattle.std.specs.Prelude.{◌≡◌, ◌&&◌, true, nat_eq, length, IfOk};
 ghost use Rattle.std.specs.List.{list_all};
 ghost use Rattle.std.specs.FinMap.{FinMap};
+ghost use Rattle.std.specs.Option.{option_copied};
 ghost use Rattle.net_types.specs.Attributes.{same_option, same_attrs};
+ghost use Rattle.net_types.specs.Exports.{Routing};
 ghost use Rattle.net_types.specs.Keys.{route_cmp};
 ghost use Rattle.net_types.specs.Routes.{pids};
 ghost use Rattle.net_types.specs.declared.route.Attrs.{Attrs};
+ghost use Rattle.net_types.specs.declared.prefix.Prefix.{Prefix};
+ghost use Rattle.route_server.specs.Choices.{AreChosen};
 ghost use Rattle.route_server.specs.Rows.{settled_by};
 ghost use Rattle.route_server.specs.Served.{AreDeclared};
 ghost use Rattle.route_server.specs.Effects.{place_attrs, best_by_row, IsEffectOf, AreEffects, AreRowsOf, routing_after, routing_by};
 
 use crate::change::Change;
+use crate::choices::{chosen_in, held_in, place_of};
+use crate::compared::is_signature;
 use crate::effect::Effect;
 use crate::held::Held;
-use crate::rows::{best_attrs_in, best_in};
 use crate::server::RouteServer;
-use crate::signature::signature_in;
+use crate::signature::{all_offers, signature_in};
 use crate::terms::Terms;
-use net_types::{Memory, Pid, Prefix, same_items, same_optional};
+use net_types::{Attrs, Memory, Pid, Prefix, same_optional};
+use registry::Registry;
 use std::alloc::Global;
 
-/// The place of each participant's best route in a row.
-fn bests_in(
-    alloc: Global,
-    terms: Terms<'_>,
-    row: &[Held],
-    prefix: Prefix,
-) -> Result<Vec<Option<usize>>, Memory>
-    requires short { length row.now ≤ 256 }
-    ensures { IfOk result (λ bests. map (place_attrs row.now) bests.items ≡ map (best_by_row (settled_by terms.entry) prefix row.now) (pids (settled_by terms.entry))) }
-{
-    let mut bests = Vec::new(alloc);
-    let count = terms.names.participants().len() as u32;
-    for number in 0..count {
-        let place = best_in(terms, row, Pid(number), prefix);
-        bests.push(place)?;
-    }
-    Ok(bests)
+/// The places of a participant's best route in the old row and in the new one.
+#[derive(Clone, Copy)]
+struct Places {
+    old: Option<usize>,
+    new: Option<usize>,
 }
 
-/// Whether a participant's best attributes stay the same.
-fn same_best(
-    before: Terms<'_>,
-    old: &[Held],
-    after: Terms<'_>,
-    new: &[Held],
-    to: Pid,
-    prefix: Prefix,
-) -> bool
-    requires old_short { length old.now ≤ 256 }
-    requires new_short { length new.now ≤ 256 }
-    ensures { result ≡ same_option same_attrs (best_by_row (settled_by before.entry) prefix old.now to) (best_by_row (settled_by after.entry) prefix new.now to) }
+/// The attributes at a place, where there is one.
+fn attrs_in(row: &[Held], place: Option<usize>) -> Option<&Attrs>
+    ensures { option_copied result ≡ place_attrs row.now place }
 {
-    let earlier = best_attrs_in(before, old, to, prefix);
-    let now = best_attrs_in(after, new, to, prefix);
-    same_optional(earlier, now)
-}
-
-/// Whether every participant's best attributes stay the same.
-fn same_bests(
-    before: Terms<'_>,
-    old: &[Held],
-    after: Terms<'_>,
-    new: &[Held],
-    prefix: Prefix,
-) -> bool
-    requires old_short { length old.now ≤ 256 }
-    requires new_short { length new.now ≤ 256 }
-    ensures { result ≡ list_all (λ to. same_option same_attrs (best_by_row (settled_by before.entry) prefix old.now to) (best_by_row (settled_by after.entry) prefix new.now to)) (pids (settled_by before.entry)) }
-{
-    let count = before.names.participants().len() as u32;
-    for number in 0..count {
-        if !same_best(before, old, after, new, Pid(number), prefix) {
-            return false;
-        }
-    }
-    true
+    let held = held_in(row, place)?;
+    Some(held.attrs.get())
 }
 
 fn both(one: bool, two: bool) -> bool
@@ -85,7 +48,79 @@ fn both(one: bool, two: bool) -> bool
     one && two
 }
 
-/// What a change does, or nothing where all stays the same.
+fn same_place(one: Option<usize>, other: Option<usize>) -> bool
+    ensures { result ≡ same_option nat_eq one other }
+{
+    match one {
+        None => match other {
+            None => true,
+            Some(_) => false,
+        },
+        Some(one) => match other {
+            None => false,
+            Some(other) => one == other,
+        },
+    }
+}
+
+fn same_places(one: Places, other: Places) -> bool
+    ensures { result ≡ (same_option nat_eq one.old other.old && same_option nat_eq one.new other.new) }
+{
+    let old = same_place(one.old, other.old);
+    let new = same_place(one.new, other.new);
+    both(old, new)
+}
+
+/// Whether the attributes at two places are the same.
+fn same_at(old: &[Held], new: &[Held], at: Places) -> bool
+    ensures { result ≡ same_option same_attrs (place_attrs old.now at.old) (place_attrs new.now at.new) }
+{
+    same_optional(attrs_in(old, at.old), attrs_in(new, at.new))
+}
+
+/// The same, where it is known of two places. Participants, one after another, mostly have the same best route.
+fn stays(old: &[Held], new: &[Held], known: Places, at: Places) -> bool
+    requires { same_option same_attrs (place_attrs old.now known.old) (place_attrs new.now known.new) ≡ true }
+    ensures { result ≡ same_option same_attrs (place_attrs old.now at.old) (place_attrs new.now at.new) }
+{
+    if same_places(known, at) {
+        return true;
+    }
+    same_at(old, new, at)
+}
+
+/// Whether every participant's best attributes stay the same, by the places of these.
+fn same_bests(
+    names: &Registry,
+    old: &[Held],
+    earlier: &[Option<usize>],
+    new: &[Held],
+    places: &[Option<usize>],
+) -> bool
+    ensures { (r s : Routing) (p : Prefix) → r.participants ≡ names.now.participants → s.participants ≡ names.now.participants → AreChosen r p old.now earlier.now → AreChosen s p new.now places.now → result ≡ list_all (λ to. same_option same_attrs (best_by_row r p old.now to) (best_by_row s p new.now to)) (pids r) }
+{
+    let count = names.participants().len() as u32;
+    let mut known = Places {
+        old: None,
+        new: None,
+    };
+    for number in 0..count {
+        let before = place_of(earlier, Pid(number));
+        let after = place_of(places, Pid(number));
+        let at = Places {
+            old: before,
+            new: after,
+        };
+        if !stays(old, new, known, at) {
+            return false;
+        }
+        known = at;
+    }
+    true
+}
+
+/// What a change does, or nothing where all stays the same. Each participant's best route is decided once by the old row
+/// and once by the new one.
 fn effect_of(
     alloc: Global,
     before: Terms<'_>,
@@ -94,20 +129,22 @@ fn effect_of(
     change: &Change,
     at: usize,
 ) -> Result<Option<Effect>, Memory>
-    requires old_short { length old.now ≤ 256 }
-    requires new_short { length change.now.row ≤ 256 }
+    requires names { after.names.now ≡ before.names.now }
     ensures { IfOk result (λ effect. IsEffectOf (settled_by before.entry) (settled_by after.entry) old.now change.now at effect) }
 {
     let prefix = change.prefix;
     let row = change.row.items();
-    let sig = signature_in(alloc, after, row, prefix)?;
-    let earlier = signature_in(alloc, before, old, prefix)?;
-    let same_sig = same_items(sig.items(), earlier.items());
-    let same_best = same_bests(before, old, after, row, prefix);
+    let earlier = chosen_in(alloc, before, old, prefix)?;
+    let bests = chosen_in(alloc, after, row, prefix)?;
+    let was = earlier.as_slice();
+    let is = bests.as_slice();
+    let sig = signature_in(alloc, after, row, prefix, is)?;
+    let offers = all_offers(alloc, before, old)?;
+    let same_sig = is_signature(before, old, offers.as_slice(), prefix, was, sig.items());
+    let same_best = same_bests(before.names, old, was, row, is);
     if both(same_sig, same_best) {
         return Ok(None);
     }
-    let bests = bests_in(alloc, after, row, prefix)?;
     Ok(Some(Effect {
         at,
         prefix,

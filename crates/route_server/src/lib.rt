@@ -4,6 +4,8 @@
 mod admission;
 mod bests;
 mod change;
+mod choices;
+mod compared;
 mod down;
 mod edits;
 mod effect;

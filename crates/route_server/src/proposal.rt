@@ -16,6 +16,7 @@ ghost use Rattle.route_server.specs.Served.{routing, AreDeclared, AreOwned};
 ghost use Rattle.route_server.specs.declared.effect.Effect.{Effect};
 
 use crate::change::Change;
+use crate::choices::place_of;
 use crate::effect::Effect;
 use crate::effects::effects_of;
 use crate::server::RouteServer;
@@ -193,15 +194,5 @@ impl Proposal {
         ensures { result ≡ length self.now.changes }
     {
         self.changes.len()
-    }
-}
-
-/// A participant's place, where there is one.
-fn place_of(places: &[Option<usize>], who: Pid) -> Option<usize>
-    ensures { result ≡ option_and_then (λ o. o) (slice_get places.now who.0) }
-{
-    match places.get(who.0 as usize) {
-        Some(place) => *place,
-        None => None,
     }
 }

@@ -62,7 +62,7 @@ pub fn asn_of(names: &Registry, who: Pid) -> u32
 }
 
 /// What the choice looks at.
-fn seen_of(terms: Terms<'_>, held: &Held) -> Candidate
+pub fn seen_of(terms: Terms<'_>, held: &Held) -> Candidate
     ensures { result ≡ seen (candidate (settled_by terms.entry) held.now.from held.now.attrs) }
 {
     let (asn, id) = match terms.names.participant(held.from) {
@@ -84,13 +84,21 @@ fn seen_of(terms: Terms<'_>, held: &Held) -> Candidate
     }
 }
 
+/// Whether a route is given to a participant, whose AS is this one.
+pub fn is_given_in(terms: Terms<'_>, held: &Held, to: Pid, asn: u32, prefix: Prefix) -> bool
+    requires { asn ≡ asn_of (ruled terms.names.now []) to }
+    ensures { result ≡ is_given (settled_by terms.entry) held.now.from to prefix held.now.attrs }
+{
+    held.from.0 != to.0
+        && !is_in_path(asn, held.attrs.get().path.items())
+        && allowed(terms.rules, held.from, to, prefix)
+}
+
 /// Whether a route is given to a participant.
 pub fn is_given(terms: Terms<'_>, held: &Held, to: Pid, prefix: Prefix) -> bool
     ensures { result ≡ is_given (settled_by terms.entry) held.now.from to prefix held.now.attrs }
 {
-    held.from.0 != to.0
-        && !is_in_path(asn_of(terms.names, to), held.attrs.get().path.items())
-        && allowed(terms.rules, held.from, to, prefix)
+    is_given_in(terms, held, to, asn_of(terms.names, to), prefix)
 }
 
 /// The place of the best of a row's routes that are given to a participant. It takes no memory: what the choice looks at

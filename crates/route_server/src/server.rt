@@ -12,6 +12,7 @@ ghost use Rattle.route_server.specs.Rows.{look, Rising};
 ghost use Rattle.route_server.specs.Served.{Served, routing, AreRows, AreDeclared, route_in, one_after, route_after, Reaches, AreAll};
 
 use crate::change::Change;
+use crate::choices::chosen_in;
 use crate::held::Held;
 use crate::rows::best_attrs_in;
 use crate::signature::signature_in;
@@ -231,8 +232,11 @@ impl RouteServer {
         requires { AreDeclared names.now self.now.routes }
         ensures { IfOk result (λ sig. sig ≡ signature (routing names.now self.now) prefix) }
     {
+        let alloc = self.allocator();
+        let terms = self.terms(names);
         let row = self.row(prefix);
-        let sig = signature_in(self.allocator(), self.terms(names), row, prefix)?;
+        let places = chosen_in(alloc, terms, row, prefix)?;
+        let sig = signature_in(alloc, terms, row, prefix, places.as_slice())?;
         Ok(sig)
     }
 }

@@ -1,14 +1,18 @@
 //! The signature of a prefix.
 
-ghost use Rattle.std.specs.Prelude.{◌≡◌, ◌≤◌, ◌&&◌, length, map, nat_eq, IfOk};
+ghost use Rattle.std.specs.Prelude.{◌≡◌, ◌&&◌, map, nat_eq, IfOk};
 ghost use Rattle.std.specs.List.{list_any};
+ghost use Rattle.std.specs.Option.{option_and_then};
 ghost use Rattle.net_types.specs.Exports.{is_given};
+ghost use Rattle.net_types.specs.Routes.{best_of};
 ghost use Rattle.net_types.specs.Signatures.{counts, is_hole, offer, port_with};
 ghost use Rattle.net_types.specs.declared.address.Pid.{Pid};
-ghost use Rattle.route_server.specs.Rows.{settled_by, offered, counted, names_at, part_of, signature_of};
+ghost use Rattle.route_server.specs.Choices.{offers_by_row, AreChosen};
+ghost use Rattle.route_server.specs.Rows.{settled_by, held_by, held_at, offered, counted, names_at, part_of, signature_of};
 
+use crate::choices::{held_in, place_of};
 use crate::held::Held;
-use crate::rows::{best_in, is_given};
+use crate::rows::is_given;
 use crate::terms::Terms;
 use net_types::{Attrs, Ip, Memory, Offer, Offers, Part, Pid, Pids, PortNo, Prefix, Sig};
 use registry::Registry;
@@ -64,53 +68,76 @@ fn counts(named: &[Pid], chosen: Pid, who: Pid) -> bool
 }
 
 /// Whether a route is given to a sender and counts for it.
-fn is_offered(terms: Terms<'_>, held: &Held, to: Pid, chosen: Pid, prefix: Prefix) -> bool
+pub fn is_offered(terms: Terms<'_>, held: &Held, to: Pid, chosen: Pid, prefix: Prefix) -> bool
     ensures { result ≡ (counts (names_at terms.entry.named.now to.0) chosen held.now.from && is_given (settled_by terms.entry) held.now.from to prefix held.now.attrs) }
 {
     counts(names_at(terms.named, to), chosen, held.from) && is_given(terms, held, to, prefix)
 }
 
-/// What the best exporter and those that the sender names offer to it: the ports of their next hops, and whether what is
-/// sent to them is discarded.
+/// What a route offers: the port of its next hop, and whether what is sent there is discarded.
+fn offer_of(terms: Terms<'_>, held: &Held) -> Offer
+    ensures { result ≡ offer (settled_by terms.entry) (held_by (settled_by terms.entry) held.now) }
+{
+    let attrs = held.attrs.get();
+    Offer {
+        exporter: held.from,
+        port: port_with(terms.names, attrs.next_hop),
+        hole: is_hole(attrs),
+    }
+}
+
+/// What each route of a row offers.
+pub fn all_offers(alloc: Global, terms: Terms<'_>, row: &[Held]) -> Result<Vec<Offer>, Memory>
+    ensures { IfOk result (λ offers. offers.items ≡ offers_by_row (settled_by terms.entry) row.now) }
+{
+    let mut offers = Vec::with_capacity(alloc, row.len())?;
+    for held in row {
+        offers.push(offer_of(terms, held))?;
+    }
+    Ok(offers)
+}
+
+/// What the best exporter and those that the sender names offer to it, of all that the row's routes offer.
 fn offers_in(
     alloc: Global,
     terms: Terms<'_>,
     row: &[Held],
+    all: &[Offer],
     to: Pid,
     chosen: Pid,
     prefix: Prefix,
 ) -> Result<Offers, Memory>
+    requires { all.now ≡ offers_by_row (settled_by terms) row.now }
     ensures { IfOk result (λ offers. offers ≡ map (offer (settled_by terms.entry)) (counted (settled_by terms.entry) to chosen (offered (settled_by terms.entry) to prefix row.now))) }
 {
     let mut offers = Offers::new(alloc);
-    for held in row {
+    for (place, held) in row.iter().enumerate() {
         if is_offered(terms, held, to, chosen, prefix) {
-            offers.push(Offer {
-                exporter: held.from,
-                port: port_with(terms.names, held.attrs.get().next_hop),
-                hole: is_hole(held.attrs.get()),
-            })?;
+            offers.push(all[place])?;
         }
     }
     Ok(offers)
 }
 
-/// A sender's part, where it has a best route.
+/// A sender's part, where it has a best route, from the place of that one.
 fn part_in(
     alloc: Global,
     terms: Terms<'_>,
     row: &[Held],
+    all: &[Offer],
     to: Pid,
     prefix: Prefix,
+    place: Option<usize>,
 ) -> Result<Option<Part>, Memory>
-    requires short { length row.now ≤ 256 }
+    requires offers { all.now ≡ offers_by_row (settled_by terms) row.now }
+    requires best { option_and_then (held_at (settled_by terms) row.now) place ≡ best_of (offered (settled_by terms) to prefix row.now) }
     ensures { IfOk result (λ part. part ≡ part_of (settled_by terms.entry) to (offered (settled_by terms.entry) to prefix row.now)) }
 {
-    match best_in(terms, row, to, prefix) {
+    match held_in(row, place) {
         None => Ok(None),
-        Some(place) => {
-            let best = row[place].from;
-            let offers = offers_in(alloc, terms, row, to, best, prefix)?;
+        Some(held) => {
+            let best = held.from;
+            let offers = offers_in(alloc, terms, row, all, to, best, prefix)?;
             Ok(Some(Part {
                 sender: to,
                 best,
@@ -120,20 +147,24 @@ fn part_in(
     }
 }
 
-/// The signature of a prefix that has this row.
+/// The signature of a prefix that has this row, of which each participant's best route is at these places.
 pub fn signature_in(
     alloc: Global,
     terms: Terms<'_>,
     row: &[Held],
     prefix: Prefix,
+    places: &[Option<usize>],
 ) -> Result<Sig, Memory>
-    requires short { length row.now ≤ 256 }
+    requires { AreChosen (settled_by terms) prefix row.now places.now }
     ensures { IfOk result (λ sig. sig ≡ signature_of (settled_by terms.entry) prefix row.now) }
 {
-    let mut sig = Sig::new(alloc);
+    let all = all_offers(alloc, terms, row)?;
     let count = terms.names.participants().len() as u32;
+    let mut sig = Sig::from_vec(Vec::with_capacity(alloc, count as usize)?);
     for number in 0..count {
-        let part = part_in(alloc, terms, row, Pid(number), prefix)?;
+        let to = Pid(number);
+        let place = place_of(places, to);
+        let part = part_in(alloc, terms, row, all.as_slice(), to, prefix, place)?;
         match part {
             Some(own) => {
                 sig.push(own)?;

@@ -1,6 +1,6 @@
 -- An exchange with its job: what a line does to both.
-use Rattle.std.proofs.Common.{◌≡◌, ℕ, ◌+◌, ◌-◌, ◌<◌, ◌≤◌, Bool, true, false, sym, ap, subst, ◌∙◌, refl, tt}
-use Rattle.std.specs.Prelude.{Option, Some, None, is_some, List, [], length}
+use Rattle.std.proofs.Common.{◌≡◌, ℕ, ◌+◌, ◌-◌, ◌<◌, ◌≤◌, Bool, true, false, sym, ap, subst, ◌∙◌, refl}
+use Rattle.std.specs.Prelude.{Option, Some, None, is_some, List, [], length, Result, Ok, Err, IfOk, OnErr}
 use Rattle.std.specs.Option.{option_map}
 use Rattle.std.specs.FinMap.{FinMap, entries, keys}
 use Rattle.events.specs.After.{all_units, next, running}
@@ -28,6 +28,7 @@ use Rattle.job_laws.specs.Units.{RecompilesAreAccepted, WorksAreAccepted, owing}
 use Rattle.job_upkeep.specs.Upkeep.{HasJob, JobsBegin, setting_of}
 use Rattle.net_types.specs.Keys.{pair_cmp, prefix_cmp, tag_cmp}
 use Rattle.net_types.specs.declared.address.Tag.{Tag}
+use Rattle.net_types.specs.declared.memory.Memory.{Memory}
 use Rattle.net_types.specs.declared.route.Part.{Part}
 use Rattle.net_types.specs.declared.rule.Rule.{Rule}
 use Rattle.prefix_classes.specs.Classes.{Classes}
@@ -91,6 +92,20 @@ module _ (s s' : State) (job job' : Option Underway) (e : Event) (reply : Reply)
     has = subst (λ (x : State). HasJob x job') then_is has_then;
     few = subst (λ (x : State). OwesFew x.owed) then_is (stays (with_job s job) e reply (in_job s job steady kept) (λ own. formed) fits_then).few;
   }
+
+-- so it is however the line ends
+module _ (s s' : State) (job job' : Option Underway) (e : Event) (laws : JobsLeaveLines) (stays : AllStepsStaySteady) (steady : IsSteady s) (kept : IsKept s job) (formed : IsWellFormed e) (line : is_of_job e ≡ false) where
+  pub step_by : (result : Result Reply Memory) → IfOk result (λ reply. IsStep s e reply s') → IfOk result (λ reply. KeepsJob s e reply job job') → IfOk result (λ reply. IsStep (with_job s job) e reply (with_job s' job'))
+  step_by (Ok reply) step keeps = line_step s s' job job' e reply laws stays steady kept formed line step keeps
+  step_by (Err m) step keeps = tt
+
+  pub kept_by : (result : Result Reply Memory) → IfOk result (λ reply. IsStep s e reply s') → OnErr result (s' ≡ s) → IfOk result (λ reply. KeepsJob s e reply job job') → OnErr result (job' ≡ job) → IsKept s' job'
+  kept_by (Ok reply) step same keeps alike = line_kept s s' job job' e reply laws stays steady kept formed line step keeps
+  kept_by (Err m) step same keeps alike = subst (λ x. IsKept x job') (sym same) (subst (IsKept s) (sym alike) kept)
+
+pub same_by : (s s' : State) (job job' : Option Underway) (result : Result Reply Memory) → OnErr result (s' ≡ s) → OnErr result (job' ≡ job) → OnErr result (with_job s' job' ≡ with_job s job)
+same_by s s' job job' (Ok reply) same alike = tt
+same_by s s' job job' (Err m) same alike = λ i. with_job (same i) (alike i)
 
 -- its steps are those of the exchange without the job
 pub line_bound : (s : State) (job : Option Underway) (e : Event) → IsSteady s → is_of_job e ≡ false → step_bound (with_job s job) e ≡ core.step_bound s e
@@ -156,7 +171,6 @@ module _ (s : State) (j : Underway) (reply : Reply) (accepted : RecompilesAreAcc
 
   units : j.owed ≡ all_units start
   units = begun.0
-
   started = accepted start (in_job s None steady kept) (starts s declared)
 
   start_next : next start Recompile (bare (Working j.owed)) ≡ owing start j.owed
@@ -206,7 +220,6 @@ module _ (s : State) (j j' : Underway) (units left : ℕ) (reply : Reply) (accep
 
   rest : j'.owed ≡ j.owed - units
   rest = owes ∙ leaves
-
   worked = accepted work units j.owed (in_job s (Some j) steady kept) (works s j units declared) refl less
 
   pub worked_step : IsStep work (Work units) reply (with_job (running s) (Some j'))

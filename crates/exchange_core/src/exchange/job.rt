@@ -1,11 +1,14 @@
 //! The table's pairs, with which a background job starts, and the end of a job.
 
-ghost use Rattle.std.specs.Prelude.{◌≡◌, IfOk, IfErr, OnErr};
+ghost use Rattle.std.specs.Prelude.{◌≡◌, true, IfOk, IfErr, OnErr};
 ghost use Rattle.std.specs.FinMap.{keys};
+ghost use Rattle.events.specs.State.{State};
 ghost use Rattle.job_end.specs.Ends.{IsEnd};
+ghost use Rattle.job_laws.specs.Jobs.{IsSteadyInJob, without_job};
 ghost use Rattle.job_upkeep.specs.Upkeep.{setting_of};
 ghost use Rattle.recompile.specs.Working.{IsSwap};
 ghost use Rattle.exchange_core.specs.Jobs.{EndsJob};
+ghost use Rattle.exchange_core.specs.Placed.{is_declared};
 
 use super::Core;
 use crate::replies::changes_reply;
@@ -26,10 +29,10 @@ impl Core {
         Ok(pairs)
     }
 
-    /// What the end of a job does.
+    /// What the end of a job does, whichever job it is.
     fn planned_end(&self, swap: &Swap) -> Result<End, Memory>
         requires { IsSwap (setting_of self.now) swap.now }
-        ensures { IfOk result (IsEnd self.now swap.now) }
+        ensures { (s : State) → IsSteadyInJob s → without_job s ≡ self.now → IfOk result (IsEnd s swap.now) }
     {
         let pairs = self.pairs()?;
         plan_end(
@@ -46,7 +49,8 @@ impl Core {
     /// A job ends: the classes are merged, and the rules of each pair become tight. After want of memory nothing has changed,
     /// and the swap is given back.
     pub fn finish(&mut self, swap: Swap) -> Result<Reply, Swap>
-        requires { IsSwap (setting_of self.old) swap }
+        requires declared { is_declared self.old.phase ≡ true }
+        requires swap { IsSwap (setting_of self.old) swap }
         ensures step { IfOk result (λ reply. EndsJob self.old reply self.new) }
         ensures unchanged { OnErr result (self.new ≡ self.old) }
         ensures swap { IfErr result (λ back. back ≡ swap) }

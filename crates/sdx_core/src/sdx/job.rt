@@ -44,7 +44,10 @@ impl Sdx {
         recompiles_are_accepted();
         jobs_begin();
         self.core.is_steady();
-        if self.job.is_some() || !self.core.is_declared() {
+        if self.job.is_some() {
+            return Ok(refused(self.alloc, Refusal::Misplaced));
+        }
+        if !self.core.is_declared() {
             return Ok(refused(self.alloc, Refusal::Misplaced));
         }
         let pairs = self.core.pairs()?;

@@ -1,4 +1,4 @@
-use Rattle.job_upkeep.proofs.Lines.{begin}
+use Rattle.job_upkeep.proofs.QuietLines.{begin}
 use Rattle.job_upkeep.proofs.lines.jobs_begin.Goals as goal
 
 pub returns : goal.returns

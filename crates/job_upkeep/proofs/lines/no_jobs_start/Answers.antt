@@ -1,4 +1,4 @@
-use Rattle.job_upkeep.proofs.Lines.{none_start}
+use Rattle.job_upkeep.proofs.QuietLines.{none_start}
 use Rattle.job_upkeep.proofs.lines.no_jobs_start.Goals as goal
 
 pub returns : goal.returns

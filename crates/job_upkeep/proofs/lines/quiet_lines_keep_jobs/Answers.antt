@@ -1,4 +1,4 @@
-use Rattle.job_upkeep.proofs.Lines.{quiet_keep}
+use Rattle.job_upkeep.proofs.QuietLines.{quiet_keep}
 use Rattle.job_upkeep.proofs.lines.quiet_lines_keep_jobs.Goals as goal
 
 pub returns : goal.returns

@@ -1,4 +1,4 @@
-use Rattle.job_upkeep.proofs.Lines.{settings_are_few}
+use Rattle.job_upkeep.proofs.QuietLines.{settings_are_few}
 use Rattle.job_upkeep.proofs.lines.steady_settings_are_few.Goals as goal
 
 pub returns : goal.returns

@@ -1,20 +1,13 @@
-use Rattle.std.proofs.Common.{subst, sym, ap, ◌∙◌, refl, arith, append-nil}
+use Rattle.std.proofs.Common.{subst, sym, ap, ◌∙◌, refl, append-nil}
 use Rattle.std.specs.Prelude.{Some, None}
 use Rattle.std.proofs.lemmas.Option.{slice_get-get_or}
 use Rattle.net_types.proofs.FindLemmas.{slice_get-Member}
 use Rattle.route_server.specs.Rows.{settled, settled_by}
 use Rattle.route_server.specs.Effects.{IsEffectOf}
 use Rattle.route_server.specs.Served.{Served}
-use Rattle.route_server.proofs.RowLaws.{rising_short}
 use Rattle.route_server.proofs.EffectLaws.{AreKnown, effect_more}
 use Rattle.route_server.proofs.effects.effects_of.Goals as goal
 use Rattle.route_server.proofs.effects.effects_of.Goals.{in-Some+in_ok-push-in-Some, in-None}
-
-pub effect_of-requires-clause-old_short : goal.effect_of-requires-clause-old_short
-effect_of-requires-clause-old_short c = let k = rising_short 0 256 c.row-old.result.now (omega arith) c.row-old.ensures.rising in omega (arith, k)
-
-pub effect_of-requires-clause-new_short : goal.effect_of-requires-clause-new_short
-effect_of-requires-clause-new_short c = let k = rising_short 0 256 c.index-changes-at.result.row (omega arith) c.index-changes-at.result.rising in omega (arith, k)
 
 pub loop-at-preserved : goal.loop-at-preserved
 loop-at-preserved c = λ m declared rows.

@@ -1,17 +1,33 @@
-use Rattle.std.proofs.Common.{◌≡◌, ◌<◌, ◌+◌, ◌-◌, ◌&&◌, true, length, subst, sym, ap, ◌∙◌, Bool}
+use Rattle.std.proofs.Common.{◌<◌, ◌≤◌, length, subst, sym, ap, ◌∙◌}
 use Rattle.std.specs.List.{list_all}
 use Rattle.net_types.specs.Attributes.{same_option, same_attrs}
-use Rattle.net_types.specs.declared.address.Pid.{Pid}
-use Rattle.route_server.specs.Rows.{settled_by}
 use Rattle.route_server.specs.Effects.{best_by_row}
-use Rattle.route_server.proofs.EffectLaws.{pids_from, pids_step}
+use Rattle.route_server.proofs.ChoiceLaws.{bests_at, all_more}
+use Rattle.route_server.proofs.EffectLaws.{pids_end}
 use Rattle.route_server.proofs.effects.same_bests.Goals as goal
 
-pub loop-number-preserved : goal.loop-number-preserved
-loop-number-preserved c =
+pub returns-then-not-stays : goal.returns-then-not-stays
+returns-then-not-stays c = λ r s p first then was are.
     let n = c.loop-number.number in
-    let count = length c.args.before.names.now.participants in
-    let f : Pid → Bool = λ to. same_option same_attrs (best_by_row (settled_by c.args.before) c.args.prefix c.args.old.now to) (best_by_row (settled_by c.args.after) c.args.prefix c.args.new.now to) in
-    let step = pids_step n count (subst (λ xs. n < length xs) c.participants.ensures.all c.loop-number-test.true) in
-    let same : c.same_best.result ≡ true = c.if-not-same_best.false in
-    sym (ap (list_all f) step ∙ ap (λ b. b && list_all f (pids_from (n + 1) (count - (n + 1)))) (sym c.same_best.ensures ∙ same)) ∙ c.loop-number.invariant
+    let low = subst (λ xs. n < length xs) c.participants.ensures.all c.loop-number-test.true in
+    all_more (λ to. same_option same_attrs (best_by_row r p c.args.old.now to) (best_by_row s p c.args.new.now to)) n (length c.args.names.now.participants) _ _ low
+    (sym (bests_at r s p c.args.old.now c.args.new.now c.args.earlier.now c.args.places.now n c.place_of-before.result c.place_of-after.result was are (subst (λ xs. n < length xs) (sym first) low) (subst (λ xs. n < length xs) (sym then) low) c.place_of-before.ensures c.place_of-after.ensures)
+    ∙ sym c.stays.ensures ∙ c.if-not-stays.true) (c.loop-number.invariant.left r s p first then was are)
+
+pub loop-number-preserved : goal.loop-number-preserved
+loop-number-preserved c = record {
+  known = sym c.stays.ensures ∙ c.if-not-stays.false;
+  left = λ r s p first then was are.
+      let n = c.loop-number.number in
+      let low = subst (λ xs. n < length xs) c.participants.ensures.all c.loop-number-test.true in
+      all_more (λ to. same_option same_attrs (best_by_row r p c.args.old.now to) (best_by_row s p c.args.new.now to)) n (length c.args.names.now.participants) _ _ low
+      (sym (bests_at r s p c.args.old.now c.args.new.now c.args.earlier.now c.args.places.now n c.place_of-before.result c.place_of-after.result was are (subst (λ xs. n < length xs) (sym first) low) (subst (λ xs. n < length xs) (sym then) low) c.place_of-before.ensures c.place_of-after.ensures)
+      ∙ sym c.stays.ensures ∙ c.if-not-stays.false) (c.loop-number.invariant.left r s p first then was are);
+}
+
+pub returns : goal.returns
+returns c = λ r s p first then was are.
+    let n = c.loop-number.number in
+    let high = subst (λ xs. length xs ≤ n) c.participants.ensures.all c.loop-number-test.false in
+    sym (ap (list_all (λ to. same_option same_attrs (best_by_row r p c.args.old.now to) (best_by_row s p c.args.new.now to))) (pids_end n (length c.args.names.now.participants) high))
+    ∙ c.loop-number.invariant.left r s p first then was are

@@ -1,0 +1,52 @@
+-- The last item of a list, and tags above another.
+use Rattle.std.proofs.Common.{◌≡◌, ℕ, zero, suc, ◌-◌, ◌<◌, ◌≤◌, ◌⊎◌, List, [], ◌∷◌, length, take, refl, sym, ap, subst, ◌∙◌, inl, inr, arith}
+use Rattle.std.specs.Prelude.{Bool, true, false, nat_lt, Option, Some, None, slice_get}
+use Rattle.std.specs.FinMap.{FinMap}
+use Rattle.std.proofs.lemmas.Bool.{ltb-false, ltb-true}
+use Rattle.net_types.proofs.FindLemmas.{not_there, slice_get_some}
+use Rattle.net_types.specs.Keys.{prefix_cmp}
+use Rattle.net_types.specs.Sets.{Member}
+use Rattle.net_types.specs.declared.address.Tag.{Tag}
+use Rattle.prefix_classes.proofs.MergeLemmas.{same_number}
+use Rattle.prefix_classes.specs.Classes.{IsAbove, IsNextTag, members}
+
+-- how many numbers of 32 bits are above a tag
+abbrev pub tags_above : Option Tag → ℕ
+tags_above None = 4294967297
+tags_above (Some t) = 4294967296 - t.0
+
+before_last : {A : Type 0} (k : ℕ) (xs : List A) (x y : A) → length xs ≡ suc k → slice_get xs k ≡ Some x → Member y xs → Member y (take k xs) ⊎ (y ≡ x)
+before_last k [] x y e at m = elim m [ ]
+before_last zero (z ∷ []) x y e at (inl same) = inr (let it : z ≡ x = cc in same ∙ it)
+before_last zero (z ∷ []) x y e at (inr m) = elim m [ ]
+before_last zero (z ∷ w ∷ ws) x y e at m = absurd (omega (arith, e))
+before_last (suc k) (z ∷ zs) x y e at (inl same) = inl (inl same)
+before_last (suc k) (z ∷ zs) x y e at (inr m) = elim (before_last k zs x y (omega (arith, e)) at m) [ inl front ↦ inl (inr front) | inr last ↦ inr last ]
+
+-- a member of a list is the last one, or among the others
+pub all_but_last : {A : Type 0} (xs rest : List A) (n : ℕ) (x : A) → n ≡ length xs → rest ≡ take (n - 1) xs → Some x ≡ slice_get xs (length xs - 1) → (y : A) → Member y xs → Member y rest ⊎ (y ≡ x)
+all_but_last [] rest n x count is at y m = elim m [ ]
+all_but_last (z ∷ zs) rest n x count is at y m =
+    let one : length (z ∷ zs) - 1 ≡ length zs = omega arith in
+    let front : rest ≡ take (length zs) (z ∷ zs) = is ∙ ap (λ k. take (k - 1) (z ∷ zs)) count ∙ ap (λ k. take k (z ∷ zs)) one in
+    elim (before_last (length zs) (z ∷ zs) x y (omega arith) (ap (slice_get (z ∷ zs)) (sym one) ∙ sym at) m) [
+      | inl there ↦ inl (subst (Member y) (sym front) there)
+      | inr last ↦ inr last
+    ]
+
+pub no_last : {A : Type 0} (xs : List A) → None ≡ slice_get xs (length xs - 1) → xs ≡ []
+no_last [] e = refl
+no_last (x ∷ xs) e =
+    let some = slice_get_some (x ∷ xs) (length (x ∷ xs) - 1) (omega arith) in
+    absurd (not_there (slice_get (x ∷ xs) (length (x ∷ xs) - 1)) some.0 (sym e) some.1)
+
+-- a tag with members above another is the next one, or above that
+pub least_or_above : (m : FinMap prefix_cmp Tag) (last : Option Tag) (next t : Tag) → IsNextTag m last next → 0 < members m t → IsAbove last t → (t ≡ next) ⊎ (next.0 < t.0)
+least_or_above m last next t is used above = by (nat_lt next.0 t.0) refl
+  where
+    by : (b : Bool) → nat_lt next.0 t.0 ≡ b → (t ≡ next) ⊎ (next.0 < t.0)
+    by true e = inr (ltb-true next.0 t.0 e)
+    by false e =
+        let low : t.0 ≤ next.0 = ltb-false next.0 t.0 e in
+        let high : next.0 ≤ t.0 = is.least t used above in
+        inl (same_number t next (omega (arith, low, high)))
