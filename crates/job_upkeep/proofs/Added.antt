@@ -1,5 +1,5 @@
 -- Where the routes change, each added pair is a port with a fresh tag.
-use Rattle.std.proofs.Common.{◌≡◌, ℕ, ◌+◌, ◌*◌, ◌≤◌, Bool, true, false, ◌&&◌, ◌||◌, not, List, [], ◌∷◌, ◌++◌, length, map, filter, sym, ap, subst, ◌∙◌, refl, arith}
+use Rattle.std.proofs.Common.{◌≡◌, ℕ, ◌+◌, ◌*◌, ◌≤◌, Bool, true, false, ◌||◌, not, List, [], ◌∷◌, length, map, sym, ap, subst, ◌∙◌, refl, arith}
 use Rattle.std.specs.Prelude.{Option, Some, None, is_none, is_some}
 use Rattle.std.specs.FinMap.{get, keys}
 use Rattle.std.proofs.Math.Nat.{suc-mul}
@@ -20,11 +20,9 @@ use Rattle.exchange_laws.specs.Rules.{is_new}
 use Rattle.fast_path.proofs.CommittedReplies.{change}
 use Rattle.fast_path.proofs.NewPairs.{made, new_pairs_all}
 use Rattle.fast_path.proofs.PortsAndTags.{port_listed, tie}
-use Rattle.fast_path.specs.Carried.{IsPlanned}
 use Rattle.fast_path.specs.LiveOnly.{registered}
 use Rattle.fast_path.specs.Pairs.{class_pairs, pair_at, sender_pairs}
 use Rattle.fast_path.specs.declared.planned.Class.{Class}
-use Rattle.fast_path.specs.declared.planned.Plan.{Plan}
 use Rattle.job_upkeep.proofs.Listed.{rising_once}
 use Rattle.job_upkeep.specs.Upkeep.{AddedAreFew}
 use Rattle.net_types.proofs.OrderLemmas.{pairs_total}

@@ -1,5 +1,5 @@
 -- As many prefixes have tags as are carried.
-use Rattle.std.proofs.Common.{◌≡◌, ℕ, ◌≤◌, true, List, length, sym, ap, ◌∙◌, arith}
+use Rattle.std.proofs.Common.{◌≡◌, ℕ, ◌≤◌, length, sym, ap, ◌∙◌, arith}
 use Rattle.std.specs.Prelude.{is_some}
 use Rattle.std.specs.FinMap.{FinMap, contains_key-keys, entries, get, keys}
 use Rattle.std.proofs.lemmas.List.{length-map}

@@ -1,5 +1,5 @@
 -- What a plan says of tags and pairs is what becomes of them.
-use Rattle.std.proofs.Common.{◌≡◌, ◌⊎◌, ◌<◌, Bool, true, false, ◌&&◌, cond, map, sym, ap, subst, ◌∙◌, refl, inl, inr}
+use Rattle.std.proofs.Common.{◌≡◌, ◌⊎◌, ◌<◌, Bool, true, false, ◌&&◌, cond, sym, subst, ◌∙◌, refl, inl, inr}
 use Rattle.std.specs.Prelude.{Some, None, is_some}
 use Rattle.std.specs.FinMap.{get}
 use Rattle.events.specs.State.{State}
@@ -13,7 +13,7 @@ use Rattle.fast_path.proofs.CommittedReplies.{change, is_table}
 use Rattle.fast_path.proofs.NewPairs.{group_class}
 use Rattle.fast_path.proofs.PortsAndTags.{prefix_with}
 use Rattle.fast_path.specs.Committing.{Kept, signed}
-use Rattle.fast_path.specs.Plans.{IsPlan, pair_of, planned}
+use Rattle.fast_path.specs.Plans.{IsPlan, planned}
 use Rattle.fast_path.specs.declared.planned.Class.{Class}
 use Rattle.fast_path.specs.declared.planned.Plan.{Plan}
 use Rattle.job_upkeep.proofs.Tagged.{none_without, some_with, with_some, without_none}

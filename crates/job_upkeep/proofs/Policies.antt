@@ -1,5 +1,5 @@
 -- After another policy a job that begins anew covers the state, and owes what the state says.
-use Rattle.std.proofs.Common.{◌≡◌, ℕ, ◌+◌, ◌≤◌, ◌<◌, Bool, true, false, ◌&&◌, ◌||◌, not, List, [], ◌∷◌, ◌++◌, length, filter, sym, ap, subst, ◌∙◌, refl, arith, inl, inr}
+use Rattle.std.proofs.Common.{◌≡◌, ℕ, ◌+◌, ◌≤◌, ◌<◌, Bool, true, false, ◌&&◌, ◌||◌, not, List, length, filter, sym, ap, subst, ◌∙◌, refl, arith, inl, inr}
 use Rattle.std.specs.Prelude.{Option, Some, None, Result, Ok, Err, is_some}
 use Rattle.std.specs.FinMap.{contains_key-keys, entries, get, keys}
 use Rattle.std.specs.Option.{option_map}
@@ -8,7 +8,7 @@ use Rattle.events.specs.After.{after, all_units, next, received_by, sent_by, wit
 use Rattle.events.specs.Fits.{is_building}
 use Rattle.events.specs.Forms.{IsWellFormed}
 use Rattle.events.specs.State.{State}
-use Rattle.events.specs.Tags.{capped, carried, is_carried, is_live_pair, live_pairs, pairs, retagged}
+use Rattle.events.specs.Tags.{capped, carried, is_live_pair, live_pairs, pairs, retagged}
 use Rattle.events.specs.declared.Event.{Event}
 use Rattle.events.specs.declared.Event.TheVariants.{Bad, Exchange, Participant as DeclaresParticipant, Port as DeclaresPort, Update, Down, Export, Outbound, Inbound, Take, Drain, Arp, Resolve, Packet, Frame, Recompile, Work, Table}
 use Rattle.exchange_laws.proofs.Counted.{live_Member, live_rise}

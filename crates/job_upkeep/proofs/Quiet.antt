@@ -1,5 +1,5 @@
 -- A line that builds no rules gives no prefix another tag, keeps the signatures of tags that prefixes have, and adds no rules.
-use Rattle.std.proofs.Common.{◌≡◌, ℕ, Bool, true, false, cond, ◌&&◌, List, [], ◌∷◌, ◌++◌, map, sym, ap, subst, ◌∙◌, refl, inl, inr}
+use Rattle.std.proofs.Common.{◌≡◌, ℕ, Bool, true, false, cond, ◌&&◌, List, [], ◌∷◌, ◌++◌, map, sym, ap, subst, ◌∙◌, refl, inr}
 use Rattle.std.specs.Prelude.{Option, Some, None, MatchOption, is_some, slice_set, take}
 use Rattle.std.specs.FinMap.{FinMap, get, get-remove, keys, remove}
 use Rattle.std.specs.Option.{option_map_or}

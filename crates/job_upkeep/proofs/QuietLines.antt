@@ -1,20 +1,17 @@
 -- Lines that build no rules leave a job as it is, and a job begins.
-use Rattle.std.proofs.Common.{◌≡◌, ◌+◌, Bool, true, false, List, [], length, sym, ap, subst, ◌∙◌, refl, inl}
+use Rattle.std.proofs.Common.{◌≡◌, ◌+◌, false, [], length, sym, ap, subst, ◌∙◌, inl}
 use Rattle.std.specs.Prelude.{Option, Some, None}
-use Rattle.std.specs.FinMap.{entries, get, keys}
-use Rattle.events.specs.After.{all_units, next, next_by}
-use Rattle.events.specs.Fits.{Fits, bare, is_building, is_of_job}
-use Rattle.events.specs.Forms.{IsWellFormed}
+use Rattle.std.specs.FinMap.{entries, keys}
+use Rattle.events.specs.After.{all_units, next}
+use Rattle.events.specs.Fits.{is_of_job}
 use Rattle.events.specs.State.{State}
-use Rattle.events.specs.Tags.{capped, carried, is_carried, live_pairs}
+use Rattle.events.specs.Tags.{capped, carried}
 use Rattle.events.specs.declared.Event.{Event}
-use Rattle.events.specs.declared.Head.{Head}
-use Rattle.events.specs.declared.Head.TheVariants.{Fine, Working, Finished, Unrouted, Unresolved, Silent, Refused}
 use Rattle.events.specs.declared.Reply.{Reply}
 use Rattle.exchange_laws.proofs.Lists.{key_Member}
 use Rattle.exchange_laws.specs.Counts.{PairsAreLive}
 use Rattle.exchange_laws.specs.Replies.{RightRulesAreSome}
-use Rattle.exchange_laws.specs.Steady.{IsSteady, StepsStaySteady}
+use Rattle.exchange_laws.specs.Steady.{StepsStaySteady}
 use Rattle.fast_path.proofs.PortsAndTags.{tie}
 use Rattle.job_laws.specs.Jobs.{without_job}
 use Rattle.job_laws.specs.Steps.{JobsLeaveLines, UnitsStay}
@@ -24,12 +21,8 @@ use Rattle.job_upkeep.proofs.Quiet.{quiet_owed, quiet_stays, stays_change}
 use Rattle.job_upkeep.specs.Upkeep.{HasJob, JobsBegin, NoJobsStart, QuietLinesKeepJobs, RefusedLinesKeepJobs, SteadySettingsAreFew, setting_of}
 use Rattle.net_types.proofs.OrderLemmas.{pairs_total}
 use Rattle.net_types.specs.Keys.{pair_cmp}
-use Rattle.net_types.specs.Sets.{Member}
-use Rattle.net_types.specs.declared.address.Tag.{Tag}
-use Rattle.net_types.specs.declared.rule.Pair.{Pair}
-use Rattle.recompile.specs.Changing.{CoversListed, IsListed, QuietChangesKeepJobs}
+use Rattle.recompile.specs.Changing.{IsListed, QuietChangesKeepJobs}
 use Rattle.recompile.specs.Covering.{Covers}
-use Rattle.recompile.specs.Setting.{Setting}
 use Rattle.recompile.specs.Underway.{Underway}
 
 pub settings_are_few : RightRulesAreSome → SteadySettingsAreFew

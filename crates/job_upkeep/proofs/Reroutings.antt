@@ -1,27 +1,23 @@
 -- After a change of the routes a job that is told what the plan says covers the state, and owes what the state says.
-use Rattle.std.proofs.Common.{◌≡◌, ◌+◌, ◌*◌, ◌≤◌, Bool, true, false, List, length, map, sym, ap, subst, ◌∙◌, refl, arith}
-use Rattle.std.specs.Prelude.{Option, Some, None}
+use Rattle.std.proofs.Common.{◌≡◌, ◌+◌, ◌*◌, Bool, true, false, length, sym, ap, subst, ◌∙◌, refl}
+use Rattle.std.specs.Prelude.{Some, None}
 use Rattle.std.specs.Option.{option_map}
 use Rattle.std.proofs.lemmas.List.{length-take-le}
-use Rattle.events.specs.After.{after, next}
+use Rattle.events.specs.After.{next}
 use Rattle.events.specs.Fits.{is_building, is_of_job}
 use Rattle.events.specs.Forms.{IsWellFormed}
 use Rattle.events.specs.Refusals.{refusal}
 use Rattle.events.specs.State.{State}
-use Rattle.events.specs.Tags.{capped, free_tags, groups, more_units, retagged}
+use Rattle.events.specs.Tags.{capped, free_tags, groups, more_units}
 use Rattle.events.specs.declared.Event.{Event}
 use Rattle.events.specs.declared.Event.TheVariants.{Bad, Exchange, Participant as DeclaresParticipant, Port as DeclaresPort, Update, Down, Export, Outbound, Inbound, Take, Drain, Arp, Resolve, Packet, Frame, Recompile, Work, Table}
 use Rattle.exchange_laws.proofs.Rerouted.{Rerouted, rerouted}
 use Rattle.exchange_laws.specs.Editing.{IsEdit}
 use Rattle.exchange_laws.specs.Replies.{RightRulesAreSome}
-use Rattle.exchange_laws.specs.Rerouting.{is_rerouting}
 use Rattle.exchange_laws.specs.Steady.{IsSteady, StepsStaySteady}
 use Rattle.fast_path.proofs.CommittedPlans.{plan_tags}
 use Rattle.fast_path.specs.Carried.{IsPlanned, PlansFitLines, plan_reply}
-use Rattle.fast_path.specs.Committing.{Kept, signed}
-use Rattle.fast_path.specs.LiveOnly.{group_tags}
 use Rattle.fast_path.specs.Plans.{planned}
-use Rattle.fast_path.specs.declared.planned.Class.{Class}
 use Rattle.fast_path.specs.declared.planned.Plan.{Plan}
 use Rattle.job_laws.proofs.OtherLines.{after_but}
 use Rattle.job_laws.specs.Jobs.{without_job}
@@ -32,7 +28,6 @@ use Rattle.job_upkeep.proofs.Planned.{told}
 use Rattle.job_upkeep.specs.Upkeep.{PlansTellChanges, ReroutingsKeepJobs, fresh_of, setting_of}
 use Rattle.net_types.specs.Exports.{Routing}
 use Rattle.net_types.specs.declared.rule.Pair.{Pair}
-use Rattle.recompile.specs.Changing.{IsChange}
 use Rattle.recompile.specs.Covering.{AreFew, Covers}
 
 -- ---- lines that build rules aren't a job's, and are refused alike with a job as without

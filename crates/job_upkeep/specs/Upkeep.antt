@@ -1,5 +1,5 @@
 -- A background job covers the state that any line leaves (this exchange's own rule).
-use Rattle.std.specs.Prelude.{◌≡◌, ℕ, ◌+◌, ◌*◌, ◌≤◌, Bool, true, false, List, [], ◌++◌, length, Option, Some, None}
+use Rattle.std.specs.Prelude.{◌≡◌, ◌+◌, ◌*◌, ◌≤◌, Bool, true, false, List, [], ◌++◌, length, Option, Some, None}
 use Rattle.std.specs.FinMap.{entries, keys}
 use Rattle.events.specs.After.{all_units, next}
 use Rattle.events.specs.Fits.{Fits, bare, is_building, is_of_job}
@@ -19,7 +19,7 @@ use Rattle.fast_path.specs.Committing.{signed, tags_of}
 use Rattle.fast_path.specs.Pairs.{staying}
 use Rattle.fast_path.specs.Plans.{planned}
 use Rattle.fast_path.specs.declared.planned.Plan.{Plan}
-use Rattle.job_laws.specs.Jobs.{IsSteadyInJob, without_job}
+use Rattle.job_laws.specs.Jobs.{without_job}
 use Rattle.net_types.specs.Exports.{Routing}
 use Rattle.net_types.specs.declared.address.Tag.{Tag}
 use Rattle.net_types.specs.declared.rule.Pair.{Pair}
