@@ -11,7 +11,7 @@ use Rattle.net_types.specs.Sets.{Member}
 use Rattle.replay_run.specs.Bounds.{first_bound, run_bound}
 use Rattle.replay_run.specs.Progress.{IsPartOf}
 use Rattle.replay_run.specs.Run.{Begins}
-use Rattle.replay_run.proofs.Octets.{events_written, may_run}
+use Rattle.replay_run.proofs.Octets.{events_written}
 use Rattle.replay_run.proofs.Runs.{bare_append, bound_append, first_within, legal_rest}
 use Rattle.job_laws.specs.Replying.{AllRunsGoOn}
 
@@ -33,7 +33,7 @@ within_all s es fs rs more before after legal all few =
 pub begins : AllRunsGoOn → (octets w : List ℕ) (before after : ℕ) → IsPartOf first octets w before after → Begins octets w before after
 begins runs_go_on octets w before after part =
     let all : bare_events (events_of octets) ≡ bare_events part.events ++ bare_events part.others = ap bare_events part.front ∙ bare_append part.events part.others in
-    let on = runs_go_on (bare_events part.events) (bare_events part.others) part.replies (λ e m. may_run e (events_written octets e (subst (Member e) (sym all) m))) part.legal in
+    let on = runs_go_on (bare_events part.events) (bare_events part.others) part.replies (λ e m. events_written octets e (subst (Member e) (sym all) m)) part.legal in
     record {
       replies = part.replies ++ on.0;
       rest = part.rest ++ text part.others on.0;

@@ -26,7 +26,7 @@ use Rattle.replay_run.specs.declared.tally.Tally.{Tally}
 use Rattle.replay_run.proofs.Begun.{within_all}
 use Rattle.replay_run.proofs.Bytes.{Appends_none}
 use Rattle.replay_run.proofs.LineSplits.{numbered-append}
-use Rattle.replay_run.proofs.Octets.{IsWritten, lines_written, may_run}
+use Rattle.replay_run.proofs.Octets.{IsWritten, lines_written}
 use Rattle.replay_run.proofs.Parts.{within_more}
 use Rattle.replay_run.proofs.Runs.{bare_append, legal_more, line_within, state_more}
 use Rattle.replay_run.proofs.Tallies.{refused_counted, tally_more}
@@ -134,7 +134,7 @@ go_on runs_go_on seed j k tally s before mid after few h =
     let es : List Event = load_events seed j in
     let fs : List Event = bare_events (behind seed j (suc k)) in
     let all : load_events seed (j + suc k) ≡ es ++ fs = events_split seed j (suc k) in
-    let on = runs_go_on es fs h.replies (λ e m. may_run e (loads_written seed (j + suc k) e (subst (Member e) (sym all) m))) h.legal in
+    let on = runs_go_on es fs h.replies (λ e m. loads_written seed (j + suc k) e (subst (Member e) (sym all) m)) h.legal in
     let one : line_bound s (event_of (generated seed j)) ≤ first_bound s fs = line_within s (1 + j) (event_of (generated seed j)) (numbered (1 + j + 1) (from seed (j + 1) k)) in
     let here : after ≤ mid + first_bound (state_from first es h.replies) fs = subst (λ x. after ≤ mid + first_bound x fs) h.state (widened after mid (line_bound s (event_of (generated seed j))) (first_bound s fs) few one) in
     record {

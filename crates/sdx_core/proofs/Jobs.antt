@@ -36,7 +36,9 @@ use Rattle.recompile.specs.Changing.{CoversListed}
 use Rattle.recompile.specs.Covering.{Covers}
 use Rattle.recompile.specs.Setting.{Setting, setting}
 use Rattle.recompile.specs.Underway.{Underway}
-use Rattle.recompile.specs.Working.{with_built}
+use Rattle.recompile.specs.Working.{IsProgress}
+use Rattle.recompile.specs.declared.swap.Progress.{Progress}
+use Rattle.recompile.specs.declared.swap.Progress.TheVariants.{Ready}
 use Rattle.recompile.specs.declared.swap.Swap.{Swap}
 use Rattle.sdx_core.specs.Steps.{step_bound}
 use Rattle.sdx_core.specs.View.{IsKept, with_job}
@@ -67,7 +69,7 @@ refused_step s e why reply refuses is = record {
 
 module _ (s s' : State) (job job' : Option Underway) (e : Event) (reply : Reply) (laws : JobsLeaveLines) (stays : AllStepsStaySteady) (steady : IsSteady s) (kept : IsKept s job) (formed : IsWellFormed e) (line : is_of_job e ≡ false)
     (step : IsStep s e reply s') (keeps : KeepsJob s e reply job job') where
-  then : State
+  abbrev then : State
   then = next (with_job s job) e reply
 
   has_then : HasJob then job'
@@ -90,7 +92,7 @@ module _ (s s' : State) (job job' : Option Underway) (e : Event) (reply : Reply)
   pub line_kept : IsKept s' job'
   line_kept = record {
     has = subst (λ (x : State). HasJob x job') then_is has_then;
-    few = subst (λ (x : State). OwesFew x.owed) then_is (stays (with_job s job) e reply (in_job s job steady kept) (λ own. formed) fits_then).few;
+    few = subst (λ (x : State). OwesFew x.owed) then_is (stays (with_job s job) e reply (in_job s job steady kept) formed fits_then).few;
   }
 
 -- so it is however the line ends
@@ -130,6 +132,11 @@ line_bound s job e steady line = by e line ∙ ap (λ x. core.step_bound x e) (c
     by Recompile own = absurd (cc)
     by (Work units) own = absurd (cc)
     by Table own = refl
+
+-- a job that isn't there is none
+pub none_of : (job : Option Underway) → is_some job ≡ false → job ≡ None
+none_of None is = refl
+none_of (Some j) is = absurd (cc)
 
 -- ---- a job starts
 
@@ -171,6 +178,7 @@ module _ (s : State) (j : Underway) (reply : Reply) (accepted : RecompilesAreAcc
 
   units : j.owed ≡ all_units start
   units = begun.0
+  started : (next start Recompile (bare (Working (all_units start))) ≡ owing start (all_units start)) × Fits start Recompile (bare (Working (all_units start))) × IsSteadyInJob (owing start (all_units start))
   started = accepted start (in_job s None steady kept) (starts s declared)
 
   start_next : next start Recompile (bare (Working j.owed)) ≡ owing start j.owed
@@ -220,18 +228,19 @@ module _ (s : State) (j j' : Underway) (units left : ℕ) (reply : Reply) (accep
 
   rest : j'.owed ≡ j.owed - units
   rest = owes ∙ leaves
-  worked = accepted work units j.owed (in_job s (Some j) steady kept) (works s j units declared) refl less
+  is_worked : (next work (Work units) (bare (Working (j.owed - units))) ≡ owing work (j.owed - units)) × Fits work (Work units) (bare (Working (j.owed - units))) × IsSteadyInJob (owing work (j.owed - units))
+  is_worked = accepted work units j.owed (in_job s (Some j) steady kept) (works s j units declared) refl less
 
   pub worked_step : IsStep work (Work units) reply (with_job (running s) (Some j'))
   worked_step = record {
-    fits = subst (Fits work (Work units)) (sym says) (subst (λ n. Fits work (Work units) (bare (Working n))) (sym leaves) worked.1);
-    next = sym (subst (λ n. next work (Work units) (bare (Working n)) ≡ owing work n) (sym rest) worked.0) ∙ ap (λ n. next work (Work units) (bare (Working n))) owes ∙ ap (next work (Work units)) (sym says);
+    fits = subst (Fits work (Work units)) (sym says) (subst (λ n. Fits work (Work units) (bare (Working n))) (sym leaves) is_worked.1);
+    next = sym (subst (λ n. next work (Work units) (bare (Working n)) ≡ owing work n) (sym rest) is_worked.0) ∙ ap (λ n. next work (Work units) (bare (Working n))) owes ∙ ap (next work (Work units)) (sym says);
   }
 
   pub worked_kept : IsKept (running s) (Some j')
   worked_kept = record {
     has = (refl, covers);
-    few = subst (λ n. n ≤ 1125899906842624) (sym rest) worked.2.few;
+    few = subst (λ n. n ≤ 1125899906842624) (sym rest) is_worked.2.few;
   }
 
 -- a job that owes as much as before, and covers as much, changes nothing
@@ -240,6 +249,10 @@ same_job s j j' owes = λ i. record s { owed = Some (owes i) }
 
 pub same_kept : (s : State) (j j' : Underway) → IsKept s (Some j) → j'.owed ≡ j.owed → Covers (setting_of s) j' → IsKept s (Some j')
 same_kept s j j' kept owes covers = record { has = (refl, covers); few = subst (λ n. n ≤ 1125899906842624) (sym owes) kept.few }
+
+-- where the swap is ready the units are enough
+pub ready_enough : {s : Setting} {units : ℕ} {old new : Underway} {p : Progress} {swap : Swap} → p ≡ Ready swap → IsProgress s units old new p → old.owed ≤ units
+ready_enough {s} {units} {old} {new} is progress = (subst (IsProgress s units old new) is progress).0
 
 -- the job has ended
 pub ended_step : (s s' : State) (j : Underway) (units : ℕ) (reply : Reply) → IsSteady s → IsSteady s' → IsKept s (Some j) → is_declared s.phase ≡ true → j.owed ≤ units → EndsJob s reply s' → IsStep (with_job s (Some j)) (Work units) reply (with_job s' None)

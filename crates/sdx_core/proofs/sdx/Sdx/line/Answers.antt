@@ -1,8 +1,9 @@
-use Rattle.std.proofs.Common.{◌≡◌, ap, subst, sym, ◌∙◌}
+use Rattle.std.proofs.Common.{◌≡◌, ◌≤◌, ◌+◌, ap, subst, sym, ◌∙◌}
 use Rattle.std.specs.Prelude.{IfOk, OnErr}
 use Rattle.events.specs.Fits.{IsStep}
 use Rattle.events.specs.State.{State}
 use Rattle.sdx_core.proofs.Jobs.{kept_by, line_bound, same_by, step_by}
+use Rattle.sdx_core.specs.Steps.{step_bound}
 use Rattle.sdx_core.specs.View.{with_job}
 use Rattle.sdx_core.proofs.sdx.Sdx.line.Goals as goal
 
@@ -24,3 +25,8 @@ returns-clause-unchanged g c =
     let a = c.self.inside in
     subst (λ (x : State). OnErr c.step.result (with_job c.step.new.self c.step.new.job ≡ x)) c.self.view_is
     (same_by a.core c.step.new.self a.job c.step.new.job c.step.result c.step.ensures.unchanged c.step.ensures.job_unchanged)
+
+pub returns-clause-steps : goal.returns-clause-steps
+returns-clause-steps g c =
+    let a = c.self.inside in
+    subst (λ n. c.step.new.steps ≤ c.args.steps.now + n) (sym (line_bound a.core a.job c.args.event.now c.is_steady.ensures c.requires.line) ∙ ap (λ (x : State). step_bound x c.args.event.now) c.self.view_is) c.step.ensures.steps

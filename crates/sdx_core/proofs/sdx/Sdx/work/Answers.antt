@@ -1,0 +1,16 @@
+use Rattle.std.proofs.Common.{ap, subst, sym, ◌∙◌}
+use Rattle.std.specs.Prelude.{None}
+use Rattle.events.specs.Fits.{IsStep}
+use Rattle.events.specs.State.{State}
+use Rattle.events.specs.declared.Event.TheVariants.{Work}
+use Rattle.sdx_core.proofs.Jobs.{ended_step, ready_enough}
+use Rattle.sdx_core.specs.View.{IsKept, with_job}
+use Rattle.sdx_core.proofs.sdx.Sdx.work.Goals as goal
+
+pub returns-in-Ok-clause-step : goal.returns-in-Ok-clause-step
+returns-in-Ok-clause-step g c =
+    let a = c.self.inside in
+    let s : State = a.core in
+    subst (λ (x : State). IsStep x (Work c.args.units) c.in-Ok.reply (with_job c.finish.new.self None)) (ap (with_job s) (sym c.in-Some.is) ∙ c.self.view_is)
+    (ended_step s c.finish.new.self c.in-Some.job c.args.units c.in-Ok.reply c.is_steady.ensures c.is_steady-in-Ok.ensures (subst (IsKept s) c.in-Some.is c.self.invariant)
+    (sym c.is_declared.ensures ∙ c.if-not-is_declared.false) (ready_enough c.in-Ready.is c.in_ok-left.ensures.progress) c.in-Ok.ensures.step)
