@@ -376,3 +376,38 @@ def all_at_once(out):
 
 
 PARSED = 200
+
+
+UNITS = 1000
+
+
+def grown(out, prefixes):
+    """Three participants, and so many prefixes of length 24, each announced by an update of its own."""
+    out.write(b"exchange 100.64.0.0 65536 1000000\n")
+    for name, number in ((b"A", 1), (b"B", 2), (b"C", 3)):
+        out.write(b"participant %s 6500%d 1.0.0.%d\n" % (name, number, number))
+        out.write(b"port %s %d 172.16.1.%d 02:00:00:00:00:0%d\n" % (name, number, number, number))
+    for n in range(prefixes):
+        out.write(b"update B " + update(b"", bytes([24, 10, n >> 8, n & 255])).hex().encode() + b"\n")
+
+
+def ended_at_once(out, prefixes):
+    """The same, and a job that does all its units in one line."""
+    grown(out, prefixes)
+    out.write(b"recompile\nwork 1000000000\n")
+
+
+def begun(out, prefixes):
+    """The same, a job that has begun, and updates that announce what is there already."""
+    grown(out, prefixes)
+    out.write(b"recompile\n")
+    for n in range(UNITS):
+        out.write(b"update B " + update(b"", bytes([24, 10, 0, n & 127])).hex().encode() + b"\n")
+
+
+def unit_by_unit(out, prefixes):
+    """The same, with a unit of the job's work behind each of these updates."""
+    grown(out, prefixes)
+    out.write(b"recompile\n")
+    for n in range(UNITS):
+        out.write(b"update B " + update(b"", bytes([24, 10, 0, n & 127])).hex().encode() + b"\nwork 1\n")

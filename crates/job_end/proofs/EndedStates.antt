@@ -1,8 +1,8 @@
 -- An end can be committed, and what is committed is the state at the end of the job, which the reply tells.
 use Rattle.std.proofs.Common.{◌≡◌, ◌<◌, ◌≤◌, Bool, true, false, cond, List, [], length, ap, sym, subst, ◌∙◌, refl}
-use Rattle.std.specs.Prelude.{Option, Some, None, is_some, unwrap_or}
+use Rattle.std.specs.Prelude.{Some, None, unwrap_or}
 use Rattle.std.specs.FinMap.{get, same_map}
-use Rattle.std.proofs.lemmas.Bool.{false_from_ne_true, or_left}
+use Rattle.std.proofs.lemmas.Bool.{or_left}
 use Rattle.advert_queue.specs.Advertised.{Advertised}
 use Rattle.block_build.specs.Installed.{Installed, rule_count}
 use Rattle.events.specs.After.{merged, without_pairs}
@@ -10,8 +10,8 @@ use Rattle.events.specs.Fits.{IsFinished, added, dropped, flows_of, has_other_ru
 use Rattle.events.specs.State.{State}
 use Rattle.events.specs.Tags.{is_live, tags, tells}
 use Rattle.exchange_laws.proofs.ListedPairs.{gone_are_dropped, new_are_added}
-use Rattle.exchange_laws.proofs.Lists.{TableOf, clash}
-use Rattle.exchange_laws.specs.Listed.{AreThose, HasLivePairs, comes, goes}
+use Rattle.exchange_laws.proofs.Lists.{clash}
+use Rattle.exchange_laws.specs.Listed.{AreThose, HasLivePairs, comes}
 use Rattle.fast_path.proofs.CommittedMaps.{get_without_others, get_without_those, without_all}
 use Rattle.fast_path.proofs.CommittedPool.{is_tag, marked_all_base, marked_all_length, marked_others, marked_those, same_free, taken_in_turn, taken_is_live}
 use Rattle.fast_path.proofs.CommittedSignatures.{nothing, without_is}
@@ -22,12 +22,12 @@ use Rattle.fast_path.specs.Committing.{AreTaken, AreUnused, kept_without, marked
 use Rattle.fast_path.specs.LiveOnly.{has_prefix}
 use Rattle.fast_path.specs.Offers.{AreTo, HaveRoom, offered_all}
 use Rattle.fast_path.specs.Planned.{IsPoolOf}
-use Rattle.job_end.proofs.EndedTables.{changed_live, live_at_end, pairs_at_end, same_comes, same_goes, swapped, table_at_end, tightened}
+use Rattle.job_end.proofs.EndedTables.{changed_live, live_at_end, pairs_at_end, same_comes, same_goes, swapped, tightened}
 use Rattle.job_end.proofs.MergedTags.{tags_merged}
 use Rattle.job_end.specs.Committing.{CanEnd}
-use Rattle.job_end.specs.Ends.{IsEnd, ended, is_other, setting_of}
+use Rattle.job_end.specs.Ends.{IsEnd, ended, setting_of}
 use Rattle.job_end.specs.Laws.{ArePartsOf, LeadsTo, end_reply}
-use Rattle.job_end.specs.Rebuilt.{IsFewer, blocks_of, table_with}
+use Rattle.job_end.specs.Rebuilt.{IsFewer, table_with}
 use Rattle.job_end.specs.declared.ended.End.{End}
 use Rattle.job_laws.proofs.MergedStates.{kept_is, tag_was_live}
 use Rattle.job_laws.specs.Jobs.{IsSteadyInJob}
@@ -35,9 +35,8 @@ use Rattle.net_types.proofs.OrderLemmas.{tags_total}
 use Rattle.net_types.proofs.SetLemmas.{union-map}
 use Rattle.net_types.proofs.TieLemmas.{tag_cmp-IsAntisymmetric}
 use Rattle.net_types.specs.Keys.{tag_cmp}
-use Rattle.net_types.specs.Sets.{Member, union_over}
+use Rattle.net_types.specs.Sets.{Member}
 use Rattle.net_types.specs.declared.address.Tag.{Tag}
-use Rattle.net_types.specs.declared.prefix.Prefix.{Prefix}
 use Rattle.net_types.specs.declared.rule.Pair.{Pair}
 use Rattle.net_types.specs.declared.rule.Rule.{Rule}
 use Rattle.next_hop_pool.specs.Free.{IsTag, Tags, is_taken}

@@ -3,7 +3,7 @@ use Rattle.std.proofs.Common.{◌≡◌, ◌≤◌, Bool, true, false, ◌&&◌,
 use Rattle.std.specs.Prelude.{Option, Some, None, is_some, unwrap_or}
 use Rattle.std.specs.Cmp.Lexicographic.{pointwise}
 use Rattle.std.specs.FinMap.{get}
-use Rattle.std.proofs.lemmas.Bool.{and_from, and_parts}
+use Rattle.std.proofs.lemmas.Bool.{and_parts}
 use Rattle.block_build.proofs.TightLemmas.{tight_forms_stay_right}
 use Rattle.block_build.specs.Tight.{IsTightForm}
 use Rattle.events.specs.After.{merged, without_pairs}
@@ -11,9 +11,9 @@ use Rattle.events.specs.Fits.{IsTightened, has_other_rules}
 use Rattle.events.specs.Sound.{same_rule}
 use Rattle.events.specs.State.{State, ArePolicies}
 use Rattle.events.specs.Tags.{is_live_pair}
-use Rattle.exchange_laws.proofs.Lists.{TableOf, clash, is_some_of, not_true, some_of}
+use Rattle.exchange_laws.proofs.Lists.{TableOf, clash, is_some_of, some_of}
 use Rattle.exchange_laws.proofs.ReadPolicies.{policies_are_one}
-use Rattle.exchange_laws.specs.Listed.{AreThose, comes, goes, is_pair_before}
+use Rattle.exchange_laws.specs.Listed.{comes, goes, is_pair_before}
 use Rattle.exchange_laws.specs.Rules.{IsRightAt, is_new}
 use Rattle.fast_path.proofs.CommittedMaps.{AreApart, apart_from_rising, get_with_others, get_with_those, get_without_others, get_without_those}
 use Rattle.fast_path.proofs.CommittedSignatures.{nothing}
@@ -22,7 +22,7 @@ use Rattle.fast_path.proofs.PortsAndTags.{tie}
 use Rattle.fast_path.specs.Committing.{Block}
 use Rattle.fast_path.specs.Plans.{pair_of}
 use Rattle.job_end.specs.Ends.{IsEnd, ended, is_other, setting_of}
-use Rattle.job_end.specs.Rebuilt.{IsFewer, blocks_of, has_others}
+use Rattle.job_end.specs.Rebuilt.{IsFewer, blocks_of}
 use Rattle.job_end.specs.declared.ended.End.{End}
 use Rattle.job_laws.proofs.MergedStates.{pair_was_live, right_rules_stay}
 use Rattle.job_laws.proofs.SameRules.{rules_test}
@@ -31,7 +31,7 @@ use Rattle.job_laws.specs.Jobs.{IsSteadyInJob}
 use Rattle.net_types.proofs.EqualLemmas.{option_test}
 use Rattle.net_types.proofs.OrderLemmas.{pairs_total}
 use Rattle.net_types.proofs.RisingLemmas.{before_itself}
-use Rattle.net_types.proofs.SetLemmas.{Member-map, map-Member}
+use Rattle.net_types.proofs.SetLemmas.{Member-map}
 use Rattle.net_types.specs.Answers.{Policies, part_answer}
 use Rattle.net_types.specs.Attributes.{same_option}
 use Rattle.net_types.specs.Cells.{cell_atoms}

@@ -1,5 +1,5 @@
 -- With what is present of the prefixes that move offered anew, what is present is what is at the end of a job.
-use Rattle.std.proofs.Common.{◌≡◌, ◌+◌, ◌<◌, ◌⊎◌, Bool, true, false, List, [], ◌∷◌, length, map, ap, sym, subst, ◌∙◌, refl, arith, inl, inr}
+use Rattle.std.proofs.Common.{◌≡◌, ◌+◌, ◌<◌, ◌⊎◌, Bool, true, false, List, length, ap, sym, subst, ◌∙◌, refl, arith, inl, inr}
 use Rattle.std.specs.Prelude.{Option, Some, None}
 use Rattle.std.specs.FinMap.{get}
 use Rattle.std.specs.Option.{option_and_then, option_map}
@@ -21,7 +21,7 @@ use Rattle.job_laws.specs.Jobs.{without_job}
 use Rattle.net_types.proofs.FindLemmas.{slice_get-Member}
 use Rattle.net_types.proofs.SetLemmas.{Member-union, union-Member}
 use Rattle.net_types.specs.Attributes.{same_option}
-use Rattle.net_types.specs.Routes.{Candidate, best, numbers}
+use Rattle.net_types.specs.Routes.{Candidate, best}
 use Rattle.net_types.specs.Sets.{Member}
 use Rattle.net_types.specs.declared.address.Pid.{Pid}
 use Rattle.net_types.specs.declared.address.Tag.{Tag}

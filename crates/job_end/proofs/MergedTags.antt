@@ -1,5 +1,5 @@
 -- The tags that the moves leave are those at the end of a job: which are emptied, which pairs go with them, and what is told.
-use Rattle.std.proofs.Common.{◌≡◌, Bool, true, false, not, List, [], ◌∷◌, filter, map, ap, sym, subst, ◌∙◌, refl}
+use Rattle.std.proofs.Common.{◌≡◌, true, false, not, List, [], ◌∷◌, map, ap, sym, subst, ◌∙◌, refl}
 use Rattle.std.specs.Prelude.{Option, Some, None, is_some}
 use Rattle.std.specs.FinMap.{get}
 use Rattle.std.specs.List.{list_any}
@@ -20,7 +20,7 @@ use Rattle.fast_path.proofs.GonePairs.{gone_live_only}
 use Rattle.fast_path.proofs.PortsAndTags.{has_prefix_of, prefix_with}
 use Rattle.fast_path.proofs.TagOrder.{rising_tags, tag_tie}
 use Rattle.fast_path.specs.Emptied.{old_tags}
-use Rattle.fast_path.specs.LiveOnly.{AreDead, AreEmptied, has_prefix, registered}
+use Rattle.fast_path.specs.LiveOnly.{AreDead, has_prefix, registered}
 use Rattle.fast_path.specs.Pairs.{gone_pairs, untold}
 use Rattle.fast_path.specs.Planned.{is_tag_below}
 use Rattle.job_end.specs.Drafts.{left_tags, told_change}

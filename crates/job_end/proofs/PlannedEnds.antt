@@ -1,5 +1,5 @@
 -- What is found by the parts that show a state is an end for it.
-use Rattle.std.proofs.Common.{◌≡◌, ◌<◌, List, length, ap, sym, subst, ◌∙◌}
+use Rattle.std.proofs.Common.{◌≡◌, List, length, ap, sym, subst, ◌∙◌}
 use Rattle.std.specs.FinMap.{keys}
 use Rattle.advert_queue.specs.Advertised.{Advertised}
 use Rattle.block_build.specs.Installed.{Installed}
@@ -8,7 +8,7 @@ use Rattle.events.specs.State.{State}
 use Rattle.exchange_laws.specs.Listed.{AreLiveOnly, AreThose, comes, goes}
 use Rattle.fast_path.specs.LiveOnly.{AreDead, registered}
 use Rattle.fast_path.specs.Offers.{AreOffers, all_present, declared_pids}
-use Rattle.fast_path.specs.Pairs.{dropped_pairs, gone_pairs, untold}
+use Rattle.fast_path.specs.Pairs.{gone_pairs, untold}
 use Rattle.fast_path.specs.Planned.{is_tag_below}
 use Rattle.job_end.proofs.ChangedPairs.{changed_are, drops_are}
 use Rattle.job_end.proofs.MergedOffers.{offers_are}

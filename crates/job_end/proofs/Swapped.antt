@@ -15,7 +15,6 @@ use Rattle.net_types.proofs.RisingLemmas.{before_itself}
 use Rattle.net_types.specs.Keys.{pair_cmp}
 use Rattle.net_types.specs.Sets.{IsRising, Member}
 use Rattle.net_types.specs.declared.rule.Pair.{Pair}
-use Rattle.net_types.specs.declared.rule.Rule.{Rule}
 
 -- what comes later is another pair
 apart : (pair q : Pair) → is_pair_before pair q ≡ true → eq_by_cmp pair_cmp q pair ≡ false

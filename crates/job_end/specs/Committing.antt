@@ -1,5 +1,5 @@
 -- When the end of a job can be committed (this exchange's own rule).
-use Rattle.std.specs.Prelude.{◌≡◌, ◌≤◌, length}
+use Rattle.std.specs.Prelude.{◌≤◌, length}
 use Rattle.advert_queue.specs.Advertised.{Advertised}
 use Rattle.block_build.specs.Installed.{Installed, rule_count}
 use Rattle.events.specs.After.{without_pairs}

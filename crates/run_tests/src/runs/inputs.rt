@@ -1,6 +1,8 @@
 //! The examples of the folder `examples`, and their outputs.
 
 pub const FIRST_INPUT: &str = "\
+# B announces 10.0.0.0/8, A's session takes the advertisement, and a datagram of A's router leaves by B's port 2.
+# Look at each step: the tag and its rules, the next hop that A is told, the request for its MAC, and the frame.
 exchange 172.16.0.0 8 64
 participant A 65001 1.0.0.1
 participant B 65002 1.0.0.2
@@ -17,8 +19,6 @@ table
 ";
 
 pub const FIRST_OUTPUT: &str = "\
-1 ok
-2 ok
 3 ok
 4 ok
 5 ok
@@ -26,22 +26,26 @@ pub const FIRST_OUTPUT: &str = "\
 7 ok
 8 ok
 9 ok
+10 ok
+11 ok
   tag 10.0.0.0/8 1
   add 1 1 * -> 2
   add 4 1 * -> 2
-10 ok
+12 ok
   advert ffffffffffffffffffffffffffffffff002b0200000012400101004002040201fdea400304ac100001080a
-11 ok
+13 ok
   ask ffffffffffff02000000000108060001080006040001020000000001ac100101000000000000ac100001
   reply 02000000000102534400000108060001080006040002025344000001ac100001020000000001ac100101
-12 ok
+14 ok
   out 2 02000000000202000000000108004500001c000000004011acccc00002010a01020303e8005000080000
-13 ok
+15 ok
   flow 1 1 * -> 2
   flow 4 1 * -> 2
 ";
 
 pub const REFUSALS_INPUT: &str = "\
+# Lines out of place or in no grammar, names that are taken or unknown, and octets that are no message or datagram.
+# Look at the word of each refusal: nothing has changed by it, and the lines behind it go on.
 drain A
 exchange 172.16.0.0 8 64
 participant A 65001 1.0.0.1
@@ -69,35 +73,37 @@ export B
 ";
 
 pub const REFUSALS_OUTPUT: &str = "\
-1 refused misplaced
-2 ok
-3 ok
+3 refused misplaced
 4 ok
-5 refused clash
-6 refused line
-7 ok
-8 ok
-9 refused clash
-10 refused clash
-11 refused unknown
-12 refused first-as
-13 refused next-hop
-14 ok
+5 ok
+6 ok
+7 refused clash
+8 refused line
+9 ok
+10 ok
+11 refused clash
+12 refused clash
+13 refused unknown
+14 refused first-as
+15 refused next-hop
+16 ok
   tag 10.0.0.0/8 1
   add 1 1 * -> 2
-15 refused syntax 4
-16 refused unknown
-17 refused misplaced
+17 refused syntax 4
 18 refused unknown
-19 refused line
-20 refused update bad-header
-21 refused packet
-22 refused unknown
-23 refused unknown
-24 refused line
+19 refused misplaced
+20 refused unknown
+21 refused line
+22 refused update bad-header
+23 refused packet
+24 refused unknown
+25 refused unknown
+26 refused line
 ";
 
 pub const TWO_PREFIXES_INPUT: &str = "\
+# C announces 20.0.0.0/8 and then B 10.0.0.0/8, and A sends to both.
+# Look at the order: tags come in that of the announcements, advertisements and requests in that of the prefixes.
 exchange 172.16.0.0 8 64
 participant A 65001 1.0.0.1
 participant B 65002 1.0.0.2
@@ -116,37 +122,39 @@ packet 1 4500001c0000000040118eccc00002012801020303e8005000080000
 ";
 
 pub const TWO_PREFIXES_OUTPUT: &str = "\
-1 ok
-2 ok
 3 ok
 4 ok
 5 ok
 6 ok
 7 ok
+8 ok
 9 ok
+11 ok
   tag 20.0.0.0/8 1
   add 1 1 * -> 4
   add 2 1 * -> 4
-10 ok
+12 ok
   tag 10.0.0.0/8 2
   add 1 2 * -> 2
   add 4 2 * -> 2
-11 ok
+13 ok
   advert ffffffffffffffffffffffffffffffff002b0200000012400101004002040201fdea400304ac100002080a
   advert ffffffffffffffffffffffffffffffff002b0200000012400101004002040201fdeb400304ac1000010814
-12 ok
+14 ok
   ask ffffffffffff02000000000108060001080006040001020000000001ac100101000000000000ac100001
   reply 02000000000102534400000108060001080006040002025344000001ac100001020000000001ac100101
   ask ffffffffffff02000000000108060001080006040001020000000001ac100101000000000000ac100002
   reply 02000000000102534400000208060001080006040002025344000002ac100002020000000001ac100101
-13 ok
+15 ok
   out 2 02000000000202000000000108004500001c000000004011acccc00002010a01020303e8005000080000
-14 ok
+16 ok
   out 4 02000000000402000000000108004500001c000000004011a2ccc00002011401020303e8005000080000
-15 unrouted
+17 unrouted
 ";
 
 pub const NOT_DRAINED_INPUT: &str = "\
+# A sender that has taken nothing yet, and one whose router hasn't resolved its next hop.
+# Look at its datagram: unrouted although the table has the rule, then unresolved, and then it leaves.
 exchange 172.16.0.0 8 64
 participant A 65001 1.0.0.1
 participant B 65002 1.0.0.2
@@ -164,27 +172,29 @@ drain A
 ";
 
 pub const NOT_DRAINED_OUTPUT: &str = "\
-1 ok
-2 ok
 3 ok
 4 ok
 5 ok
 6 ok
+7 ok
+8 ok
   tag 10.0.0.0/8 1
   add 1 1 * -> 2
-8 unrouted
-9 ok
-  advert ffffffffffffffffffffffffffffffff002b0200000012400101004002040201fdea400304ac100001080a
-10 unresolved 172.16.0.1
+10 unrouted
 11 ok
+  advert ffffffffffffffffffffffffffffffff002b0200000012400101004002040201fdea400304ac100001080a
+12 unresolved 172.16.0.1
+13 ok
   ask ffffffffffff02000000000108060001080006040001020000000001ac100101000000000000ac100001
   reply 02000000000102534400000108060001080006040002025344000001ac100001020000000001ac100101
-12 ok
-  out 2 02000000000202000000000108004500001c000000004011acccc00002010a01020303e8005000080000
 14 ok
+  out 2 02000000000202000000000108004500001c000000004011acccc00002010a01020303e8005000080000
+16 ok
 ";
 
 pub const ARP_INPUT: &str = "\
+# The ARP responder answers for the pool alone, and frames go into the fabric as they are.
+# Look at which requests are answered, which of them resolve an address, and which frames leave by no port.
 exchange 172.16.0.0 8 64
 participant A 65001 1.0.0.1
 participant B 65002 1.0.0.2
@@ -209,29 +219,29 @@ packet 1 45
 ";
 
 pub const ARP_OUTPUT: &str = "\
-1 ok
-2 ok
 3 ok
 4 ok
 5 ok
 6 ok
+7 ok
+8 ok
   tag 10.0.0.0/8 1
   add 1 1 * -> 2
-7 ok
-  advert ffffffffffffffffffffffffffffffff002b0200000012400101004002040201fdea400304ac100001080a
 9 ok
+  advert ffffffffffffffffffffffffffffffff002b0200000012400101004002040201fdea400304ac100001080a
+11 ok
   reply 0200000000aa02534400000108060001080006040002025344000001ac1000010200000000aaac100101
-10 unresolved 172.16.0.1
-12 ok
+12 unresolved 172.16.0.1
+14 ok
   reply 02000000000102534400000808060001080006040002025344000008ac100008020000000001ac100101
-13 silent
-15 ok
+15 silent
+17 ok
   reply 02000000000102534400000108060001080006040002025344000001ac100001020000000001ac100101
-16 ok
-  out 2 02000000000202000000000108004500001c000000004011acccc00002010a01020303e8005000080000
 18 ok
   out 2 02000000000202000000000108004500001c000000004011acccc00002010a01020303e8005000080000
-19 ok
 20 ok
-21 refused packet
+  out 2 02000000000202000000000108004500001c000000004011acccc00002010a01020303e8005000080000
+21 ok
+22 ok
+23 refused packet
 ";

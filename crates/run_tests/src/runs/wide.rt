@@ -2,6 +2,8 @@
 
 /// The lines of `examples/wide_as.in`.
 pub const WIDE_INPUT: &str = "\
+# B has an AS of four octets, so its path has 23456 in AS_PATH and its numbers in AS4_PATH.
+# Look at what A is told of the path, and at the message of C's that would be too long to be told.
 exchange 172.16.0.0 8 64
 participant A 65001 1.0.0.1
 participant B 196618 1.0.0.2
@@ -107,8 +109,6 @@ drain A
 
 /// The replies of `examples/wide_as.out`.
 pub const WIDE_OUTPUT: &str = "\
-1 ok
-2 ok
 3 ok
 4 ok
 5 ok
@@ -116,20 +116,22 @@ pub const WIDE_OUTPUT: &str = "\
 7 ok
 8 ok
 9 ok
+10 ok
+11 ok
   tag 10.0.0.0/8 1
   add 1 1 * -> 2
   add 4 1 * -> 2
-10 ok
+12 ok
   advert ffffffffffffffffffffffffffffffff0034020000001b4001010040020402015ba0400304ac100001c0110\
 602010003000a080a
-11 refused first-as
-12 refused oversize
-13 ok
+13 refused first-as
+14 refused oversize
+15 ok
   tag 11.0.0.0/8 2
   add 1 2 * -> 4
   add 2 2 * -> 4
   add 3 2 * -> 4
-14 ok
+16 ok
   advert ffffffffffffffffffffffffffffffff0828020000080f400101005002080002fffdebfc00fc00fc00fc00f\
 c00fc00fc00fc00fc00fc00fc00fc00fc00fc00fc00fc00fc00fc00fc00fc00fc00fc00fc00fc00fc00fc00fc00fc00f\
 c00fc00fc00fc00fc00fc00fc00fc00fc00fc00fc00fc00fc00fc00fc00fc00fc00fc00fc00fc00fc00fc00fc00fc00f\

@@ -1,4 +1,4 @@
-use Rattle.std.proofs.Common.{sym, ap, subst, ◌∙◌}
+use Rattle.std.proofs.Common.{sym, subst}
 use Rattle.fast_path.specs.Committing.{AreUnused}
 use Rattle.job_end.proofs.committing.commit_end.Goals as goal
 
