@@ -67,7 +67,7 @@ pub exchange_step : {s : State} {pool : Tags} {all : List Programs} → IsKept s
     → IsStep s (Exchange base size capacity) r (exchanged s base size capacity)
 exchange_step {s} kept start base size capacity formed r is =
     let e : Event = Exchange base size capacity in
-    quiet_step s e r kept.steady formed (ap (λ p. cond (is_placed p e) (refusal_in_place s e) (Some Misplaced)) start) refl is
+    quiet_step s e r kept.steady formed refl (ap (λ p. cond (is_placed p e) (refusal_in_place s e) (Some Misplaced)) start) refl is
 
 -- before the first line no tag is live
 none_live : {s : State} {pool : Tags} {all : List Programs} → IsKept s pool all → s.phase ≡ Start → (t : Tag) → events.is_live s t ≡ false
@@ -91,7 +91,7 @@ exchange_kept {s} {pool} {all} kept start base size capacity formed pool' is =
     let e : Event = Exchange base size capacity in
     let s' : State = exchanged s base size capacity in
     let fresh : IsKept s' (all_free base size) all = record {
-      steady = steady_after s e (bare Fine) s' kept.steady formed (exchange_step kept start base size capacity formed (bare Fine) refl);
+      steady = steady_after s e (bare Fine) s' kept.steady formed refl (exchange_step kept start base size capacity formed (bare Fine) refl);
       free = all_pass (events.is_live s) (none_live kept start) (map tag (numbers 1 size)) ∙ sym (free_new 1 size) ∙ sym (free_by_place (replicate size false));
       base = refl;
       size = long size;
@@ -142,7 +142,7 @@ nothing_ported {s} kept declaring q =
 pub participant_step : {s : State} {pool : Tags} {all : List Programs} → IsKept s pool all → s.phase ≡ Declaring → (name : List ℕ) (asn : ℕ) (id : Ip) → IsWellFormed (DeclaresParticipant name asn id)
     → is_name_taken s name ≡ false → length s.routing.participants < 256 → (r : Reply) → r ≡ bare Fine → IsStep s (DeclaresParticipant name asn id) r (with_participant s (record { name = name; asn = asn; id = id }))
 participant_step {s} kept declaring name asn id formed absent few r is =
-    quiet_step s (DeclaresParticipant name asn id) r kept.steady formed
+    quiet_step s (DeclaresParticipant name asn id) r kept.steady formed refl
     (declaring_at s (DeclaresParticipant name asn id) None declaring refl
     (ap (λ b. or_else (refused_if b Clash) (refused_if (nat_le 256 (length s.routing.participants)) Full)) absent ∙ ap (λ b. refused_if b Full) (lt-leb 256 (length s.routing.participants) few)))
     refl is
@@ -152,7 +152,7 @@ pub participant_kept : {s : State} {pool : Tags} {all : List Programs} → IsKep
     → (all' : List Programs) → AreCompiled (pid_of (with_participant s (record { name = name; asn = asn; id = id })).routing) all' → IsKept (with_participant s (record { name = name; asn = asn; id = id })) pool all'
 participant_kept {s} {pool} kept declaring name asn id formed absent few all' compiled =
     let m : Participant = record { name = name; asn = asn; id = id } in
-    kept_after s (DeclaresParticipant name asn id) (bare Fine) (with_participant s m) pool kept formed (participant_step kept declaring name asn id formed absent few (bare Fine) refl)
+    kept_after s (DeclaresParticipant name asn id) (bare Fine) (with_participant s m) pool kept formed refl (participant_step kept declaring name asn id formed absent few (bare Fine) refl)
     (same_free (events.is_live (with_participant s m)) (events.is_live s) (participant_live s m) (events.tags s)) refl refl all' compiled
   where
     same_free : (f g : Tag → Bool) → ((t : Tag) → f t ≡ g t) → (ts : List Tag) → filter (λ t. not (f t)) ts ≡ filter (λ t. not (g t)) ts
@@ -194,13 +194,13 @@ pub port_step : {s : State} {pool : Tags} {all : List Programs} → IsKept s poo
 port_step {s} kept declaring name who number ip mac formed known free r is =
     let e : Event = DeclaresPort name number ip mac in
     subst (IsStep s e r) (ap (λ o. with_known s o (λ w. with_port s (port_by w number ip mac))) known)
-    (quiet_step s e r kept.steady formed (declaring_at s e None declaring refl
+    (quiet_step s e r kept.steady formed refl (declaring_at s e None declaring refl
     (ap (λ o. if_known o (λ w. refused_if (is_port_taken s number ip mac) Clash)) known ∙ ap (λ b. refused_if b Clash) free)) refl is)
 
 pub port_kept : {s : State} {pool : Tags} {all : List Programs} → IsKept s pool all → s.phase ≡ Declaring → (name : List ℕ) (who : Pid) (number : PortNo) (ip : Ip) (mac : Mac) → IsWellFormed (DeclaresPort name number ip mac)
     → pid_of s.routing name ≡ Some who → is_port_taken s number ip mac ≡ false → IsKept (with_port s (port_by who number ip mac)) pool all
 port_kept {s} {pool} kept declaring name who number ip mac formed known free =
-    kept_after s (DeclaresPort name number ip mac) (bare Fine) (with_port s (port_by who number ip mac)) pool kept formed
+    kept_after s (DeclaresPort name number ip mac) (bare Fine) (with_port s (port_by who number ip mac)) pool kept formed refl
     (port_step kept declaring name who number ip mac formed known free (bare Fine) refl) refl refl refl _ kept.compiled
 
 pub port_refused : {s : State} {pool : Tags} {all : List Programs} → IsKept s pool all → s.phase ≡ Declaring → (st : State) → s ≡ st → (name : List ℕ) (who : Pid) (number : PortNo) (ip : Ip) (mac : Mac)

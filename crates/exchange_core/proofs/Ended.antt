@@ -74,7 +74,17 @@ shown_by phase base size names served resolved classes adverts installed program
 -- so they have where room was reserved
 pub shown_still : (core : State) (names : Registered) (classes : Classes) (pool : Tags) (switch : Installed) (adverts adverts' : Advertised) → Shows core names classes pool switch adverts → adverts'.told ≡ adverts.told → adverts'.present ≡ adverts.present
     → Shows core names classes pool switch adverts'
-shown_still core names classes pool switch adverts adverts' shows told present = record shows { told = shows.told ∙ sym told; present = shows.present ∙ sym present }
+shown_still core names classes pool switch adverts adverts' shows told present = record {
+  participants = shows.participants;
+  ports = shows.ports;
+  tag = shows.tag;
+  kept = shows.kept;
+  free = shows.free;
+  table = shows.table;
+  capacity = shows.capacity;
+  told = shows.told ∙ sym told;
+  present = shows.present ∙ sym present;
+}
 
 -- the exchange with a job is steady where it is without
 pub steady_with : (core s : State) → without_job s ≡ core → IsSteady core → OwesFew s.owed → IsSteadyInJob s
@@ -92,7 +102,7 @@ module _ (core : State) (names : Registered) (classes : Classes) (pool : Tags) (
     told = ap (λ (x : State). x.told) is ∙ shows.told;
     present = ap all_present is ∙ shows.present;
     table = ap (λ (x : State). x.table) is ∙ shows.table;
-    pairs = listed ∙ ap keys shows.table;
+    listed = listed ∙ ap keys shows.table;
     is_swap = subst (λ (x : State). IsSwap (setting_of x) swap) (sym is) swaps;
   }
 
@@ -101,7 +111,7 @@ module _ (core : State) (names : Registered) (classes : Classes) (pool : Tags) (
   parts = record {
     tag = ap (λ (x : State). x.tag) is ∙ shows.tag;
     kept = ap (λ (x : State). x.kept) is ∙ shows.kept;
-    pool = subst (λ (x : State). IsPoolOf x pool) (sym is) shows.free;
+    pool = record { free = (subst (λ (x : State). IsPoolOf x pool) (sym is) shows.free).free; size = shows.free.size ∙ ap (λ (x : State). x.size) (sym is); base = shows.free.base ∙ ap (λ (x : State). x.base) (sym is) };
     table = ap (λ (x : State). x.table) is ∙ shows.table;
     capacity = ap (λ (x : State). x.capacity) is ∙ shows.capacity;
     told = ap (λ (x : State). x.told) is ∙ shows.told;
@@ -179,7 +189,7 @@ module _ (phase : Phase) (base : Ip) (size : ℕ) (names : Registered) (served :
         }
 
     -- and the exchange is as it should be
-    abbrev some : State
+    abbrev pub some : State
     some = record core { owed = Some 0 }
 
     no_more : 0 ≤ 1125899906842624

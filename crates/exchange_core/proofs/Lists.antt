@@ -19,22 +19,22 @@ use Rattle.exchange_core.specs.declared.programs.Programs.{Programs}
 use Rattle.exchange_core.specs.View.{IsKept}
 
 pub table_step : {s : State} {pool : Tags} {all : List Programs} → IsKept s pool all → is_declared s.phase ≡ true → (r : Reply) → r ≡ record (bare Fine) { adds = all_flows s } → IsStep s Table r (running s)
-table_step {s} kept ready r is = quiet_step s Table r kept.steady tt (in_place s Table (placed Table refl refl s.phase ready)) refl is
+table_step {s} kept ready r is = quiet_step s Table r kept.steady tt refl (in_place s Table (placed Table refl refl s.phase ready)) refl is
 
 pub table_kept : {s : State} {pool : Tags} {all : List Programs} → IsKept s pool all → is_declared s.phase ≡ true → IsKept (running s) pool all
-table_kept {s} {pool} kept ready = let r : Reply = record (bare Fine) { adds = all_flows s } in kept_after s Table r (running s) pool kept tt (table_step kept ready r refl) refl refl refl _ kept.compiled
+table_kept {s} {pool} kept ready = let r : Reply = record (bare Fine) { adds = all_flows s } in kept_after s Table r (running s) pool kept tt refl (table_step kept ready r refl) refl refl refl _ kept.compiled
 
 pub frame_step : {s : State} {pool : Tags} {all : List Programs} → IsKept s pool all → is_declared s.phase ≡ true → (port : PortNo) (bytes : List ℕ) (q : PortInfo) → IsWellFormed (Frame port bytes) → port_of s port ≡ Some q
     → (r : Reply) → r ≡ record (bare Fine) { frames = by_table s q bytes } → IsStep s (Frame port bytes) r (running s)
 frame_step {s} kept ready port bytes q formed found r is =
-    quiet_step s (Frame port bytes) r kept.steady formed
+    quiet_step s (Frame port bytes) r kept.steady formed refl
     (in_place s (Frame port bytes) (placed (Frame port bytes) refl refl s.phase ready) ∙ ap (λ o. if_known o (λ x. None)) found) refl
     (subst (λ o. MatchOption o ⊥ (λ x. r ≡ record (bare Fine) { frames = by_table s x bytes })) (sym found) is)
 
 pub frame_kept : {s : State} {pool : Tags} {all : List Programs} → IsKept s pool all → is_declared s.phase ≡ true → (port : PortNo) (bytes : List ℕ) (q : PortInfo) → IsWellFormed (Frame port bytes) → port_of s port ≡ Some q → IsKept (running s) pool all
 frame_kept {s} {pool} kept ready port bytes q formed found =
     let r : Reply = record (bare Fine) { frames = by_table s q bytes } in
-    kept_after s (Frame port bytes) r (running s) pool kept formed (frame_step kept ready port bytes q formed found r refl) refl refl refl _ kept.compiled
+    kept_after s (Frame port bytes) r (running s) pool kept formed refl (frame_step kept ready port bytes q formed found r refl) refl refl refl _ kept.compiled
 
 -- a port that isn't declared
 pub frame_refused : {s : State} {pool : Tags} {all : List Programs} → IsKept s pool all → is_declared s.phase ≡ true → (st : State) → s ≡ st → (port : PortNo) (bytes : List ℕ) → port_of s port ≡ None → (r : Reply) → r ≡ bare (Refused Unknown) → IsStep st (Frame port bytes) r st

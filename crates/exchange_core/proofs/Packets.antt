@@ -104,11 +104,11 @@ module _ (s : State) (pool : Tags) {all : List Programs} (kept : IsKept s pool a
   pub packet_step : is_declared s.phase ≡ true → IsWellFormed (Packet port bytes) → (o : Option (Prefix × Bor Entry)) → option_map (λ (e : Prefix × Bor Entry). e.0) o ≡ longest_of (keys entries) h.dst → IfSome o (λ e. Some e.1.now ≡ get entries e.0)
       → (r : Reply) → r ≡ reply_by s q frame0 (option_map (λ (e : Prefix × Bor Entry). e.1.now) o) → IsStep s (Packet port bytes) r (running s)
   packet_step ready formed o longer has r is =
-      quiet_step s (Packet port bytes) r kept.steady formed (not_refused ready) refl
+      quiet_step s (Packet port bytes) r kept.steady formed refl (not_refused ready) refl
       (subst (λ x. MatchOption x ⊥ (λ y. IsSent s y bytes r (longest_of (keys (told_to s y.owner)) (destination bytes)))) (sym found)
       (subst (IsSent s q bytes r) (longer ∙ sym longest) (subst (λ x. IsSent s q bytes x (option_map (λ (e : Prefix × Bor Entry). e.0) o)) (sym is) (right o has))))
 
   pub packet_kept : is_declared s.phase ≡ true → IsWellFormed (Packet port bytes) → (o : Option (Prefix × Bor Entry)) → option_map (λ (e : Prefix × Bor Entry). e.0) o ≡ longest_of (keys entries) h.dst → IfSome o (λ e. Some e.1.now ≡ get entries e.0) → IsKept (running s) pool all
   packet_kept ready formed o longer has =
       let r : Reply = reply_by s q frame0 (option_map (λ (e : Prefix × Bor Entry). e.1.now) o) in
-      kept_after s (Packet port bytes) r (running s) pool kept formed (packet_step ready formed o longer has r refl) refl refl refl _ kept.compiled
+      kept_after s (Packet port bytes) r (running s) pool kept formed refl (packet_step ready formed o longer has r refl) refl refl refl _ kept.compiled

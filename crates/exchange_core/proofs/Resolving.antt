@@ -72,19 +72,19 @@ pub arp_step : {s : State} {pool : Tags} {all : List Programs} → IsKept s pool
     → (r : Reply) → r ≡ responder_reply s bytes → (lists : List (List Ip)) → resolving s lists ≡ running (with_answer s q bytes) → IsStep s (Arp port bytes) r (resolving s lists)
 arp_step {s} kept ready port bytes q formed found r is lists then =
     subst (IsStep s (Arp port bytes) r) (ap (λ o. with_known s o (λ x. running (with_answer s x bytes))) found ∙ sym then)
-    (quiet_step s (Arp port bytes) r kept.steady formed
+    (quiet_step s (Arp port bytes) r kept.steady formed refl
     (in_place s (Arp port bytes) (placed (Arp port bytes) refl refl s.phase ready) ∙ ap (λ o. if_known o (λ x. None)) found) refl is)
 
 pub arp_kept : {s : State} {pool : Tags} {all : List Programs} → IsKept s pool all → is_declared s.phase ≡ true → (port : PortNo) (bytes : List ℕ) (q : PortInfo) → IsWellFormed (Arp port bytes) → port_of s port ≡ Some q
     → (lists : List (List Ip)) → resolving s lists ≡ running (with_answer s q bytes) → IsKept (resolving s lists) pool all
 arp_kept {s} {pool} kept ready port bytes q formed found lists then =
-    kept_after s (Arp port bytes) (responder_reply s bytes) (resolving s lists) pool kept formed (arp_step kept ready port bytes q formed found (responder_reply s bytes) refl lists then) refl refl refl _ kept.compiled
+    kept_after s (Arp port bytes) (responder_reply s bytes) (resolving s lists) pool kept formed refl (arp_step kept ready port bytes q formed found (responder_reply s bytes) refl lists then) refl refl refl _ kept.compiled
 
 pub resolve_step : {s : State} {pool : Tags} {all : List Programs} → IsKept s pool all → is_declared s.phase ≡ true → (port : PortNo) (q : PortInfo) → IsWellFormed (Resolve port) → port_of s port ≡ Some q
     → (r : Reply) → r ≡ record (bare Fine) { asks = map (asks_for s q) (unresolved s q) } → (lists : List (List Ip)) → resolving s lists ≡ running (with_resolved s port (unresolved s q)) → IsStep s (Resolve port) r (resolving s lists)
 resolve_step {s} kept ready port q formed found r is lists then =
     subst (IsStep s (Resolve port) r) (ap (λ o. with_known s o (λ x. running (with_resolved s port (unresolved s x)))) found ∙ sym then)
-    (quiet_step s (Resolve port) r kept.steady formed
+    (quiet_step s (Resolve port) r kept.steady formed refl
     (in_place s (Resolve port) (placed (Resolve port) refl refl s.phase ready) ∙ ap (λ o. if_known o (λ x. None)) found) refl
     (subst (λ o. MatchOption o ⊥ (λ x. r ≡ record (bare Fine) { asks = map (asks_for s x) (unresolved s x) })) (sym found) is))
 
@@ -92,7 +92,7 @@ pub resolve_kept : {s : State} {pool : Tags} {all : List Programs} → IsKept s 
     → (lists : List (List Ip)) → resolving s lists ≡ running (with_resolved s port (unresolved s q)) → IsKept (resolving s lists) pool all
 resolve_kept {s} {pool} kept ready port q formed found lists then =
     let r : Reply = record (bare Fine) { asks = map (asks_for s q) (unresolved s q) } in
-    kept_after s (Resolve port) r (resolving s lists) pool kept formed (resolve_step kept ready port q formed found r refl lists then) refl refl refl _ kept.compiled
+    kept_after s (Resolve port) r (resolving s lists) pool kept formed refl (resolve_step kept ready port q formed found r refl lists then) refl refl refl _ kept.compiled
 
 -- ---- what the router at a port has resolved
 

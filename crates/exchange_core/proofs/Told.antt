@@ -1,6 +1,6 @@
 -- A job that is told of a plan covers what the line leaves.
 use Rattle.std.proofs.Common.{◌≡◌, ℕ, ◌+◌, ◌*◌, ◌≤◌, Bool, true, false, List, length, map, sym, ap, subst, ◌∙◌, refl}
-use Rattle.std.specs.Prelude.{Option, Some, None, Result, Ok, Err, IfOk, OnOk}
+use Rattle.std.specs.Prelude.{Option, Some, None, Result, Ok, Err, IfOk, OnErr, OnOk}
 use Rattle.std.specs.FinMap.{FinMap}
 use Rattle.std.proofs.lemmas.List.{length-map}
 use Rattle.events.specs.After.{next}
@@ -8,8 +8,10 @@ use Rattle.events.specs.Fits.{Fits, IsStep, bare, is_building, is_of_job}
 use Rattle.events.specs.Forms.{IsWellFormed}
 use Rattle.events.specs.State.{State}
 use Rattle.events.specs.Tags.{capped}
+use Rattle.block_build.specs.Installed.{Installed}
+use Rattle.events.specs.declared.Entry.{Entry}
 use Rattle.events.specs.declared.Event.{Event}
-use Rattle.events.specs.declared.Event.TheVariants.{Bad, Exchange, Participant as DeclaresParticipant, Port as DeclaresPort, Update, Down, Export, Outbound as Out, Inbound as In, Take, Drain, Arp, Resolve, Packet, Frame, Recompile, Work, Table}
+use Rattle.events.specs.declared.Phase.{Phase}
 use Rattle.events.specs.declared.Head.TheVariants.{Refused}
 use Rattle.events.specs.declared.Refusal.{Refusal}
 use Rattle.events.specs.declared.Reply.{Reply}
@@ -26,17 +28,25 @@ use Rattle.job_upkeep.specs.Upkeep.{AddedAreFew, HasJob, NoJobsStart, PoliciesKe
 use Rattle.net_types.specs.Exports.{Routing}
 use Rattle.net_types.specs.Keys.{pair_cmp, prefix_cmp}
 use Rattle.net_types.specs.declared.address.Tag.{Tag}
+use Rattle.net_types.specs.declared.address.Ip.{Ip}
 use Rattle.net_types.specs.declared.memory.Memory.{Memory}
 use Rattle.net_types.specs.declared.rule.Pair.{Pair}
 use Rattle.net_types.specs.declared.rule.Rule.{Rule}
+use Rattle.prefix_classes.specs.Classes.{Classes}
 use Rattle.recompile.specs.Changing.{CoversAfter}
 use Rattle.recompile.specs.Underway.{Underway}
+use Rattle.registry.specs.Registered.{Registered}
+use Rattle.route_server.specs.Served.{Served}
+use Rattle.exchange_core.specs.Programs.{inbound_texts, outbound_texts}
+use Rattle.exchange_core.specs.View.{state_of}
+use Rattle.exchange_core.specs.declared.programs.Programs.{Programs}
 use Rattle.exchange_core.specs.Building.{Asks, IsOfKind, Leads, base_by, base_of}
 use Rattle.exchange_core.specs.Jobs.{IsTold, IsToldBy, IsToldChanges, IsToldPolicy, KeepsJob}
 use Rattle.exchange_core.specs.declared.programs.PolicyChange.{PolicyChange}
 use Rattle.exchange_core.specs.declared.programs.PolicyChange.TheVariants.{Inbound, Outbound, Stay}
 use Rattle.exchange_core.specs.declared.request.Request.{Request}
 use Rattle.exchange_core.proofs.Builds.{edit_of, planned_of}
+use Rattle.exchange_core.proofs.Steps.{not_of_job}
 
 -- ---- lines that leave the job as it is
 
@@ -57,27 +67,6 @@ quiet_result law s e d is quiet steady formed line (Ok reply) s' job step = quie
 quiet_result law s e d is quiet steady formed line (Err m) s' job step = tt
 
 -- ---- lines that build rules
-
--- no line that builds rules is a job's
-pub not_of_job : (e : Event) → is_building e ≡ true → is_of_job e ≡ false
-not_of_job Bad is = refl
-not_of_job (Exchange base size capacity) is = refl
-not_of_job (DeclaresParticipant name asn id) is = refl
-not_of_job (DeclaresPort name number ip mac) is = refl
-not_of_job (Update name bytes) is = refl
-not_of_job (Down name) is = refl
-not_of_job (Export name text) is = refl
-not_of_job (Out name text) is = refl
-not_of_job (In name text) is = refl
-not_of_job (Take name count) is = refl
-not_of_job (Drain name) is = refl
-not_of_job (Arp port bytes) is = refl
-not_of_job (Resolve port) is = refl
-not_of_job (Packet port bytes) is = refl
-not_of_job (Frame port bytes) is = refl
-not_of_job Recompile is = sym is
-not_of_job (Work units) is = sym is
-not_of_job Table is = refl
 
 -- what a job says that it was told
 pub changes_told : (result : Result (Unit {0}) Memory) (ports count : ℕ) (plan : Plan) (old new : Underway) (fresh emptied : List Tag) (added : List Pair) → fresh ≡ fresh_of plan → emptied ≡ plan.emptied.items → added ≡ plan.added → count ≡ ports
@@ -163,3 +152,30 @@ pub keeps_line : (s : State) (e : Event) (asked : Result Request Refusal) (resul
     → IfOk result (λ reply. KeepsJob s e reply old new)
 keeps_line s e asked (Ok reply) old new done formed asks = done e formed asks
 keeps_line s e asked (Err m) old new done formed asks = tt
+
+-- ---- room
+
+-- the state is the same where room was reserved
+pub same_state : (phase : Phase) (base : Ip) (size : ℕ) (names : Registered) (served served' : Served) (resolved : List (List Ip)) (classes classes' : Classes) (told told' : List (FinMap prefix_cmp Entry)) (installed installed' : Installed) (programs : List Programs)
+    → served'.routes ≡ served.routes → served'.rules ≡ served.rules → served'.named ≡ served.named → classes'.tag ≡ classes.tag → classes'.kept ≡ classes.kept → told' ≡ told → installed'.table ≡ installed.table → installed'.capacity ≡ installed.capacity
+    → state_of phase base size names served' resolved classes' told' installed' programs ≡ state_of phase base size names served resolved classes told installed programs
+same_state phase base size names served served' resolved classes classes' told told' installed installed' programs routes rules named tag kept same table capacity = λ i. record {
+  phase = phase;
+  base = base;
+  size = size;
+  capacity = capacity i;
+  routing = record { participants = names.participants; ports = names.ports; rules = rules i; named = named i; routes = routes i };
+  outbound = outbound_texts programs;
+  inbound = inbound_texts programs;
+  tag = tag i;
+  kept = kept i;
+  told = same i;
+  resolved = resolved;
+  table = table i;
+  owed = None;
+}
+
+-- what holds holds after a fault
+pub err_here : {T E P : Type 0} (result : Result T E) → P → OnErr result P
+err_here (Ok x) p = tt
+err_here (Err e) p = p

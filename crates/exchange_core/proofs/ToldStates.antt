@@ -6,7 +6,7 @@ use Rattle.advert_queue.specs.Telling.{tags_of}
 use Rattle.net_types.proofs.OrderedLemmas.{ordered_rises}
 use Rattle.events.proofs.Reached.{declared_pid}
 use Rattle.events.specs.After.{next, without_pairs}
-use Rattle.events.specs.Fits.{IsAccepted, IsStep, IsTaken, adverts, bare, none_rebuilt}
+use Rattle.events.specs.Fits.{IsAccepted, IsStep, IsTaken, adverts, bare, is_of_job, none_rebuilt}
 use Rattle.events.specs.Pending.{pending}
 use Rattle.events.specs.Refusals.{if_known, refusal}
 use Rattle.events.specs.Sound.{IsSound}
@@ -118,6 +118,11 @@ accepted : (s : State) (name : List ℕ) (who : Pid) (limit : Option ℕ) (reply
 accepted s name who None reply sound declared taken = drains_are_accepted s name who reply sound declared taken
 accepted s name who (Some count) reply sound declared taken = takes_are_accepted s name who count reply sound declared taken
 
+-- no such line is a job's
+take_own : (name : List ℕ) (limit : Option ℕ) → is_of_job (line_of name limit) ≡ false
+take_own name None = refl
+take_own name (Some count) = refl
+
 unrefused : (s : State) (name : List ℕ) (who : Pid) (limit : Option ℕ) → IsSender s name who → refusal s (line_of name limit) ≡ None
 unrefused s name who None sender = in_place s (Drain name) (placed (Drain name) refl refl s.phase sender.ready) ∙ ap (λ o. if_known o (λ w. None)) sender.known
 unrefused s name who (Some count) sender = in_place s (Take name count) (placed (Take name count) refl refl s.phase sender.ready) ∙ ap (λ o. if_known o (λ w. None)) sender.known
@@ -218,7 +223,7 @@ module _ (s : State) (who : Pid) (limit : Option ℕ) (pool : Tags) {all : List 
 
   steady_then : IsSteady s3
   steady_then =
-      steady_after s (line_of taker.name limit) (taking_reply s who limit) s3 kept.steady taker.formed (take_step s who pool kept taker.name limit taker.sender)
+      steady_after s (line_of taker.name limit) (taking_reply s who limit) s3 kept.steady taker.formed (take_own taker.name limit) (take_step s who pool kept taker.name limit taker.sender)
 
   -- what is kept holds of the state afterwards
   pub telling_kept : IsKept s3 (marked_all pool dead false) all

@@ -15,7 +15,9 @@ impl Core {
     /// Between two lines the state is steady.
     pub fn is_steady(&self)
         ensures { IsSteady self.now }
-    {}
+    {
+        let _phase = self.phase;
+    }
 
     /// Whether the pool and the table are declared, so that any line but a declaration may come.
     pub fn is_declared(&self) -> bool

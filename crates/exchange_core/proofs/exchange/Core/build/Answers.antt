@@ -10,10 +10,10 @@ use Rattle.fast_path.specs.Plans.{IsFault, IsPlan}
 use Rattle.route_server.specs.Proposed.{named_with}
 use Rattle.route_server.specs.Served.{Reaches}
 use Rattle.exchange_core.specs.Building.{Leads, base_of}
-use Rattle.exchange_core.specs.View.{state_of}
+use Rattle.exchange_core.specs.View.{IsKept, state_of}
 use Rattle.exchange_core.proofs.Builds.{change_placed, committed_kept, committed_step, full_step, parts_of, planned_of, says, short_step, state_then}
 use Rattle.exchange_core.specs.Jobs.{IsTold, KeepsJob}
-use Rattle.exchange_core.proofs.Told.{few_added, refused_keeps, told_keeps}
+use Rattle.exchange_core.proofs.Told.{err_here, few_added, refused_keeps, same_state, told_keeps}
 use Rattle.exchange_core.proofs.exchange.Core.build.Goals as goal
 
 pub returns-in-Err-NoNextHop-clause-step : goal.returns-in-Err-NoNextHop-clause-step
@@ -150,3 +150,25 @@ returns-clause-job g c = λ e r is_rebuilt formed leads.
     subst (λ (x : State). KeepsJob x e c.changes_reply.result c.args.job.now c.tell_job.new.job) c.self.view_is
     (told_keeps s e r is_rebuilt q plan here plans c.reroutings_keep_jobs.ensures c.policies_keep_jobs.ensures c.no_jobs_start.ensures c.self.invariant.kept.steady formed c.changes_reply.result
     (says c.changes_reply.result c.commit-changes.result plan c.changes_reply.ensures c.commit-changes.ensures.changes) c.args.job.now c.tell_job.new.job told)
+
+pub returns-in_err-reserve-3-clause-unchanged : goal.returns-in_err-reserve-3-clause-unchanged
+returns-in_err-reserve-3-clause-unchanged g c =
+    let a = c.self.inside in
+    err_here c.from_residual-in_err-reserve-3.result (same_state a.phase a.base a.size a.registry a.server c.reserve.new.self a.resolved.items a.classes c.reserve-2.new.classes a.adverts.told c.reserve-2.new.adverts.told a.switch c.reserve-3.new.self a.programs.items
+    c.reserve.ensures.routes c.reserve.ensures.rules c.reserve.ensures.named c.reserve-2.ensures.tag c.reserve-2.ensures.kept c.reserve-2.ensures.told c.reserve-3.ensures.table c.reserve-3.ensures.capacity ∙ c.self.view_is)
+
+pub returns-in_err-tell_job-clause-unchanged : goal.returns-in_err-tell_job-clause-unchanged
+returns-in_err-tell_job-clause-unchanged g c =
+    let a = c.self.inside in
+    err_here c.from_residual-in_err-tell_job.result (same_state a.phase a.base a.size a.registry a.server c.reserve.new.self a.resolved.items a.classes c.reserve-2.new.classes a.adverts.told c.reserve-2.new.adverts.told a.switch c.reserve-3.new.self a.programs.items
+    c.reserve.ensures.routes c.reserve.ensures.rules c.reserve.ensures.named c.reserve-2.ensures.tag c.reserve-2.ensures.kept c.reserve-2.ensures.told c.reserve-3.ensures.table c.reserve-3.ensures.capacity ∙ c.self.view_is)
+
+pub invariant_of-self-in_err-tell_job : goal.invariant_of-self-in_err-tell_job
+invariant_of-self-in_err-tell_job g c =
+    let a = c.self.inside in
+    let same = same_state a.phase a.base a.size a.registry a.server c.reserve.new.self a.resolved.items a.classes c.reserve-2.new.classes a.adverts.told c.reserve-2.new.adverts.told a.switch c.reserve-3.new.self a.programs.items
+    c.reserve.ensures.routes c.reserve.ensures.rules c.reserve.ensures.named c.reserve-2.ensures.tag c.reserve-2.ensures.kept c.reserve-2.ensures.told c.reserve-3.ensures.table c.reserve-3.ensures.capacity in
+    record {
+      kept = subst (λ (x : State). IsKept x a.pool a.programs.items) (sym same) c.self.invariant.kept;
+      present = c.reserve-2.ensures.present ∙ c.self.invariant.present ∙ ap all_present (sym same);
+    }

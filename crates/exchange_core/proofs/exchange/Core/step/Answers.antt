@@ -1,4 +1,6 @@
-use Rattle.std.proofs.Common.{refl}
+use Rattle.std.proofs.Common.{refl, subst, sym}
+use Rattle.std.specs.Prelude.{IfOk}
+use Rattle.exchange_core.specs.Jobs.{KeepsJob}
 use Rattle.events.specs.declared.Refusal.TheVariants.{BadLine}
 use Rattle.exchange_core.proofs.Told.{quiet_result, refused_keeps}
 use Rattle.exchange_core.proofs.exchange.Core.step.Goals as goal
@@ -35,3 +37,18 @@ returns-in-Frame-clause-job g c = quiet_result c.quiet_lines_keep_jobs.ensures c
 
 pub returns-in-Table-clause-job : goal.returns-in-Table-clause-job
 returns-in-Table-clause-job g c = quiet_result c.quiet_lines_keep_jobs.ensures c.args.self.now c.args.event.now _ c.in-Table.is refl c.is_steady.ensures c.requires.formed c.requires.line c.table.result c.table.new.self c.args.job.now c.table.ensures.step
+
+pub returns-in-Update-clause-job : goal.returns-in-Update-clause-job
+returns-in-Update-clause-job g c = subst (λ e. IfOk c.update.result (λ reply. KeepsJob c.args.self.now e reply c.args.job.now c.update.new.job)) (sym c.in-Update.is) c.update.ensures.job
+
+pub returns-in-Down-clause-job : goal.returns-in-Down-clause-job
+returns-in-Down-clause-job g c = subst (λ e. IfOk c.down.result (λ reply. KeepsJob c.args.self.now e reply c.args.job.now c.down.new.job)) (sym c.in-Down.is) c.down.ensures.job
+
+pub returns-in-Export-clause-job : goal.returns-in-Export-clause-job
+returns-in-Export-clause-job g c = subst (λ e. IfOk c.export.result (λ reply. KeepsJob c.args.self.now e reply c.args.job.now c.export.new.job)) (sym c.in-Export.is) c.export.ensures.job
+
+pub returns-in-Outbound-clause-job : goal.returns-in-Outbound-clause-job
+returns-in-Outbound-clause-job g c = subst (λ e. IfOk c.outbound.result (λ reply. KeepsJob c.args.self.now e reply c.args.job.now c.outbound.new.job)) (sym c.in-Outbound.is) c.outbound.ensures.job
+
+pub returns-in-Inbound-clause-job : goal.returns-in-Inbound-clause-job
+returns-in-Inbound-clause-job g c = subst (λ e. IfOk c.inbound.result (λ reply. KeepsJob c.args.self.now e reply c.args.job.now c.inbound.new.job)) (sym c.in-Inbound.is) c.inbound.ensures.job
