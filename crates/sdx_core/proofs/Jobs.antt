@@ -178,6 +178,7 @@ module _ (s : State) (j : Underway) (reply : Reply) (accepted : RecompilesAreAcc
 
   units : j.owed ≡ all_units start
   units = begun.0
+
   started : (next start Recompile (bare (Working (all_units start))) ≡ owing start (all_units start)) × Fits start Recompile (bare (Working (all_units start))) × IsSteadyInJob (owing start (all_units start))
   started = accepted start (in_job s None steady kept) (starts s declared)
 
@@ -228,6 +229,7 @@ module _ (s : State) (j j' : Underway) (units left : ℕ) (reply : Reply) (accep
 
   rest : j'.owed ≡ j.owed - units
   rest = owes ∙ leaves
+
   is_worked : (next work (Work units) (bare (Working (j.owed - units))) ≡ owing work (j.owed - units)) × Fits work (Work units) (bare (Working (j.owed - units))) × IsSteadyInJob (owing work (j.owed - units))
   is_worked = accepted work units j.owed (in_job s (Some j) steady kept) (works s j units declared) refl less
 
