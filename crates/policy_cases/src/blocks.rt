@@ -1,0 +1,97 @@
+//! Rules that are built from the classifiers of a sender and two receivers.
+
+ghost use Rattle.std.specs.Prelude.{◌≡◌, ◌∷◌, [], IfOk};
+
+use crate::classifiers::classifier_of;
+use crate::said::push_assign;
+use crate::words::first_word;
+use block_build::{Block, BuildFault, View, build};
+use net_types::{Action, Headers, Ip, Memory, Offer, Offers, Part, Pid, PortNo, Rule, Steps};
+use std::alloc::Global;
+use std::sync::ledger::Ledger;
+
+/// The offers of participant 1 by port 2, and of participant 2 by port 3, and which of them are holes.
+fn offers(alloc: Global, holes: (bool, bool)) -> Result<Offers, Memory>
+    ensures { IfOk result (λ list. list ≡ record { exporter = record { 0 = 1 }; port = record { 0 = 2 }; hole = holes.0 } ∷ record { exporter = record { 0 = 2 }; port = record { 0 = 3 }; hole = holes.1 } ∷ []) }
+{
+    let mut list = Offers::new(alloc);
+    list.push(Offer {
+        exporter: Pid(1),
+        port: PortNo(2),
+        hole: holes.0,
+    })?;
+    list.push(Offer {
+        exporter: Pid(2),
+        port: PortNo(3),
+        hole: holes.1,
+    })?;
+    Ok(list)
+}
+
+/// The actions of the first rule that has packets to a port.
+fn actions_on(rules: &[Rule], dport: u16) -> &[Action] {
+    let h = Headers {
+        inport: PortNo(1),
+        src: Ip(1),
+        dst: Ip(2),
+        proto: 6,
+        sport: Some(7),
+        dport: Some(dport),
+    };
+    for rule in rules {
+        if cube::has(&rule.cube, &h) {
+            return rule.actions.items();
+        }
+    }
+    &[]
+}
+
+/// By which port each packet leaves, behind what is assigned to it.
+fn push_actions(text: &mut String, actions: &[Action]) -> Result<(), Memory> {
+    if actions.is_empty() {
+        text.push_str(" none")?;
+    }
+    for action in actions {
+        text.push(' ')?;
+        push_assign(text, &action.set)?;
+        let port = action.port.0;
+        write!(text, "{port}")?;
+    }
+    Ok(())
+}
+
+/// How many rules there are, and the actions for packets to the ports 80 and 443.
+fn told(alloc: Global, block: &Block) -> Result<String, Memory> {
+    let rules = block.rules();
+    let count = rules.len();
+    let mut text = format!(in alloc; "{count} rules; to 80:")?;
+    push_actions(&mut text, actions_on(rules, 80))?;
+    text.push_str("; to 443:")?;
+    push_actions(&mut text, actions_on(rules, 443))?;
+    Ok(text)
+}
+
+/// `ROOM HOLE OUTBOUND; FIRST; SECOND`: the rules at port 1 for which there is so much room, where participant 0 sends and
+/// the best route is that of participant 1. `1` and `2` are holes, and any other word is none.
+pub fn built<L: Ledger>(alloc: Global, text: &str, steps: &mut Steps<L>) -> Result<String, Memory> {
+    let (room, rest) = first_word(text);
+    let (hole, rest) = first_word(rest);
+    let mut words = rest.split("; ");
+    let outbound = classifier_of(alloc, words.next().unwrap_or(""))?;
+    let first = classifier_of(alloc, words.next().unwrap_or(""))?;
+    let second = classifier_of(alloc, words.next().unwrap_or(""))?;
+    let mut view = View::new(alloc, &outbound);
+    view.add(Pid(1), &first)?;
+    view.add(Pid(2), &second)?;
+    let part = Part {
+        sender: Pid(0),
+        best: Pid(1),
+        offers: offers(alloc, (hole == "1", hole == "2"))?,
+    };
+    let room = room.parse().unwrap_or(0);
+    match build(alloc, &view, PortNo(1), &part, room, steps) {
+        Ok(block) => told(alloc, &block),
+        Err(BuildFault::Wide { rules }) => Ok(format!(in alloc; "wide {rules}")?),
+        Err(BuildFault::Memory) => Err(Memory),
+    }
+}
