@@ -14,9 +14,3 @@ pub use committing::{commit_end, reserve_end};
 pub use ended::End;
 pub use laws::ends_are_committed;
 pub use planning::plan_end;
-
-#[cfg(test)]
-mod tests {
-    #[test]
-    fn nothing() {}
-}
