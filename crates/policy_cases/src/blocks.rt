@@ -47,28 +47,27 @@ fn actions_on(rules: &[Rule], dport: u16) -> &[Action] {
 }
 
 /// By which port each packet leaves, behind what is assigned to it.
-fn push_actions(text: &mut String, actions: &[Action]) -> Result<(), Memory> {
-    if actions.is_empty() {
-        text.push_str(" none")?;
-    }
+fn actions_text(alloc: Global, actions: &[Action]) -> Result<String, Memory> {
+    let mut text = String::new(alloc);
     for action in actions {
         text.push(' ')?;
-        push_assign(text, &action.set)?;
+        push_assign(&mut text, &action.set)?;
         let port = action.port.0;
         write!(text, "{port}")?;
     }
-    Ok(())
+    if text.is_empty() {
+        text.push_str(" none")?;
+    }
+    Ok(text)
 }
 
 /// How many rules there are, and the actions for packets to the ports 80 and 443.
 fn told(alloc: Global, block: &Block) -> Result<String, Memory> {
     let rules = block.rules();
     let count = rules.len();
-    let mut text = format!(in alloc; "{count} rules; to 80:")?;
-    push_actions(&mut text, actions_on(rules, 80))?;
-    text.push_str("; to 443:")?;
-    push_actions(&mut text, actions_on(rules, 443))?;
-    Ok(text)
+    let web = actions_text(alloc, actions_on(rules, 80))?;
+    let other = actions_text(alloc, actions_on(rules, 443))?;
+    Ok(format!(in alloc; "{count} rules; to 80:{web}; to 443:{other}")?)
 }
 
 /// `ROOM HOLE OUTBOUND; FIRST; SECOND`: the rules at port 1 for which there is so much room, where participant 0 sends and

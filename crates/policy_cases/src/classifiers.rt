@@ -1,6 +1,6 @@
 //! Classifiers made by words, and what they give.
 
-use crate::said::{push_assign, push_loc};
+use crate::said::{loc_text, push_assign};
 use crate::words::{first_word, port};
 use classifier::{Classifier, Results, choose, negate, parallel, sequence, single, test, tighten};
 use net_types::{Assign, Cube, Headers, Ip, Loc, Memory, Pid, PortNo, Prefix};
@@ -136,19 +136,16 @@ pub fn decided<'c>(rules: &'c Classifier, h: &Headers) -> Option<&'c [(Assign, L
     None
 }
 
-fn push_results(text: &mut String, results: &[(Assign, Loc)]) -> Result<(), Memory> {
-    if results.is_empty() {
-        text.push_str("nothing")?;
-    }
-    for place in 0..results.len() {
-        if place > 0 {
+fn results_text(alloc: Global, results: &[(Assign, Loc)]) -> Result<String, Memory> {
+    let mut text = String::new(alloc);
+    for (set, loc) in results {
+        if !text.is_empty() {
             text.push_str("; ")?;
         }
-        let (set, loc) = results[place];
-        push_assign(text, &set)?;
-        push_loc(text, loc)?;
+        push_assign(&mut text, set)?;
+        text.push_str(loc_text(alloc, *loc)?.as_str())?;
     }
-    Ok(())
+    Ok(text)
 }
 
 /// How many rules the words make.
@@ -170,10 +167,9 @@ pub fn gives(alloc: Global, text: &str) -> Result<String, Memory> {
         dport: port(dport),
     };
     let made = classifier_of(alloc, rest)?;
-    let mut told = String::new(alloc);
     match decided(&made, &headers) {
-        Some(results) => push_results(&mut told, results)?,
-        None => told.push_str("no rule")?,
+        Some([]) => Ok(String::from_str(alloc, "nothing")?),
+        Some(results) => results_text(alloc, results),
+        None => Ok(String::from_str(alloc, "no rule")?),
     }
-    Ok(told)
 }

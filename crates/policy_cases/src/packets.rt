@@ -2,15 +2,14 @@
 
 use crate::classifiers::decided;
 use crate::declared::Declared;
-use crate::said::push_packet;
+use crate::said::packet_text;
 use crate::words::{first_word, no_policy, port};
 use bumpalo::Bump;
 use classifier::Classifier;
-use net_types::{Assign, Headers, Ip, Loc, Memory, PortNo};
+use net_types::{Headers, Ip, Memory, PortNo};
 use policy_compile::compile;
 use policy_syntax::{SyntaxFault, parse};
 use std::alloc::Global;
-use std::collections::BTreeSet;
 
 /// What comes in by port 1 from OCTET.0.0.1 to OCTET.1.0.1, of the protocol of that number.
 fn sent(octet: u8, sport: Option<u16>, dport: Option<u16>) -> Headers {
@@ -42,54 +41,47 @@ fn compiled(alloc: Global, text: &str) -> Result<Option<Classifier>, Memory> {
     }
 }
 
-/// What a result makes of a packet that stays.
-fn made(alloc: Global, headers: &Headers, (set, loc): &(Assign, Loc)) -> Result<String, Memory> {
-    let mut told = String::new(alloc);
-    push_packet(&mut told, &set.apply(headers), *loc)?;
-    Ok(told)
-}
-
-fn push_part(told: &mut String, part: &str) -> Result<(), Memory> {
-    if !told.is_empty() {
-        told.push_str("; ")?;
+/// What the policy makes of the packet, result by result; none where the text is no policy.
+fn made(alloc: Global, text: &str) -> Result<Option<Vec<String>>, Memory> {
+    let (headers, text) = asked(text);
+    let Some(rules) = compiled(alloc, text)? else {
+        return Ok(None);
+    };
+    let mut parts = Vec::new(alloc);
+    for (set, loc) in decided(&rules, &headers).unwrap_or(&[]) {
+        parts.push(packet_text(alloc, &set.apply(&headers), *loc)?)?;
     }
-    told.push_str(part)?;
-    Ok(())
+    Ok(Some(parts))
 }
 
-fn or_nothing(mut told: String) -> Result<String, Memory> {
-    if told.is_empty() {
-        told.push_str("nothing")?;
+/// The packets between semicolons.
+fn told(alloc: Global, parts: &[String]) -> Result<String, Memory> {
+    let Some((first, others)) = parts.split_first() else {
+        return Ok(String::from_str(alloc, "nothing")?);
+    };
+    let mut told = first.clone()?;
+    for other in others {
+        write!(told, "; {other}")?;
     }
     Ok(told)
 }
 
 /// What the policy makes of the packet, result by result.
 pub fn results(alloc: Global, text: &str) -> Result<String, Memory> {
-    let (headers, text) = asked(text);
-    let Some(rules) = compiled(alloc, text)? else {
-        return no_policy(alloc);
-    };
-    let mut told = String::new(alloc);
-    for pair in decided(&rules, &headers).unwrap_or(&[]) {
-        push_part(&mut told, made(alloc, &headers, pair)?.as_str())?;
+    match made(alloc, text)? {
+        Some(parts) => told(alloc, &parts),
+        None => no_policy(alloc),
     }
-    or_nothing(told)
 }
 
 /// The set of packets that the policy makes of the packet, in the order of their texts.
 pub fn packets(alloc: Global, text: &str) -> Result<String, Memory> {
-    let (headers, text) = asked(text);
-    let Some(rules) = compiled(alloc, text)? else {
-        return no_policy(alloc);
-    };
-    let mut parts = BTreeSet::new(alloc);
-    for pair in decided(&rules, &headers).unwrap_or(&[]) {
-        parts.insert(made(alloc, &headers, pair)?)?;
+    match made(alloc, text)? {
+        Some(mut parts) => {
+            parts.sort_unstable();
+            parts.dedup();
+            told(alloc, &parts)
+        }
+        None => no_policy(alloc),
     }
-    let mut told = String::new(alloc);
-    for part in &parts {
-        push_part(&mut told, part.as_str())?;
-    }
-    or_nothing(told)
 }

@@ -1,35 +1,22 @@
 //! Places, assignments and packets as an answer says them.
 
-use net_types::{Assign, Headers, Ip, Loc, Memory};
+use net_types::{Assign, Headers, Ip, Loc, Memory, Pid, PortNo};
+use std::alloc::Global;
 
 /// Where a packet is going.
-pub fn push_loc(text: &mut String, loc: Loc) -> Result<(), Memory> {
+pub fn loc_text(alloc: Global, loc: Loc) -> Result<String, Memory> {
     match loc {
-        Loc::Stay => text.push_str("stay")?,
-        Loc::Nowhere => text.push_str("nowhere")?,
-        Loc::To(who) => {
-            let who = who.0;
-            write!(text, "to {who}")?
-        }
-        Loc::Out(port) => {
-            let port = port.0;
-            write!(text, "out {port}")?
-        }
+        Loc::Stay => Ok(String::from_str(alloc, "stay")?),
+        Loc::Nowhere => Ok(String::from_str(alloc, "nowhere")?),
+        Loc::To(Pid(who)) => Ok(format!(in alloc; "to {who}")?),
+        Loc::Out(PortNo(port)) => Ok(format!(in alloc; "out {port}")?),
     }
-    Ok(())
-}
-
-fn push_ip(text: &mut String, ip: Ip) -> Result<(), Memory> {
-    let [a, b, c, d] = ip.0.to_be_bytes();
-    write!(text, "{a}.{b}.{c}.{d}")?;
-    Ok(())
 }
 
 fn push_set_ip(text: &mut String, field: &str, ip: Option<Ip>) -> Result<(), Memory> {
     if let Some(ip) = ip {
-        write!(text, "{field}=")?;
-        push_ip(text, ip)?;
-        text.push(' ')?;
+        let [a, b, c, d] = ip.0.to_be_bytes();
+        write!(text, "{field}={a}.{b}.{c}.{d} ")?;
     }
     Ok(())
 }
@@ -49,24 +36,25 @@ pub fn push_assign(text: &mut String, set: &Assign) -> Result<(), Memory> {
     push_set_port(text, "dstport", set.dport)
 }
 
-fn push_port(text: &mut String, port: Option<u16>) -> Result<(), Memory> {
+fn port_text(alloc: Global, port: Option<u16>) -> Result<String, Memory> {
     match port {
-        Some(port) => write!(text, "{port} ")?,
-        None => text.push_str("- ")?,
+        Some(port) => Ok(format!(in alloc; "{port}")?),
+        None => Ok(String::from_str(alloc, "-")?),
     }
-    Ok(())
 }
 
 /// A packet: the port that it came in by, its addresses, protocol and ports, and where it is going.
-pub fn push_packet(text: &mut String, headers: &Headers, loc: Loc) -> Result<(), Memory> {
-    let inport = headers.inport.0;
-    write!(text, "{inport} ")?;
-    push_ip(text, headers.src)?;
-    text.push(' ')?;
-    push_ip(text, headers.dst)?;
-    let proto = headers.proto;
-    write!(text, " {proto} ")?;
-    push_port(text, headers.sport)?;
-    push_port(text, headers.dport)?;
-    push_loc(text, loc)
+pub fn packet_text(alloc: Global, headers: &Headers, loc: Loc) -> Result<String, Memory> {
+    let Headers {
+        src,
+        dst,
+        proto,
+        ..
+    } = *headers;
+    let (inport, [a, b, c, d]) = (headers.inport.0, src.0.to_be_bytes());
+    let [e, f, g, h] = dst.0.to_be_bytes();
+    let sport = port_text(alloc, headers.sport)?;
+    let dport = port_text(alloc, headers.dport)?;
+    let to = loc_text(alloc, loc)?;
+    Ok(format!(in alloc; "{inport} {a}.{b}.{c}.{d} {e}.{f}.{g}.{h} {proto} {sport} {dport} {to}")?)
 }

@@ -2,7 +2,7 @@
 
 use crate::words::{first_word, no_policy};
 use bumpalo::Bump;
-use net_types::{Memory, Span};
+use net_types::{Memory, PortNo, Span};
 use policy_syntax::{Node, SyntaxFault, Target, Tree, parse, print};
 use std::alloc::Global;
 
@@ -46,54 +46,39 @@ pub fn printed(alloc: Global, text: &str) -> Result<String, Memory> {
 }
 
 /// Who or what is sent to, and the octets that say so.
-fn push_forward(text: &mut String, target: Target<'_>, span: Span) -> Result<(), Memory> {
-    let (start, end) = (span.start, span.end);
+fn forward(alloc: Global, target: Target<'_>, span: Span) -> Result<String, Memory> {
+    let Span { start, end } = span;
     match target {
-        Target::Name(name) => write!(text, "fwd {name} {start} to {end}")?,
-        Target::Number(port) => {
-            let port = port.0;
-            write!(text, "fwd {port} {start} to {end}")?
-        }
+        Target::Name(name) => Ok(format!(in alloc; "fwd {name} {start} to {end}")?),
+        Target::Number(PortNo(port)) => Ok(format!(in alloc; "fwd {port} {start} to {end}")?),
     }
-    Ok(())
 }
 
 /// Each sum and each chain with its parts.
-fn push_grouped(text: &mut String, tree: &Tree<'_>) -> Result<(), Memory> {
+fn grouping(alloc: Global, tree: &Tree<'_>) -> Result<String, Memory> {
     match tree.node() {
-        Node::Drop => text.push_str("drop")?,
-        Node::Pass => text.push_str("pass")?,
-        Node::Block => text.push_str("block")?,
-        Node::Test(_) => text.push_str("match")?,
-        Node::Set(_, _) => text.push_str("modify")?,
-        Node::Fwd(target, span) => push_forward(text, target, span)?,
+        Node::Drop => Ok(String::from_str(alloc, "drop")?),
+        Node::Pass => Ok(String::from_str(alloc, "pass")?),
+        Node::Block => Ok(String::from_str(alloc, "block")?),
+        Node::Test(_) => Ok(String::from_str(alloc, "match")?),
+        Node::Set(_, _) => Ok(String::from_str(alloc, "modify")?),
+        Node::Fwd(target, span) => forward(alloc, target, span),
         Node::Both(first, second) => {
-            text.push_str("sum(")?;
-            push_grouped(text, first)?;
-            text.push_str(", ")?;
-            push_grouped(text, second)?;
-            text.push(')')?;
+            let (first, second) = (grouping(alloc, first)?, grouping(alloc, second)?);
+            Ok(format!(in alloc; "sum({first}, {second})")?)
         }
         Node::Then(first, second) => {
-            text.push_str("chain(")?;
-            push_grouped(text, first)?;
-            text.push_str(", ")?;
-            push_grouped(text, second)?;
-            text.push(')')?;
+            let (first, second) = (grouping(alloc, first)?, grouping(alloc, second)?);
+            Ok(format!(in alloc; "chain({first}, {second})")?)
         }
     }
-    Ok(())
 }
 
 /// How a text is grouped.
 pub fn grouped(alloc: Global, text: &str) -> Result<String, Memory> {
     let arena = Bump::new(alloc);
     match parse(alloc, &arena, text) {
-        Ok(tree) => {
-            let mut told = String::new(alloc);
-            push_grouped(&mut told, &tree)?;
-            Ok(told)
-        }
+        Ok(tree) => grouping(alloc, &tree),
         Err(_) => no_policy(alloc),
     }
 }
