@@ -6,6 +6,7 @@ use crate::classifiers::classifier_of;
 use crate::said::push_assign;
 use crate::words::first_word;
 use block_build::{Block, BuildFault, View, build};
+use classifier::Classifier;
 use net_types::{Action, Headers, Ip, Memory, Offer, Offers, Part, Pid, PortNo, Rule, Steps};
 use std::alloc::Global;
 use std::sync::ledger::Ledger;
@@ -70,25 +71,53 @@ fn told(alloc: Global, block: &Block) -> Result<String, Memory> {
     Ok(format!(in alloc; "{count} rules; to 80:{web}; to 443:{other}")?)
 }
 
-/// `ROOM HOLE OUTBOUND; FIRST; SECOND`: the rules at port 1 for which there is so much room, where participant 0 sends and
-/// the best route is that of participant 1. `1` and `2` are holes, and any other word is none.
-pub fn built<L: Ledger>(alloc: Global, text: &str, steps: &mut Steps<L>) -> Result<String, Memory> {
-    let (room, rest) = first_word(text);
-    let (hole, rest) = first_word(rest);
-    let mut words = rest.split("; ");
+/// The outbound policy of participant 0, and the inbound ones of the participants 1 and 2.
+#[derive(Drop)]
+struct Policies {
+    outbound: Classifier,
+    first: Classifier,
+    second: Classifier,
+}
+
+fn read_policies(alloc: Global, text: &str) -> Result<Policies, Memory> {
+    let mut words = text.split("; ");
     let outbound = classifier_of(alloc, words.next().unwrap_or(""))?;
     let first = classifier_of(alloc, words.next().unwrap_or(""))?;
     let second = classifier_of(alloc, words.next().unwrap_or(""))?;
-    let mut view = View::new(alloc, &outbound);
-    view.add(Pid(1), &first)?;
-    view.add(Pid(2), &second)?;
+    Ok(Policies {
+        outbound,
+        first,
+        second,
+    })
+}
+
+/// The rules at port 1, where participant 0 sends and the best route is that of participant 1.
+fn block_of<L: Ledger>(
+    alloc: Global,
+    policies: &Policies,
+    holes: (bool, bool),
+    room: usize,
+    steps: &mut Steps<L>,
+) -> Result<Block, BuildFault> {
+    let mut view = View::new(alloc, &policies.outbound);
+    view.add(Pid(1), &policies.first)?;
+    view.add(Pid(2), &policies.second)?;
     let part = Part {
         sender: Pid(0),
         best: Pid(1),
-        offers: offers(alloc, (hole == "1", hole == "2"))?,
+        offers: offers(alloc, holes)?,
     };
+    build(alloc, &view, PortNo(1), &part, room, steps)
+}
+
+/// `ROOM HOLE OUTBOUND; FIRST; SECOND`: the rules for which there is so much room. `1` and `2` are holes, and any other
+/// word is none.
+pub fn built<L: Ledger>(alloc: Global, text: &str, steps: &mut Steps<L>) -> Result<String, Memory> {
+    let (room, rest) = first_word(text);
+    let (hole, rest) = first_word(rest);
+    let policies = read_policies(alloc, rest)?;
     let room = room.parse().unwrap_or(0);
-    match build(alloc, &view, PortNo(1), &part, room, steps) {
+    match block_of(alloc, &policies, (hole == "1", hole == "2"), room, steps) {
         Ok(block) => told(alloc, &block),
         Err(BuildFault::Wide { rules }) => Ok(format!(in alloc; "wide {rules}")?),
         Err(BuildFault::Memory) => Err(Memory),
