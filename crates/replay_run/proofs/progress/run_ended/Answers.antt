@@ -1,9 +1,10 @@
-use Rattle.std.proofs.Common.{◌≡◌, ℕ, ◌+◌, ◌≤◌, false, List, ◌++◌, take, ap, subst, ◌∙◌, IfOk, OnErr}
+use Rattle.std.proofs.Common.{◌≡◌, ℕ, ◌+◌, ◌≤◌, false, List, [], ◌++◌, take, ap, subst, ◌∙◌, IfOk, OnErr}
 use Rattle.std.specs.Io.KnownBytes.{Appends}
 use Rattle.events.specs.Lines.{event_of}
 use Rattle.replay_run.specs.Bounds.{line_bound}
 use Rattle.replay_run.specs.Progress.{kept_octets, RunsEvent, StopsInEvent}
-use Rattle.replay_run.proofs.Parts.{kept_event}
+use Rattle.replay_run.proofs.Bytes.{Appends_none}
+use Rattle.replay_run.proofs.Parts.{kept_event, stops_at_once}
 use Rattle.replay_run.proofs.progress.run_ended.Goals as goal
 
 -- what is kept of a line tells its event
@@ -28,3 +29,9 @@ pub returns-clause-steps : goal.returns-clause-steps
 returns-clause-steps g c =
     let line = c.args.progress.now.line ++ c.args.part.now in
     subst (λ e. c.run_line-2.new.steps ≤ c.args.steps.now + line_bound c.args.sdx.now e) (same_event _ _ line c.octets-line.ensures c.in-Ok.ensures) c.run_line-2.ensures.steps
+
+-- where no memory is left for the line, nothing is written of it
+pub returns-in_default-clause-err : goal.returns-in_default-clause-err
+returns-in_default-clause-err g c =
+    let p = c.args.progress.now in
+    ([], Appends_none (g.K.Sink.held c.args.sink.now), stops_at_once (event_of (p.line ++ c.args.part.now)) c.args.sdx.now p.number)
