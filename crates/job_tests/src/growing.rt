@@ -22,7 +22,8 @@ port C 4 172.16.1.4 02:00:00:00:00:04
 ";
 
 /// B's UPDATE up to the number of its prefix 10.X.Y.0/24.
-const UPDATE: &str = "update B ffffffffffffffffffffffffffffffff002d0200000012400101004002040201fdea400304ac10010218";
+const UPDATE: &str =
+    "update B ffffffffffffffffffffffffffffffff002d0200000012400101004002040201fdea400304ac10010218";
 
 /// The declarations, the updates, and a job of as many units as it owes.
 fn lines(alloc: Global) -> Result<String, Memory> {
@@ -54,7 +55,10 @@ fn growing(alloc: Global) -> Result<String, Memory> {
         let prefix = prefix(alloc, number)?;
         let tag = number + 1;
         let line = number + 9;
-        write!(replies, "{line} ok\n  tag {prefix} {tag}\n  add 1 {tag} * -> 2\n  add 4 {tag} * -> 2\n")?;
+        write!(
+            replies,
+            "{line} ok\n  tag {prefix} {tag}\n  add 1 {tag} * -> 2\n  add 4 {tag} * -> 2\n"
+        )?;
     }
     Ok(replies)
 }

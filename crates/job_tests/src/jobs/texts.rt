@@ -564,4 +564,3 @@ pub const FULL_OUTPUT: &str = "\
   flow 1 1 * -> 2
   flow 4 1 * -> 2
 ";
-
