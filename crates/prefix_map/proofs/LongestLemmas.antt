@@ -7,7 +7,7 @@ use Rattle.net_types.specs.Prefixes.{covers}
 use Rattle.net_types.specs.Routes.{longer, longest_of}
 use Rattle.net_types.specs.declared.address.Ip.{Ip}
 use Rattle.net_types.specs.declared.prefix.Prefix.{Prefix}
-use Rattle.prefix_map.specs.Entries.{own, longer_entry, longest_entry, entry_or}
+use Rattle.prefix_map.specs.Entries.{own, head_of, longer_entry, longest_entry, entry_or}
 use Rattle.prefix_map.specs.Halves.{middle, LiesIn, LiesLow, LiesHigh}
 use Rattle.prefix_map.specs.Tries.{AllKeys}
 use Rattle.prefix_map.proofs.HalfLemmas.{covered, covers_from}
@@ -44,6 +44,20 @@ longest_all P ip (e ∷ es) all =
     longer_all P (cond (covers e.0 ip) (Some e) None) (longest_entry es ip)
     (elim (covers e.0 ip) as (λ b. OptionAll P (cond b (Some e) None)) [ true ↦ all.0 | false ↦ tt ])
     (longest_all P ip es all.1)
+
+-- an entry, and else the best one before it
+abbrev pub or_best : {V : Type 0} → Option (Prefix × V) → Option (Prefix × V) → Option (Prefix × V)
+or_best None best = best
+or_best (Some e) best = Some e
+
+pub best_of_none : {V : Type 0} (x : Option (Prefix × V)) → x ≡ or_best x None
+best_of_none None = refl
+best_of_none (Some e) = refl
+
+-- an entry further down, else a prefix's own, and else the best one before it
+pub best_below : {V : Type 0} (x : Option (Prefix × V)) (at : Prefix) (held : Option V) (before after : Option (Prefix × V)) → after ≡ or_best (head_of (own at held)) before → or_best (entry_or x at held) before ≡ or_best x after
+best_below None at held before after is = sym is
+best_below (Some e) at held before after is = refl
 
 or_none : {V : Type 0} (at : Prefix) (o : Option (Prefix × V)) → o ≡ entry_or o at None
 or_none at None = refl

@@ -114,7 +114,7 @@ impl<V: Drop> PrefixMap<V> {
         ensures room { self.old.room ≤ self.new.room + (if is_some (map.get self.old.map key) then 0 else 1) }
         ensures enough { (map.get self.old.map key ≡ None → 0 < self.old.room) → IsOk result }
     {
-        if self.get(key).is_none() {
+        if self.room == 0 && self.get(key).is_none() {
             self.reserve(1)?;
         }
         Ok(self.put(key, value))

@@ -48,26 +48,27 @@ pub(crate) fn value_of<V>(trie: &Trie<V>, key: Prefix) -> Option<&V>
     requires halves { IsTrie trie.now }
     ensures { option_copied result ≡ find prefix_cmp key (entries_of trie.now) }
 {
-    match trie {
-        Trie::Empty => None,
-        Trie::Fork(node) => match &**node {
-            Node::Blank => None,
+    let mut here = trie;
+    while let Trie::Fork(node) = here {
+        match &**node {
+            Node::Blank => return None,
             Node::Full {
                 at,
                 held,
                 low,
                 high,
             } => match place_of(*at, key) {
-                Place::Same => held.as_ref(),
-                Place::Low => value_of(low, key),
-                Place::High => value_of(high, key),
-                Place::OverLow => None,
-                Place::OverHigh => None,
-                Place::Before => None,
-                Place::After => None,
+                Place::Same => return held.as_ref(),
+                Place::Low => here = low,
+                Place::High => here = high,
+                Place::OverLow => return None,
+                Place::OverHigh => return None,
+                Place::Before => return None,
+                Place::After => return None,
             },
-        },
+        }
     }
+    None
 }
 
 /// The longest prefix that covers an address, with its value.
@@ -75,10 +76,11 @@ pub(crate) fn longest_in<V>(trie: &Trie<V>, ip: Ip) -> Option<(Prefix, &V)>
     requires halves { IsTrie trie.now }
     ensures { option_map seen_entry result ≡ longest_entry (entries_of trie.now) ip }
 {
-    match trie {
-        Trie::Empty => None,
-        Trie::Fork(node) => match &**node {
-            Node::Blank => None,
+    let mut best = None;
+    let mut here = trie;
+    while let Trie::Fork(node) = here {
+        match &**node {
+            Node::Blank => return best,
             Node::Full {
                 at,
                 held,
@@ -86,32 +88,16 @@ pub(crate) fn longest_in<V>(trie: &Trie<V>, ip: Ip) -> Option<(Prefix, &V)>
                 high,
             } => {
                 if !at.covers(ip) {
-                    return None;
+                    return best;
                 }
-                if is_below(ip, *at) {
-                    return or_own(longest_in(low, ip), *at, held);
+                if let Some(value) = held {
+                    best = Some((*at, value));
                 }
-                or_own(longest_in(high, ip), *at, held)
+                here = if is_below(ip, *at) { low } else { high };
             }
-        },
+        }
     }
-}
-
-// The entry further down, and else that of a node itself.
-fn or_own<'a, V>(
-    below: Option<(Prefix, &'a V)>,
-    at: Prefix,
-    held: &'a Option<V>,
-) -> Option<(Prefix, &'a V)>
-    ensures { option_map seen_entry result ≡ entry_or (option_map seen_entry below.entry) at held.entry.now }
-{
-    match below {
-        Some(entry) => Some(entry),
-        None => match held {
-            Some(value) => Some((at, value)),
-            None => None,
-        },
-    }
+    best
 }
 
 /// The entry with the least prefix.
