@@ -1,13 +1,13 @@
 -- Entries that rise, split at one of them: where a key is sought, put, taken out and passed.
 use Rattle.std.proofs.Common.{◌≡◌, ◌<◌, length, length-append, arith, Bool, true, false, cond, ◌&&◌, not, List, [], ◌∷◌, ◌++◌, ap, ◌∙◌, refl}
-use Rattle.std.specs.Prelude.{Some}
+use Rattle.std.specs.Prelude.{Option, None, Some}
 use Rattle.std.specs.Cmp.{IsTotalOrder}
 use Rattle.std.specs.Ordering.{is_lt, is_eq, ordering_reverse}
 use Rattle.std.specs.declared.cmp.Ordering.{Ordering}
 use Rattle.std.specs.declared.cmp.Ordering.TheVariants.{Less, Equal, Greater}
 use Rattle.std.specs.FinMap.Entries.{find, put, is_sorted, below_all, by_order}
 use Rattle.std.proofs.lemmas.Bool.{and_parts}
-use Rattle.ordered_map.specs.Entries.{without, above}
+use Rattle.ordered_map.specs.Entries.{without, above, put_given}
 
 pub less : (r : Ordering) → is_lt r ≡ true → r ≡ Less
 less Less e = refl
@@ -31,7 +31,7 @@ module _ {K X : Type 0} (R : K → K → Ordering) where
   pub record IsLeft (q : K) (l : List (K × X)) (e : K × X) (r : List (K × X)) : Type 0 where
     pub rising : is_sorted R l ≡ true
     pub find_is : find R q (l ++ e ∷ r) ≡ find R q l
-    pub put_is : (v : X) → put R q v (l ++ e ∷ r) ≡ put R q v l ++ e ∷ r
+    pub put_is : (o : Option X) → put_given R q o (l ++ e ∷ r) ≡ put_given R q o l ++ e ∷ r
     pub without_is : without R q (l ++ e ∷ r) ≡ without R q l ++ e ∷ r
     pub above_is : above R q (l ++ e ∷ r) ≡ above R q l ++ e ∷ r
 
@@ -46,7 +46,7 @@ module _ {K X : Type 0} (R : K → K → Ordering) where
   pub record IsRight (q : K) (l : List (K × X)) (e : K × X) (r : List (K × X)) : Type 0 where
     pub rising : is_sorted R r ≡ true
     pub find_is : find R q (l ++ e ∷ r) ≡ find R q r
-    pub put_is : (v : X) → put R q v (l ++ e ∷ r) ≡ l ++ e ∷ put R q v r
+    pub put_is : (o : Option X) → put_given R q o (l ++ e ∷ r) ≡ l ++ e ∷ put_given R q o r
     pub without_is : without R q (l ++ e ∷ r) ≡ l ++ e ∷ without R q r
     pub above_is : above R q (l ++ e ∷ r) ≡ above R q r
 
@@ -82,6 +82,10 @@ module _ {K X : Type 0} (R : K → K → Ordering) where
       ap (λ r. by_order r ((q, v) ∷ e ∷ (l ++ m)) ((e.0, v) ∷ (l ++ m)) (e ∷ put R q v (l ++ m))) p.0
       ∙ ap (λ es. e ∷ es) (put_past q v l m p.1)
 
+  given_past : (q : K) (l : List (K × X)) (e : K × X) (r : List (K × X)) → IsPast q l → R q e.0 ≡ Greater → (o : Option X) → put_given R q o (l ++ e ∷ r) ≡ l ++ e ∷ put_given R q o r
+  given_past q l e r p more None = refl
+  given_past q l e r p more (Some v) = put_past q v l (e ∷ r) p ∙ ap (λ s. l ++ by_order s ((q, v) ∷ e ∷ r) ((e.0, v) ∷ r) (e ∷ put R q v r)) more
+
   without_past : (q : K) (l m : List (K × X)) → IsPast q l → without R q (l ++ m) ≡ l ++ without R q m
   without_past q [] m p = refl
   without_past q (e ∷ l) m p =
@@ -113,6 +117,10 @@ module _ {K X : Type 0} (R : K → K → Ordering) where
         | Equal ↦ refl
         | Greater ↦ ap (λ es. e ∷ es) (put_before q v l m h)
       ]
+
+  given_before : (q : K) (l m : List (K × X)) → below_all R q m ≡ true → (o : Option X) → put_given R q o (l ++ m) ≡ put_given R q o l ++ m
+  given_before q l m h None = refl
+  given_before q l m h (Some v) = put_before q v l m h
 
   without_before : (q : K) (l m : List (K × X)) → below_all R q m ≡ true → without R q (l ++ m) ≡ without R q l ++ m
   without_before q [] [] h = refl
@@ -171,7 +179,7 @@ module _ {K X : Type 0} (R : K → K → Ordering) where
         record {
           rising = sorted_front l (e ∷ r) h;
           find_is = find_before q l (e ∷ r) below;
-          put_is = λ v. put_before q v l (e ∷ r) below;
+          put_is = given_before q l (e ∷ r) below;
           without_is = without_before q l (e ∷ r) below;
           above_is = above_before q l (e ∷ r) below;
         }
@@ -199,7 +207,7 @@ module _ {K X : Type 0} (R : K → K → Ordering) where
         record {
           rising = parts.1;
           find_is = find_past q l (e ∷ r) past ∙ ap (λ s. cond (is_eq s) (Some e.1) (find R q r)) more;
-          put_is = λ v. put_past q v l (e ∷ r) past ∙ ap (λ s. l ++ by_order s ((q, v) ∷ e ∷ r) ((e.0, v) ∷ r) (e ∷ put R q v r)) more;
+          put_is = given_past q l e r past more;
           without_is = without_past q l (e ∷ r) past ∙ ap (λ s. l ++ cond (not (is_eq s)) (e ∷ without R q r) (without R q r)) more;
           above_is = above_past q l (e ∷ r) past ∙ ap (λ s. cond (is_lt s) (e ∷ above R q r) (above R q r)) more;
         }

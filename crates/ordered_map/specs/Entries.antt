@@ -1,9 +1,9 @@
 -- The entries of a tree, and what is left of entries without a key.
-use Rattle.std.specs.Prelude.{not, Option, None, Some, List, [], ◌∷◌, ◌++◌}
+use Rattle.std.specs.Prelude.{Bool, true, false, not, Option, None, Some, List, [], ◌∷◌, ◌++◌}
 use Rattle.std.specs.Borrow.{Bor}
 use Rattle.std.specs.Ordering.{eq_by_cmp, is_lt}
 use Rattle.std.specs.declared.cmp.Ordering.{Ordering}
-use Rattle.std.specs.FinMap.Entries.{where_key}
+use Rattle.std.specs.FinMap.Entries.{put, where_key}
 use Rattle.ordered_map.specs.declared.tree.Tree.{Tree, Empty, Fork'}
 use Rattle.ordered_map.specs.declared.tree.Node.{Node, Blank, Full}
 
@@ -16,6 +16,20 @@ abbrev mutual
   pub node_entries : {K V : Type 0} → Node K V → List (K × V)
   node_entries Blank = []
   node_entries (Full left key value height right) = entries_of left ++ (key, value) ∷ entries_of right
+
+-- the entry of a node alone
+abbrev pub own_entry : {K V : Type 0} → Node K V → List (K × V)
+own_entry Blank = []
+own_entry (Full left key value height right) = (key, value) ∷ []
+
+abbrev pub is_full : {K V : Type 0} → Node K V → Bool
+is_full Blank = false
+is_full (Full left key value height right) = true
+
+-- the entries with a value for a key, where one is given
+abbrev pub put_given : {K V : Type 0} → (K → K → Ordering) → K → Option V → List (K × V) → List (K × V)
+put_given R q None es = es
+put_given R q (Some v) es = put R q v es
 
 -- the entries with other keys
 abbrev pub without : {K V : Type 0} → (K → K → Ordering) → K → List (K × V) → List (K × V)

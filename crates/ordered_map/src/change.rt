@@ -3,37 +3,32 @@
 ghost use Rattle.std.specs.Prelude.{◌≡◌, ◌≤◌, ◌<◌, ◌+◌, ◌∷◌, ◌++◌, [], None, IsTrue, IfSome, IfNone, is_some, if◌then◌else◌};
 ghost use Rattle.std.specs.Vec.{vec_len};
 ghost use Rattle.std.specs.FinMap.Entries.{find, put, is_sorted};
-ghost use Rattle.ordered_map.specs.Entries.{entries_of, without, root_value, beside_root};
+ghost use Rattle.ordered_map.specs.Entries.{entries_of, node_entries, own_entry, is_full, put_given, without, root_value, beside_root};
 
-use crate::balance::{full, rebalance};
+use crate::balance::{Height, between, height_of, height_since, level, rebalance};
 use crate::spare::{give_back, lone};
 use crate::tree::{Node, Tree};
 use std::cmp::Ordering;
 use std::mem;
 
-/// Gives a key a value, and answers the one before. A new key takes one of the spare boxes.
+/// Gives a key the value that is handed in, and hands out the one before. A new key takes one of the spare boxes.
 pub(crate) fn put_in<K: Ord + Drop, V: Drop>(
     tree: &mut Tree<K, V>,
     spare: &mut Vec<Box<Node<K, V>>>,
     key: K,
-    value: V,
-) -> Option<V>
+    value: &mut Option<V>,
+) -> Height
     requires rising { IsTrue (is_sorted K.cmp (entries_of tree.old)) }
     requires room { find K.cmp key (entries_of tree.old) ≡ None → 0 < vec_len spare.old }
-    ensures value { result ≡ find K.cmp key (entries_of tree.old) }
-    ensures entries { entries_of tree.new ≡ put K.cmp key value (entries_of tree.old) }
-    ensures room { vec_len spare.old ≡ vec_len spare.new + (if is_some result then 0 else 1) }
+    requires given { IsTrue (is_some value.old) }
+    ensures value { value.new ≡ find K.cmp key (entries_of tree.old) }
+    ensures entries { entries_of tree.new ≡ put_given K.cmp key value.old (entries_of tree.old) }
+    ensures room { vec_len spare.old ≡ vec_len spare.new + (if is_some value.new then 0 else 1) }
 {
     match tree {
-        Tree::Empty => {
-            *tree = Tree::Fork(lone(spare, key, value));
-            None
-        }
+        Tree::Empty => put_alone(tree, spare, key, value),
         Tree::Fork(node) => match &mut **node {
-            Node::Blank => {
-                *tree = Tree::Fork(lone(spare, key, value));
-                None
-            }
+            Node::Blank => put_alone(tree, spare, key, value),
             Node::Full {
                 left,
                 key: held,
@@ -42,37 +37,79 @@ pub(crate) fn put_in<K: Ord + Drop, V: Drop>(
                 right,
             } => match key.cmp(held) {
                 Ordering::Less => {
-                    let before = put_in(left, spare, key, value);
-                    rebalance(node);
-                    before
+                    let side = put_in(left, spare, key, value);
+                    rebalance(tree, side)
                 }
-                Ordering::Equal => Some(mem::replace(old, value)),
+                Ordering::Equal => {
+                    exchange(value, old);
+                    Height::Same
+                }
                 Ordering::Greater => {
-                    let before = put_in(right, spare, key, value);
-                    rebalance(node);
-                    before
+                    let side = put_in(right, spare, key, value);
+                    rebalance(tree, side)
                 }
             },
         },
     }
 }
 
-/// Takes a key out, and answers its value. Its box waits for another entry, or is freed.
+// The entry takes the place of a tree without entries.
+fn put_alone<K: Ord + Drop, V: Drop>(
+    tree: &mut Tree<K, V>,
+    spare: &mut Vec<Box<Node<K, V>>>,
+    key: K,
+    value: &mut Option<V>,
+) -> Height
+    requires room { 0 < vec_len spare.old }
+    requires given { IsTrue (is_some value.old) }
+    ensures value { value.new ≡ None }
+    ensures entries { entries_of tree.new ≡ put_given K.cmp key value.old [] }
+    ensures room { vec_len spare.old ≡ vec_len spare.new + 1 }
+{
+    match value.take() {
+        Some(value) => {
+            *tree = Tree::Fork(lone(spare, key, value));
+            Height::Changed
+        }
+        None => unreachable!(),
+    }
+}
+
+// The value that is handed in takes the place of one that is held.
+fn exchange<V>(value: &mut Option<V>, held: &mut V)
+    requires { IsTrue (is_some value.old) }
+    ensures given { value.old ≡ Some held.new }
+    ensures before { value.new ≡ Some held.old }
+{
+    match value {
+        Some(given) => mem::swap(given, held),
+        None => unreachable!(),
+    }
+}
+
+/// Takes a key out, and hands out its value. Its box waits for another entry, or is freed.
 pub(crate) fn take_from<K: Ord + Drop, V: Drop>(
     tree: &mut Tree<K, V>,
     spare: &mut Vec<Box<Node<K, V>>>,
     key: &K,
-) -> Option<V>
+    taken: &mut Option<V>,
+) -> Height
     requires rising { IsTrue (is_sorted K.cmp (entries_of tree.old)) }
-    ensures value { result ≡ find K.cmp key.now (entries_of tree.old) }
+    ensures value { taken.new ≡ find K.cmp key.now (entries_of tree.old) }
     ensures entries { entries_of tree.new ≡ without K.cmp key.now (entries_of tree.old) }
     ensures room { vec_len spare.old ≤ vec_len spare.new }
-    ensures one { vec_len spare.new ≤ vec_len spare.old + (if is_some result then 1 else 0) }
+    ensures one { vec_len spare.new ≤ vec_len spare.old + (if is_some taken.new then 1 else 0) }
 {
     match tree {
-        Tree::Empty => None,
+        Tree::Empty => {
+            *taken = None;
+            Height::Same
+        }
         Tree::Fork(node) => match &mut **node {
-            Node::Blank => None,
+            Node::Blank => {
+                *taken = None;
+                Height::Same
+            }
             Node::Full {
                 left,
                 key: held,
@@ -81,44 +118,48 @@ pub(crate) fn take_from<K: Ord + Drop, V: Drop>(
                 right,
             } => match key.cmp(held) {
                 Ordering::Less => {
-                    let before = take_from(left, spare, key);
-                    rebalance(node);
-                    before
+                    let side = take_from(left, spare, key, taken);
+                    rebalance(tree, side)
                 }
-                Ordering::Equal => take_root(tree, spare),
+                Ordering::Equal => take_root(tree, spare, taken),
                 Ordering::Greater => {
-                    let before = take_from(right, spare, key);
-                    rebalance(node);
-                    before
+                    let side = take_from(right, spare, key, taken);
+                    rebalance(tree, side)
                 }
             },
         },
     }
 }
 
-// Takes the entry of the root out.
-fn take_root<K: Drop, V: Drop>(tree: &mut Tree<K, V>, spare: &mut Vec<Box<Node<K, V>>>) -> Option<V>
-    ensures value { result ≡ root_value tree.old }
+// Takes the entry of the root out, and hands out its value.
+fn take_root<K: Drop, V: Drop>(
+    tree: &mut Tree<K, V>,
+    spare: &mut Vec<Box<Node<K, V>>>,
+    taken: &mut Option<V>,
+) -> Height
+    ensures value { taken.new ≡ root_value tree.old }
     ensures entries { entries_of tree.new ≡ beside_root tree.old }
     ensures room { vec_len spare.old ≤ vec_len spare.new }
-    ensures one { vec_len spare.new ≤ vec_len spare.old + (if is_some result then 1 else 0) }
+    ensures one { vec_len spare.new ≤ vec_len spare.old + (if is_some taken.new then 1 else 0) }
 {
+    *taken = None;
     let mut node = match mem::replace(tree, Tree::Empty) {
-        Tree::Empty => return None,
+        Tree::Empty => return Height::Same,
         Tree::Fork(node) => node,
     };
     match mem::replace(&mut *node, Node::Blank) {
-        Node::Blank => None,
+        Node::Blank => Height::Same,
         Node::Full {
             left,
             key: _,
             value,
-            height: _,
+            height,
             right,
         } => {
             *tree = joined(left, right);
             give_back(spare, node);
-            Some(value)
+            *taken = Some(value);
+            height_since(tree, height)
         }
     }
 }
@@ -130,50 +171,45 @@ fn joined<K: Drop, V: Drop>(left: Tree<K, V>, mut right: Tree<K, V>) -> Tree<K, 
     match take_first(&mut right) {
         None => left,
         Some(first) => {
-            let mut node = first.node;
-            *node = full(left, first.key, first.value, right);
-            rebalance(&mut node);
-            Tree::Fork(node)
+            let mut tree = between(left, first, right);
+            level(&mut tree);
+            tree
         }
     }
 }
 
-// An entry that was taken out, and its box.
-#[derive(Drop)]
-struct Taken<K, V> {
-    node: Box<Node<K, V>>,
-    key: K,
-    value: V,
-}
-
-// Takes the first entry out.
-fn take_first<K: Drop, V: Drop>(tree: &mut Tree<K, V>) -> Option<Taken<K, V>>
-    ensures first { IfSome result (λ first. entries_of tree.old ≡ (first.key, first.value) ∷ entries_of tree.new) }
+// Takes the box of the first entry out.
+fn take_first<K: Drop, V: Drop>(tree: &mut Tree<K, V>) -> Option<Box<Node<K, V>>>
+    ensures first { IfSome result (λ first. entries_of tree.old ≡ own_entry first.value ++ entries_of tree.new) }
+    ensures full { IfSome result (λ first. IsTrue (is_full first.value)) }
     ensures none { IfNone result (entries_of tree.old ≡ []) }
 {
     let mut node = match mem::replace(tree, Tree::Empty) {
         Tree::Empty => return None,
         Tree::Fork(node) => node,
     };
-    match mem::replace(&mut *node, Node::Blank) {
+    match &mut *node {
         Node::Blank => None,
         Node::Full {
-            mut left,
-            key,
-            value,
+            left,
+            key: _,
+            value: _,
             height: _,
             right,
-        } => match take_first(&mut left) {
-            None => {
-                *tree = right;
-                Some(Taken { node, key, value })
+        } => {
+            let before = height_of(left);
+            match take_first(left) {
+                None => {
+                    *tree = mem::replace(right, Tree::Empty);
+                    Some(node)
+                }
+                Some(first) => {
+                    let side = height_since(left, before);
+                    *tree = Tree::Fork(node);
+                    rebalance(tree, side);
+                    Some(first)
+                }
             }
-            Some(first) => {
-                *node = full(left, key, value, right);
-                rebalance(&mut node);
-                *tree = Tree::Fork(node);
-                Some(first)
-            }
-        },
+        }
     }
 }

@@ -155,7 +155,8 @@ impl<K: Ord + Drop, V: Drop> OrderedMap<K, V> {
         ensures rising { IsTrue (is_sorted K.cmp self.new.items) }
         ensures room { self.old.room ≤ self.new.room + (if is_some result then 0 else 1) }
     {
-        let before = put_in(&mut self.tree, &mut self.spare, key, value);
+        let mut before = Some(value);
+        put_in(&mut self.tree, &mut self.spare, key, &mut before);
         if before.is_none() {
             self.count += 1;
         }
@@ -169,7 +170,8 @@ impl<K: Ord + Drop, V: Drop> OrderedMap<K, V> {
         ensures rising { IsTrue (is_sorted K.cmp self.new.items) }
         ensures room { self.old.room ≤ self.new.room }
     {
-        let before = take_from(&mut self.tree, &mut self.spare, key);
+        let mut before = None;
+        take_from(&mut self.tree, &mut self.spare, key, &mut before);
         if before.is_some() {
             self.count -= 1;
         }

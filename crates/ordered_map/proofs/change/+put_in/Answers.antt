@@ -1,12 +1,12 @@
-use Rattle.std.proofs.Common.{◌≡◌, ◌∷◌, ◌++◌, sym, ap, ◌∙◌, rules, arith, IsTrue, None, ◌<◌}
+use Rattle.std.proofs.Common.{◌≡◌, ◌∷◌, ◌++◌, sym, ap, ◌∙◌, rules, arith, IsTrue, None, Some, ◌<◌}
 use Rattle.std.specs.Vec.{vec_len}
-use Rattle.std.specs.FinMap.Entries.{find, put, is_sorted}
-use Rattle.ordered_map.specs.Entries.{entries_of, node_entries}
+use Rattle.std.specs.FinMap.Entries.{find, is_sorted}
+use Rattle.ordered_map.specs.Entries.{entries_of, node_entries, put_given}
 use Rattle.ordered_map.proofs.SplitLemmas.{left_shorter, right_shorter, left_of, here_at, right_of}
 use Rattle.ordered_map.proofs.change.+put_in.Goals as goal
 
-pub put_in-before-requires : goal.put_in-before-requires
-put_in-before-requires g t c κs within =
+pub put_in-side-requires : goal.put_in-side-requires
+put_in-side-requires g t c κs within =
     let whole : entries_of c.args.tree.now ≡ entries_of c.in-Full.left ++ (c.in-Full.held, c.in-Full.old) ∷ entries_of c.in-Full.right = ap entries_of c.in-Fork.is ∙ ap node_entries (sym c.deref_mut.ensures.value ∙ c.in-Full.is) in
     let split = left_of g.K.Ord.cmp g.met.K.Ord.total c.args.key _ _ _ (ap (is_sorted g.K.Ord.cmp) (sym whole) ∙ c.requires.rising) (sym c.cmp.ensures ∙ c.in-Less.is) in
     let rising : IsTrue (is_sorted g.K.Ord.cmp (entries_of c.in-Full.left)) = split.rising in
@@ -15,8 +15,8 @@ put_in-before-requires g t c κs within =
     let room : find g.K.Ord.cmp c.args.key (entries_of c.in-Full.left) ≡ None → 0 < vec_len c.args.spare.now = λ none. c.requires.room (same ∙ none) in
     search rules
 
-pub put_in-before-requires-in-Greater : goal.put_in-before-requires-in-Greater
-put_in-before-requires-in-Greater g t c κs within =
+pub put_in-side-requires-in-Greater : goal.put_in-side-requires-in-Greater
+put_in-side-requires-in-Greater g t c κs within =
     let whole : entries_of c.args.tree.now ≡ entries_of c.in-Full.left ++ (c.in-Full.held, c.in-Full.old) ∷ entries_of c.in-Full.right = ap entries_of c.in-Fork.is ∙ ap node_entries (sym c.deref_mut.ensures.value ∙ c.in-Full.is) in
     let split = right_of g.K.Ord.cmp g.met.K.Ord.total c.args.key _ _ _ (ap (is_sorted g.K.Ord.cmp) (sym whole) ∙ c.requires.rising) (sym c.cmp.ensures ∙ c.in-Greater.is) in
     let rising : IsTrue (is_sorted g.K.Ord.cmp (entries_of c.in-Full.right)) = split.rising in
@@ -29,13 +29,13 @@ pub returns-in-Less-clause-value : goal.returns-in-Less-clause-value
 returns-in-Less-clause-value g t c =
     let whole : entries_of c.args.tree.now ≡ entries_of c.in-Full.left ++ (c.in-Full.held, c.in-Full.old) ∷ entries_of c.in-Full.right = ap entries_of c.in-Fork.is ∙ ap node_entries (sym c.deref_mut.ensures.value ∙ c.in-Full.is) in
     let split = left_of g.K.Ord.cmp g.met.K.Ord.total c.args.key _ _ _ (ap (is_sorted g.K.Ord.cmp) (sym whole) ∙ c.requires.rising) (sym c.cmp.ensures ∙ c.in-Less.is) in
-    c.put_in-before.ensures.value ∙ sym split.find_is ∙ ap (find g.K.Ord.cmp c.args.key) (sym whole)
+    c.put_in-side.ensures.value ∙ sym split.find_is ∙ ap (find g.K.Ord.cmp c.args.key) (sym whole)
 
 pub returns-in-Less-clause-entries : goal.returns-in-Less-clause-entries
 returns-in-Less-clause-entries g t c =
     let whole : entries_of c.args.tree.now ≡ entries_of c.in-Full.left ++ (c.in-Full.held, c.in-Full.old) ∷ entries_of c.in-Full.right = ap entries_of c.in-Fork.is ∙ ap node_entries (sym c.deref_mut.ensures.value ∙ c.in-Full.is) in
     let split = left_of g.K.Ord.cmp g.met.K.Ord.total c.args.key _ _ _ (ap (is_sorted g.K.Ord.cmp) (sym whole) ∙ c.requires.rising) (sym c.cmp.ensures ∙ c.in-Less.is) in
-    let same = ap (put g.K.Ord.cmp c.args.key c.args.value) whole ∙ split.put_is c.args.value in
+    let same = ap (put_given g.K.Ord.cmp c.args.key c.args.value.now) whole ∙ split.put_is c.args.value.now in
     grind (arith, same)
 
 pub returns-in-Equal-clause-value : goal.returns-in-Equal-clause-value
@@ -49,18 +49,18 @@ pub returns-in-Equal-clause-entries : goal.returns-in-Equal-clause-entries
 returns-in-Equal-clause-entries g t c =
     let whole : entries_of c.args.tree.now ≡ entries_of c.in-Full.left ++ (c.in-Full.held, c.in-Full.old) ∷ entries_of c.in-Full.right = ap entries_of c.in-Fork.is ∙ ap node_entries (sym c.deref_mut.ensures.value ∙ c.in-Full.is) in
     let split = here_at g.K.Ord.cmp g.met.K.Ord.total c.args.key _ _ _ (ap (is_sorted g.K.Ord.cmp) (sym whole) ∙ c.requires.rising) (sym c.cmp.ensures ∙ c.in-Equal.is) in
-    let same = ap (put g.K.Ord.cmp c.args.key c.args.value) whole ∙ split.put_is c.args.value in
+    let same = ap (λ o. put_given g.K.Ord.cmp c.args.key o (entries_of c.args.tree.now)) c.exchange.ensures.given ∙ ap (put_given g.K.Ord.cmp c.args.key (Some _)) whole ∙ split.put_is _ in
     grind (arith, same)
 
 pub returns-in-Greater-clause-value : goal.returns-in-Greater-clause-value
 returns-in-Greater-clause-value g t c =
     let whole : entries_of c.args.tree.now ≡ entries_of c.in-Full.left ++ (c.in-Full.held, c.in-Full.old) ∷ entries_of c.in-Full.right = ap entries_of c.in-Fork.is ∙ ap node_entries (sym c.deref_mut.ensures.value ∙ c.in-Full.is) in
     let split = right_of g.K.Ord.cmp g.met.K.Ord.total c.args.key _ _ _ (ap (is_sorted g.K.Ord.cmp) (sym whole) ∙ c.requires.rising) (sym c.cmp.ensures ∙ c.in-Greater.is) in
-    c.put_in-before-in-Greater.ensures.value ∙ sym split.find_is ∙ ap (find g.K.Ord.cmp c.args.key) (sym whole)
+    c.put_in-side-in-Greater.ensures.value ∙ sym split.find_is ∙ ap (find g.K.Ord.cmp c.args.key) (sym whole)
 
 pub returns-in-Greater-clause-entries : goal.returns-in-Greater-clause-entries
 returns-in-Greater-clause-entries g t c =
     let whole : entries_of c.args.tree.now ≡ entries_of c.in-Full.left ++ (c.in-Full.held, c.in-Full.old) ∷ entries_of c.in-Full.right = ap entries_of c.in-Fork.is ∙ ap node_entries (sym c.deref_mut.ensures.value ∙ c.in-Full.is) in
     let split = right_of g.K.Ord.cmp g.met.K.Ord.total c.args.key _ _ _ (ap (is_sorted g.K.Ord.cmp) (sym whole) ∙ c.requires.rising) (sym c.cmp.ensures ∙ c.in-Greater.is) in
-    let same = ap (put g.K.Ord.cmp c.args.key c.args.value) whole ∙ split.put_is c.args.value in
+    let same = ap (put_given g.K.Ord.cmp c.args.key c.args.value.now) whole ∙ split.put_is c.args.value.now in
     grind (arith, same)
