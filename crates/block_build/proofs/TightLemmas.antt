@@ -1,14 +1,12 @@
 -- Rules without those that lie within an earlier one are a tight form of all, which is right where all were.
 use Rattle.std.proofs.Common.{◌≡◌, ◌≤◌, Bool, true, false, ◌||◌, cond, Some, List, [], ◌∷◌, ◌++◌, length, refl, inl, inr, sym, ap, ◌∙◌, arith}
 use Rattle.std.proofs.lemmas.Bool.{cases_Bool, or_parts, or_cases, false≢true}
-use Rattle.events.specs.Sound.{IsRightBy, IsTight, cubes_of}
+use Rattle.events.specs.Sound.{IsTight, cubes_of}
 use Rattle.events.specs.Table.{first_rule}
 use Rattle.net_types.proofs.CubeLemmas.{has-within}
 use Rattle.net_types.proofs.SetLemmas
-use Rattle.net_types.specs.Answers.{Leaving}
 use Rattle.net_types.specs.Cubes.{has, lies_within_cube}
 use Rattle.net_types.specs.Sets.{HasNoRepeats, Member}
-use Rattle.net_types.specs.declared.address.PortNo.{PortNo}
 use Rattle.net_types.specs.declared.cube.Cube.{Cube}
 use Rattle.net_types.specs.declared.headers.Headers.{Headers}
 use Rattle.net_types.specs.declared.rule.Rule.{Rule}

@@ -50,7 +50,7 @@ fn push_joined(
     ensures lines { OnOk result (lines.new.items ≡ add_line lines.old.items (line (add_all x.now.results (received_items hop y.now.results)) cube)) }
     ensures agrees { OnOk result (Agrees lines.new.items seen.new) }
 {
-    if !is_hidden(seen, &cube) {
+    if !is_hidden(lines, seen, &cube) {
         let results = received_beside(alloc, &x.results, hop, &y.results)?;
         push_reached(lines, seen, Line { cube, results })?;
     }

@@ -1,10 +1,8 @@
 -- The set of the cubes seen tells which lines can be reached.
-use Rattle.std.proofs.Common.{◌≡◌, Bool, true, false, eqb, ◌&&◌, ◌||◌, cond, List, [], ◌∷◌, ◌++◌, refl, inl, inr, sym, ap, ◌∙◌}
+use Rattle.std.proofs.Common.{◌≡◌, ◌+◌, ◌<◌, ◌≤◌, Bool, true, false, eqb, ◌&&◌, ◌||◌, cond, List, [], ◌∷◌, ◌++◌, length, length-append, refl, inl, inr, sym, subst, ap, arith, ◌∙◌}
 use Rattle.std.specs.Option.{option_eq}
-use Rattle.std.specs.HashSet.{HashSet, contains}
-use Rattle.std.specs.declared.hash.FoldHasher.{FoldHasher}
-use Rattle.std.specs.declared.hash.BuildHasherDefault.{BuildHasherDefault}
-use Rattle.std.proofs.lemmas.Bool.{eqb-true, eq-eqb, and_parts, and_from, cases_Bool, false_from_ne_true, false≢true}
+use Rattle.std.specs.HashSet.{contains}
+use Rattle.std.proofs.lemmas.Bool.{cases_lt, lt-ltb, le-ltb, eqb-true, eq-eqb, and_parts, and_from, cases_Bool, false_from_ne_true, false≢true}
 use Rattle.net_types.specs.declared.cube.Cube.{Cube}
 use Rattle.net_types.specs.declared.prefix.Prefix.{Prefix}
 use Rattle.net_types.specs.Cubes.{same_port, everything, lies_within_cube}
@@ -13,7 +11,7 @@ use Rattle.net_types.proofs.CubeLemmas.{cubes_antisym, within_refl, within-from_
 use Rattle.classifier.specs.declared.line.Line.{Line}
 use Rattle.classifier.specs.Lines.{same_cube, is_shadowed, add_line}
 use Rattle.classifier.proofs.ItemLemmas.{option_eq_exact, option_eq_refl}
-use Rattle.classifier.specs.Seen.{is_there, prefix_eq, cube_eq, Agrees}
+use Rattle.classifier.specs.Seen.{Cubes, is_there, if_many, prefix_eq, cube_eq, HasAll, Agrees}
 
 -- ---- the set's equality
 
@@ -84,31 +82,68 @@ shadowed_is (x ∷ xs) y =
     or_swap false true false d = refl
     or_swap false false c d = refl
 
--- ---- the step
+-- ---- which lines are shadowed
 
-abbrev Cubes : Type 0
-Cubes = HashSet Cube (BuildHasherDefault FoldHasher)
+pub reached : (xs : List Line) (y : Line) → (is_there xs y.cube || is_there xs everything) ≡ false → xs ++ y ∷ [] ≡ add_line xs y
+reached xs y e = sym (ap (λ b. cond b xs (xs ++ y ∷ [])) (shadowed_is xs y ∙ e))
 
-module _ (xs : List Line) (seen : Cubes) (agrees : Agrees xs seen) (y : Line) where
-  -- the set tells which lines are shadowed
-  told : is_shadowed xs y ≡ (contains cube_eq seen y.cube || contains cube_eq seen everything)
-  told =
-      shadowed_is xs y ∙ ap (λ b. b || is_there xs everything) (sym (agrees.cubes y.cube))
-      ∙ ap (λ b. contains cube_eq seen y.cube || b) (sym (agrees.cubes everything))
+-- the list may be read under another name
+pub hidden : (xs ys : List Line) (y : Line) → ys ≡ xs → (is_there ys y.cube || is_there ys everything) ≡ true → xs ≡ add_line xs y
+hidden xs ys y same e = sym (ap (λ b. cond b xs (xs ++ y ∷ [])) (shadowed_is xs y ∙ subst (λ zs. (is_there zs y.cube || is_there zs everything) ≡ true) same e))
 
-  pub reached : (contains cube_eq seen y.cube || contains cube_eq seen everything) ≡ false → xs ++ y ∷ [] ≡ add_line xs y
-  reached e = sym (ap (λ b. cond b xs (xs ++ y ∷ [])) (told ∙ e))
+-- ---- the set
 
-  pub hidden : (contains cube_eq seen y.cube || contains cube_eq seen everything) ≡ true → xs ≡ add_line xs y
-  hidden e = sym (ap (λ b. cond b xs (xs ++ y ∷ [])) (told ∙ e))
+pub many : (xs : List Line) → 16 < length xs → if_many xs ≡ xs
+many xs long = ap (λ b. cond b xs []) (lt-ltb 16 (length xs) long)
 
-  pub agrees_more : (next : Cubes) → ((c : Cube) → contains cube_eq next c ≡ cond (cube_eq y.cube c) true (contains cube_eq seen c)) → Agrees (xs ++ y ∷ []) next
-  agrees_more next updates = record {
-    cubes = λ c. updates c ∙ either (cube_eq y.cube c) (contains cube_eq seen c) ∙ ap (λ b. b || cube_eq y.cube c) (agrees.cubes c) ∙ ap (λ b. is_there xs c || b) (cube_eq_is y.cube c) ∙ sym (is_there-push xs y c);
-  }
-    where
-      either : (b d : Bool) → cond b true d ≡ (d || b)
-      either true true = refl
-      either true false = refl
-      either false true = refl
-      either false false = refl
+pub none : (xs : List Line) → length xs ≤ 16 → if_many xs ≡ []
+none xs short = ap (λ b. cond b xs []) (le-ltb 16 (length xs) short)
+
+-- a long list's cubes are in the set
+pub has_all : (xs : List Line) (seen : Cubes) → Agrees xs seen → 16 < length xs → HasAll xs seen
+has_all xs seen agrees long = subst (λ ys. HasAll ys seen) (many xs long) agrees.cubes
+
+-- a short list's aren't
+pub has_none : (xs : List Line) (seen : Cubes) → Agrees xs seen → length xs ≤ 16 → HasAll [] seen
+has_none xs seen agrees short = subst (λ ys. HasAll ys seen) (none xs short) agrees.cubes
+
+-- one more line leaves the list short
+pub agrees_short : (xs : List Line) (seen : Cubes) (y : Line) → Agrees xs seen → length xs < 16 → Agrees (xs ++ y ∷ []) seen
+agrees_short xs seen y agrees short =
+    let before : length xs ≤ 16 = omega (arith, short) in
+    let size : length (xs ++ y ∷ []) ≡ length xs + 1 = length-append xs (y ∷ []) in
+    let after : length (xs ++ y ∷ []) ≤ 16 = omega (arith, short, size) in
+    record { cubes = subst (λ ys. HasAll ys seen) (sym (none (xs ++ y ∷ []) after)) (has_none xs seen agrees before) }
+
+-- the set has one more cube
+pub has_more : (xs : List Line) (seen next : Cubes) (y : Cube) (z : Line) → z.cube ≡ y → HasAll xs seen → ((c : Cube) → contains cube_eq next c ≡ cond (cube_eq y c) true (contains cube_eq seen c)) → HasAll (xs ++ z ∷ []) next
+has_more xs seen next y z same has updates c =
+    updates c ∙ either (cube_eq y c) (contains cube_eq seen c) ∙ ap (λ b. b || cube_eq y c) (has c) ∙ ap (λ b. is_there xs c || b) (cube_eq_is y c)
+    ∙ ap (λ x. is_there xs c || same_cube x c) (sym same) ∙ sym (is_there-push xs z c)
+  where
+    either : (b d : Bool) → cond b true d ≡ (d || b)
+    either true true = refl
+    either true false = refl
+    either false true = refl
+    either false false = refl
+
+-- and the list is long by now
+pub agrees_long : (xs : List Line) (next : Cubes) (y : Line) → HasAll (xs ++ y ∷ []) next → 16 ≤ length xs → Agrees (xs ++ y ∷ []) next
+agrees_long xs next y has long =
+    let size : length (xs ++ y ∷ []) ≡ length xs + 1 = length-append xs (y ∷ []) in
+    let after : 16 < length (xs ++ y ∷ []) = omega (arith, long, size) in
+    record { cubes = subst (λ ys. HasAll ys next) (sym (many (xs ++ y ∷ []) after)) has }
+
+-- only the cube matters
+pub agrees_by_cube : (xs : List Line) (next : Cubes) (y z : Line) → y.cube ≡ z.cube → Agrees (xs ++ y ∷ []) next → Agrees (xs ++ z ∷ []) next
+agrees_by_cube xs next y z same agrees = elim (cases_lt 16 (length (xs ++ y ∷ []))) [
+  | inl long ↦
+      let there : HasAll (xs ++ z ∷ []) next = (λ c. has_all (xs ++ y ∷ []) next agrees long c ∙ is_there-push xs y c ∙ ap (λ x. is_there xs c || same_cube x c) same ∙ sym (is_there-push xs z c)) in
+      let size : length (xs ++ y ∷ []) ≡ length xs + 1 = length-append xs (y ∷ []) in
+      let after : 16 ≤ length xs = omega (arith, long, size) in
+      agrees_long xs next z there after
+  | inr short ↦
+      let size : length (xs ++ y ∷ []) ≡ length (xs ++ z ∷ []) = length-append xs (y ∷ []) ∙ sym (length-append xs (z ∷ [])) in
+      let after : length (xs ++ z ∷ []) ≤ 16 = omega (arith, short, size) in
+      record { cubes = subst (λ ys. HasAll ys next) (sym (none (xs ++ z ∷ []) after)) (has_none (xs ++ y ∷ []) next agrees short) }
+]

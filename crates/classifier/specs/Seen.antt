@@ -1,5 +1,5 @@
--- The set of the cubes of a list of rules.
-use Rattle.std.specs.Prelude.{◌≡◌, ◌==◌, nat_eq, Bool, false, ◌&&◌, ◌||◌, List, [], ◌∷◌}
+-- The set of the cubes of a long list of rules.
+use Rattle.std.specs.Prelude.{◌≡◌, ◌==◌, nat_eq, nat_lt, Bool, false, ◌&&◌, ◌||◌, List, [], ◌∷◌, length, if◌then◌else◌}
 use Rattle.std.specs.Option.{option_eq}
 use Rattle.std.specs.HashSet.{HashSet, contains}
 use Rattle.std.specs.declared.hash.FoldHasher.{FoldHasher}
@@ -23,6 +23,18 @@ prefix_eq p q = (p.address.0 == q.address.0) && (p.len == q.len)
 abbrev pub cube_eq : Cube → Cube → Bool
 cube_eq a b = option_eq same_port a.inport b.inport && (prefix_eq a.src b.src && (prefix_eq a.dst b.dst && (option_eq nat_eq a.proto b.proto && (option_eq nat_eq a.sport b.sport && option_eq nat_eq a.dport b.dport))))
 
+-- sets of cubes
+abbrev pub Cubes : Type 0
+Cubes = HashSet Cube (BuildHasherDefault FoldHasher)
+
 -- the set has the cubes of the list
-pub record Agrees (xs : List Line) (seen : HashSet Cube (BuildHasherDefault FoldHasher)) : Type 0 where
-  pub cubes : (c : Cube) → contains cube_eq seen c ≡ is_there xs c
+abbrev pub HasAll : List Line → Cubes → Type 0
+HasAll xs seen = (c : Cube) → contains cube_eq seen c ≡ is_there xs c
+
+-- the list where it is long: the lines of a short one are looked at one by one
+abbrev pub if_many : List Line → List Line
+if_many xs = if nat_lt 16 (length xs) then xs else []
+
+-- the set has the cubes of the list where it is long, and none where it is short
+pub record Agrees (xs : List Line) (seen : Cubes) : Type 0 where
+  pub cubes : HasAll (if_many xs) seen

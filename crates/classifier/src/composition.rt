@@ -53,7 +53,7 @@ fn push_behind(
     ensures lines { OnOk result (lines.new.items ≡ add_line lines.old.items (line (joined Join.Union x.now.results (after_all first next.now)) cube)) }
     ensures agrees { OnOk result (Agrees lines.new.items seen.new) }
 {
-    if !is_hidden(seen, &cube) {
+    if !is_hidden(lines, seen, &cube) {
         let results = join_behind(&x.results, first, next)?;
         push_reached(lines, seen, Line { cube, results })?;
     }

@@ -1,21 +1,75 @@
-//! Rules are put last where they can be reached, which a set of the cubes seen tells.
+//! Rules are put last where they can be reached, which those before them tell, and a set of their cubes where they are many.
 
-ghost use Rattle.std.specs.Prelude.{◌≡◌, ◌||◌, false, OnOk};
-ghost use Rattle.std.specs.HashSet.{contains};
+ghost use Rattle.std.specs.Prelude.{◌≡◌, ◌||◌, ◌++◌, ◌∷◌, [], false, OnOk};
 ghost use Rattle.net_types.specs.Cubes.{everything};
-ghost use Rattle.classifier.specs.Lines.{add_line, add_lines, line, joined};
-ghost use Rattle.classifier.specs.Seen.{Agrees, cube_eq};
+ghost use Rattle.classifier.specs.Lines.{add_line, add_lines, line, joined, same_cube};
+ghost use Rattle.classifier.specs.Seen.{Agrees, HasAll, is_there};
 
 use crate::join::{Join, join_results};
 use crate::line::Line;
 use net_types::{Cube, Memory};
 use std::collections::HashSet;
 
-/// Whether a rule of this cube can never be reached behind those that were seen.
-pub fn is_hidden(seen: &HashSet<Cube>, cube: &Cube) -> bool
-    ensures { result ≡ (contains cube_eq seen.now cube.now || contains cube_eq seen.now everything) }
+/// How many rules are looked at one by one, which is less work than to look for one's cube in a set.
+const FEW: usize = 16;
+
+/// Whether two cubes are equal.
+fn is_same(a: &Cube, b: &Cube) -> bool
+    ensures { result ≡ same_cube a.now b.now }
 {
-    seen.contains(cube) || seen.contains(&Cube::everything())
+    a == b
+}
+
+/// Whether one of the rules has this cube, or that of all headers.
+fn has_cube(lines: &[Line], cube: &Cube) -> bool
+    ensures { result ≡ (is_there lines.now cube.now || is_there lines.now everything) }
+{
+    let all = Cube::everything();
+    for line in lines {
+        if is_same(&line.cube, cube) || is_same(&line.cube, &all) {
+            return true;
+        }
+    }
+    false
+}
+
+/// Whether a rule of this cube can never be reached behind the others.
+pub fn is_hidden(lines: &[Line], seen: &HashSet<Cube>, cube: &Cube) -> bool
+    requires { Agrees lines.now seen.now }
+    ensures { result ≡ (is_there lines.now cube.now || is_there lines.now everything) }
+{
+    if lines.len() > FEW {
+        seen.contains(cube) || seen.contains(&Cube::everything())
+    } else {
+        has_cube(lines, cube)
+    }
+}
+
+/// Puts the cubes of rules into a set, which has none of them yet where they are few.
+fn note_all(lines: &[Line], seen: &mut HashSet<Cube>) -> Result<(), Memory>
+    requires { Agrees lines.now seen.old }
+    ensures { OnOk result (HasAll lines.now seen.new) }
+{
+    if lines.len() > FEW {
+        return Ok(());
+    }
+    for line in lines {
+        seen.insert(line.cube)?;
+    }
+    Ok(())
+}
+
+/// Has the set ready for one more rule, of this cube.
+fn note_next(lines: &[Line], seen: &mut HashSet<Cube>, cube: Cube) -> Result<(), Memory>
+    requires { Agrees lines.now seen.old }
+    ensures { OnOk result (Agrees (lines.now ++ line [] cube ∷ []) seen.new) }
+{
+    if lines.len() < FEW {
+        return Ok(());
+    }
+    note_all(lines, seen)?;
+    seen.insert(cube)?;
+    Ok(())
 }
 
 /// Puts a rule last that can be reached.
@@ -25,11 +79,11 @@ pub fn push_reached(
     next: Line,
 ) -> Result<(), Memory>
     requires agrees { Agrees lines.old.items seen.old }
-    requires reached { (contains cube_eq seen.old next.cube || contains cube_eq seen.old everything) ≡ false }
+    requires reached { (is_there lines.old.items next.cube || is_there lines.old.items everything) ≡ false }
     ensures lines { OnOk result (lines.new.items ≡ add_line lines.old.items next) }
     ensures agrees { OnOk result (Agrees lines.new.items seen.new) }
 {
-    seen.insert(next.cube)?;
+    note_next(lines, seen, next.cube)?;
     lines.push(next)?;
     Ok(())
 }
@@ -40,7 +94,7 @@ pub fn push_line(lines: &mut Vec<Line>, seen: &mut HashSet<Cube>, next: Line) ->
     ensures lines { OnOk result (lines.new.items ≡ add_line lines.old.items next) }
     ensures agrees { OnOk result (Agrees lines.new.items seen.new) }
 {
-    if !is_hidden(seen, &next.cube) {
+    if !is_hidden(lines, seen, &next.cube) {
         push_reached(lines, seen, next)?;
     }
     Ok(())
@@ -76,7 +130,7 @@ pub fn push_joined(
     ensures lines { OnOk result (lines.new.items ≡ add_line lines.old.items (line (joined join x.now.results y.now.results) cube)) }
     ensures agrees { OnOk result (Agrees lines.new.items seen.new) }
 {
-    if !is_hidden(seen, &cube) {
+    if !is_hidden(lines, seen, &cube) {
         let results = join_results(join, &x.results, &y.results)?;
         push_reached(lines, seen, Line { cube, results })?;
     }

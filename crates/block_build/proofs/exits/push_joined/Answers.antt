@@ -8,4 +8,4 @@ use Rattle.block_build.proofs.exits.push_joined.Goals as goal
 
 pub returns-else-not-is_hidden-clause-lines : goal.returns-else-not-is_hidden-clause-lines
 returns-else-not-is_hidden-clause-lines c =
-    hidden c.args.lines.now.items c.args.seen.now c.requires (line (add_all c.args.x.now.results (received_items c.args.hop c.args.y.now.results)) c.args.cube) (sym c.is_hidden.ensures ∙ c.if-not-is_hidden.false)
+    hidden c.args.lines.now.items c.deref.result.now (line (add_all c.args.x.now.results (received_items c.args.hop c.args.y.now.results)) c.args.cube) c.deref.ensures.value (sym c.is_hidden.ensures ∙ c.if-not-is_hidden.false)

@@ -6,4 +6,4 @@ use Rattle.classifier.proofs.composition.push_behind.Goals as goal
 
 pub returns-else-not-is_hidden-clause-lines : goal.returns-else-not-is_hidden-clause-lines
 returns-else-not-is_hidden-clause-lines c =
-    hidden c.args.lines.now.items c.args.seen.now c.requires (line (joined Union c.args.x.now.results (after_all c.args.first c.args.next.now)) c.args.cube) (sym c.is_hidden.ensures ∙ c.if-not-is_hidden.false)
+    hidden c.args.lines.now.items c.deref.result.now (line (joined Union c.args.x.now.results (after_all c.args.first c.args.next.now)) c.args.cube) c.deref.ensures.value (sym c.is_hidden.ensures ∙ c.if-not-is_hidden.false)

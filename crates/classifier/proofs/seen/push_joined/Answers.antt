@@ -5,4 +5,4 @@ use Rattle.classifier.proofs.seen.push_joined.Goals as goal
 
 pub returns-else-not-is_hidden-clause-lines : goal.returns-else-not-is_hidden-clause-lines
 returns-else-not-is_hidden-clause-lines c =
-    hidden c.args.lines.now.items c.args.seen.now c.requires (line (joined c.args.join c.args.x.now.results c.args.y.now.results) c.args.cube) (sym c.is_hidden.ensures ∙ c.if-not-is_hidden.false)
+    hidden c.args.lines.now.items c.deref.result.now (line (joined c.args.join c.args.x.now.results c.args.y.now.results) c.args.cube) c.deref.ensures.value (sym c.is_hidden.ensures ∙ c.if-not-is_hidden.false)
