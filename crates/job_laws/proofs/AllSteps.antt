@@ -2,7 +2,7 @@
 use Rattle.std.proofs.Common.{◌≡◌, ℕ, ◌-◌, ◌≤◌, Bool, true, false, nat_lt, List, [], ◌∷◌, ap, sym, subst, ◌∙◌, refl, inl, inr}
 use Rattle.std.specs.Prelude.{Option, Some, None, MatchOption}
 use Rattle.std.specs.Option.{option_map}
-use Rattle.events.specs.After.{after, all_units, merged, next, next_by, put_flows, without_pairs}
+use Rattle.events.specs.After.{all_units, merged, next, next_by, put_flows, without_pairs}
 use Rattle.events.specs.Fits.{FitsBy, bare, IsFinished, IsWorked, Passes, is_building, is_of_job}
 use Rattle.events.specs.Forms.{IsWellFormed}
 use Rattle.events.specs.Legal.{LegalFrom, state_from}
@@ -11,8 +11,7 @@ use Rattle.events.specs.Sound.{IsSound}
 use Rattle.events.specs.State.{State, first}
 use Rattle.events.specs.declared.Event.{Event}
 use Rattle.events.specs.declared.Event.TheVariants.{Recompile, Work}
-use Rattle.events.specs.declared.Head.{Head}
-use Rattle.events.specs.declared.Head.TheVariants.{Fine, Working, Finished, Unrouted, Unresolved, Silent, Refused}
+use Rattle.events.specs.declared.Head.TheVariants.{Working}
 use Rattle.events.specs.declared.Refusal.{Refusal}
 use Rattle.events.specs.declared.Reply.{Reply}
 use Rattle.exchange_laws.proofs.Lists.{TableOf}
@@ -27,6 +26,7 @@ use Rattle.job_laws.specs.Jobs.{IsSteadyInJob, without_job}
 use Rattle.job_laws.specs.Steps.{AllRunsStaySteady, AllStepsStaySteady, SteadyWithoutJobs}
 use Rattle.job_laws.specs.Units.{owing}
 use Rattle.net_types.specs.Sets.{Member}
+use Rattle.reply_laws.proofs.NextStates.{next_holds}
 
 -- ---- without a job
 
@@ -45,20 +45,10 @@ few_left : (f : ℕ → ℕ) (o : Option ℕ) → ((n : ℕ) → n ≤ 112589990
 few_left f None keeps few = tt
 few_left f (Some n) keeps few = keeps n few
 
-few_next : (s : State) (e : Event) (r : Reply) (h : Head) → is_of_job e ≡ false → OwesFew s.owed → OwesFew (next_by h s e r).owed
-few_next s e r h other few = by h
-  where
-    left : OwesFew (after s e).owed
-    left = let owed = owed_after s e other in subst OwesFew (sym owed.is) (few_left owed.change s.owed owed.few few)
-
-    by : (head : Head) → OwesFew (next_by head s e r).owed
-    by (Refused why) = few
-    by Fine = left
-    by (Working units) = left
-    by Finished = left
-    by Unrouted = left
-    by (Unresolved ip) = left
-    by Silent = left
+few_next : (s : State) (e : Event) (r : Reply) → is_of_job e ≡ false → OwesFew s.owed → OwesFew (next s e r).owed
+few_next s e r other few =
+    let owed = owed_after s e other in
+    next_holds (λ x. OwesFew x.owed) s e r r.head few (subst OwesFew (sym owed.is) (few_left owed.change s.owed owed.few few))
 
 -- ---- a job's line
 
@@ -101,7 +91,7 @@ all_steps_stay_steady s e r steady formed fits = by (is_of_job e) refl
     by true own = own_step s r steady e (refusal s e) own refl fits
     by false other = record {
       steady = subst IsSteady (sym (leaves_alike s e r other)) (steps_stay_steady (without_job s) e r steady.steady formed other (fits_alike s None e r other fits));
-      few = few_next s e r r.head other steady.few;
+      few = few_next s e r other steady.few;
     }
 
 from_steady : (s : State) (es : List Event) (rs : List Reply) → ((e : Event) → Member e es → IsWellFormed e) → IsSteadyInJob s → LegalFrom s es rs → IsSteadyInJob (state_from s es rs)

@@ -1,10 +1,9 @@
 -- A job ends with right and tight rules, no more for a pair than it had.
-use Rattle.std.proofs.Common.{◌≡◌, ℕ, ◌+◌, ◌-◌, ◌≤◌, ◌<◌, ◌^◌, Bool, true, false, cond, nat_eq, nat_lt, not, List, [], ◌∷◌, filter, length, map, sum_by, ap, sym, subst, ◌∙◌, refl, arith, inl, inr}
-use Rattle.std.specs.Prelude.{Option, Some, None, MatchOption, is_some, unwrap_or}
+use Rattle.std.proofs.Common.{◌≡◌, ℕ, ◌+◌, ◌-◌, ◌≤◌, ◌<◌, ◌^◌, Bool, true, false, cond, nat_eq, nat_lt, not, List, [], ◌∷◌, filter, length, sum_by, ap, sym, subst, ◌∙◌, refl, arith}
+use Rattle.std.specs.Prelude.{Some, MatchOption, is_some, unwrap_or}
 use Rattle.std.specs.Cmp.Lexicographic.{pointwise}
-use Rattle.std.specs.FinMap.{contains_key-keys, entries, get, keys, values}
-use Rattle.std.specs.Ordering.{eq_by_cmp}
-use Rattle.std.proofs.lemmas.Bool.{eqb-true, le-ltb}
+use Rattle.std.specs.FinMap.{contains_key-keys, get, keys, values}
+use Rattle.std.proofs.lemmas.Bool.{eqb-true, le-ltb, not-false}
 use Rattle.std.proofs.lemmas.List.Filters.{sum_by-filter_both}
 use Rattle.std.proofs.lemmas.List.Sums.{sum_by-cons}
 use Rattle.events.specs.After.{after, merged, next, next_by, put_flows, running, with_known, without_pairs, worked}
@@ -16,7 +15,6 @@ use Rattle.events.specs.declared.Event.TheVariants.{Work}
 use Rattle.events.specs.declared.Phase.TheVariants.{Start}
 use Rattle.events.specs.declared.Reply.{Reply}
 use Rattle.exchange_laws.proofs.Built.{right_rules_are_some}
-use Rattle.exchange_laws.proofs.Counted.{entry_at}
 use Rattle.exchange_laws.proofs.Flows.{replies_build_tables}
 use Rattle.exchange_laws.proofs.FullTables.{accepted_lines_fit}
 use Rattle.exchange_laws.proofs.Lists.{TableOf, key_Member, some_of}
@@ -26,6 +24,7 @@ use Rattle.exchange_laws.specs.Replies.{IsBuiltOn}
 use Rattle.exchange_laws.specs.Steady.{IsSteady}
 use Rattle.job_laws.proofs.JobUnits.{works_later}
 use Rattle.job_laws.proofs.MergedStates.{kept_for, kept_is, kept_live, live_kept, pair_was_live, tag_there, tag_was_live}
+use Rattle.job_laws.proofs.MergedTags.{some_cond}
 use Rattle.job_laws.proofs.SameRules.{rules_test}
 use Rattle.job_laws.specs.Ending.{IsTableAtEnd, JobsEnd}
 use Rattle.job_laws.specs.Jobs.{without_job}
@@ -35,45 +34,25 @@ use Rattle.net_types.proofs.OrderLemmas.{pairs_total}
 use Rattle.net_types.proofs.OrderedLemmas.{member_any}
 use Rattle.net_types.proofs.RisingLemmas.{Member-filter, before, before_itself, before_trans, filter-IsRising, filter-Member, keys-IsRising}
 use Rattle.net_types.proofs.SetLemmas.{rising_unique}
-use Rattle.net_types.proofs.TieLemmas.{pair_cmp-IsAntisymmetric, same_from_tie}
 use Rattle.net_types.specs.Attributes.{same_option}
 use Rattle.net_types.specs.Keys.{pair_cmp}
 use Rattle.net_types.specs.Sets.{Member}
 use Rattle.net_types.specs.declared.route.PortInfo.{PortInfo}
 use Rattle.net_types.specs.declared.rule.Pair.{Pair}
 use Rattle.net_types.specs.declared.rule.Rule.{Rule}
+use Rattle.reply_laws.proofs.BuiltLines.{counted, tie}
 
 -- ---- rules that are the same
 
-turned : (b : Bool) → not b ≡ false → b ≡ true
-turned true e = refl
-turned false e = absurd (cc)
-
 -- a pair whose rules aren't others has the same ones
 same_rules : (s s1 : State) (pair : Pair) → has_other_rules s s1 pair ≡ false → get s.table pair ≡ get s1.table pair
-same_rules s s1 pair same = (option_test (pointwise same_rule) rules_test (get s.table pair) (get s1.table pair)).0 (turned (same_option (pointwise same_rule) (get s.table pair) (get s1.table pair)) same)
+same_rules s s1 pair same = (option_test (pointwise same_rule) rules_test (get s.table pair) (get s1.table pair)).0 (not-false (same_option (pointwise same_rule) (get s.table pair) (get s1.table pair)) same)
 
 -- ---- how many rules a table has
-
-pairs_tie : (x y : Pair) → eq_by_cmp pair_cmp x y ≡ true → x ≡ y
-pairs_tie = same_from_tie pair_cmp pair_cmp-IsAntisymmetric
 
 -- the rules of a pair in a table
 abbrev rules_of : TableOf → Pair → ℕ
 rules_of t pair = length (unwrap_or (get t pair) [])
-
--- the rules of entries are counted by their pairs
-counted_in : (t : TableOf) (es : List (Pair × List Rule)) → ((e : Pair × List Rule) → Member e es → get t e.0 ≡ Some e.1)
-    → sum_by (λ (rules : List Rule). length rules) (map (λ (e : Pair × List Rule). e.1) es) ≡ sum_by (rules_of t) (map (λ (e : Pair × List Rule). e.0) es)
-counted_in t [] at = refl
-counted_in t (e ∷ es) at =
-    sum_by-cons (λ (rules : List Rule). length rules) e.1 (map (λ (d : Pair × List Rule). d.1) es)
-    ∙ ap (λ n. length e.1 + n) (counted_in t es (λ d m. at d (inr m)))
-    ∙ ap (λ o. length (unwrap_or o []) + sum_by (rules_of t) (map (λ (d : Pair × List Rule). d.0) es)) (sym (at e (inl refl)))
-    ∙ sym (sum_by-cons (rules_of t) e.0 (map (λ (d : Pair × List Rule). d.0) es))
-
-counted : (t : TableOf) → sum_by (λ (rules : List Rule). length rules) (values t) ≡ sum_by (rules_of t) (keys t)
-counted t = counted_in t (entries t) (entry_at t)
 
 -- what is less at each member is less together
 sums_below : (f g : Pair → ℕ) (xs : List Pair) → ((x : Pair) → f x ≤ g x) → sum_by f xs ≤ sum_by g xs
@@ -85,8 +64,9 @@ sums_below f g (x ∷ xs) each =
     let second : sum_by g (x ∷ xs) ≡ g x + sum_by g xs = sum_by-cons g x xs in
     omega arith
 
-there : (t : TableOf) (pair : Pair) → Member pair (keys t) → is_some (get t pair) ≡ true
-there t pair m = contains_key-keys t pair ∙ member_any pair_cmp pairs_total pairs_tie pair (keys t) m
+-- a key has something
+pub there : (t : TableOf) (pair : Pair) → Member pair (keys t) → is_some (get t pair) ≡ true
+there t pair m = contains_key-keys t pair ∙ member_any pair_cmp pairs_total tie pair (keys t) m
 
 -- a table whose pairs are among those of another, each with no more rules, has no more rules
 fewer_rules : (old new : TableOf) → ((pair : Pair) → is_some (get new pair) ≡ true → is_some (get old pair) ≡ true) → ((pair : Pair) → rules_of new pair ≤ rules_of old pair)
@@ -96,8 +76,8 @@ fewer_rules old new among each =
     let those : keys new ≡ filter stands (keys old) =
     rising_unique (before pair_cmp) (before_itself pair_cmp pairs_total) (before_trans pair_cmp pairs_total) (keys new) (filter stands (keys old)) (keys-IsRising pair_cmp new)
     (filter-IsRising (before pair_cmp) stands (keys old) (keys-IsRising pair_cmp old)) (record {
-      onto = λ pair m. let is : stands pair ≡ true = there new pair m in Member-filter stands (keys old) pair (key_Member pair_cmp pairs_total pairs_tie old pair (among pair is)) is;
-      back = λ pair m. key_Member pair_cmp pairs_total pairs_tie new pair (filter-Member stands (keys old) pair m).passes;
+      onto = λ pair m. let is : stands pair ≡ true = there new pair m in Member-filter stands (keys old) pair (key_Member pair_cmp pairs_total tie old pair (among pair is)) is;
+      back = λ pair m. key_Member pair_cmp pairs_total tie new pair (filter-Member stands (keys old) pair m).passes;
     }) in
     let less : sum_by (rules_of new) (keys new) ≤ sum_by (rules_of old) (keys new) = sums_below (rules_of new) (rules_of old) (keys new) each in
     let same : sum_by (rules_of old) (keys new) ≡ sum_by (rules_of old) (filter stands (keys old)) = ap (sum_by (rules_of old)) those in
@@ -135,15 +115,11 @@ ended_steady s table steady later sound = record {
   rising = steady.rising;
   few = steady.few;
   policies = kept_passed (without_job s) (record (merged s) { table = table }) refl steady.policies;
-  whole = λ t sig is part m. steady.whole t sig (was (is_live (merged s) t) (get s.kept t) sig (sym (kept_is s steady t) ∙ is)) part m;
+  whole = λ t sig is part m. steady.whole t sig (some_cond (is_live (merged s) t) (get s.kept t) sig (sym (kept_is s steady t) ∙ is)) part m;
   idle = refl;
   sized = record { start = λ e. absurd (cc); small = steady.sized.small; low = λ e. steady.sized.low later; high = steady.sized.high; room = steady.sized.room };
   new = λ not. absurd (not refl);
 }
-  where
-    was : {X : Type 0} (b : Bool) (o : Option X) (x : X) → cond b o None ≡ Some x → o ≡ Some x
-    was true o x e = e
-    was false o x e = absurd (cc)
 
 module _ (s : State) (steady : IsSteady (without_job s)) (table : TableOf) (is : IsTableAtEnd s table) where
   abbrev s1 : State

@@ -76,7 +76,7 @@ pub record IsMergedTag (s : State) (p : Prefix) (t : Tag) : Type 0 where
   pub alike : signature s.routing like ≡ signature s.routing p
   pub least : (q : Prefix) (u : Tag) → is_carried s.routing q ≡ true → get s.tag q ≡ Some u → signature s.routing q ≡ signature s.routing p → t.0 ≤ u.0
 
-some_cond : {A : Type 0} (b : Bool) (o : Option A) (x : A) → cond b o None ≡ Some x → o ≡ Some x
+pub some_cond : {A : Type 0} (b : Bool) (o : Option A) (x : A) → cond b o None ≡ Some x → o ≡ Some x
 some_cond true o x e = e
 some_cond false o x e = absurd (cc)
 

@@ -43,6 +43,7 @@ use Rattle.net_types.specs.declared.rule.Pair.{Pair}
 use Rattle.net_types.specs.declared.rule.Rule.{Rule}
 use Rattle.net_types.specs.declared.update.Fault.{Fault}
 use Rattle.net_types.specs.declared.update.Update.{Update as Message}
+use Rattle.reply_laws.proofs.NextStates.{next_holds}
 
 -- the state with a job that owes so much, or without one
 abbrev pub with_owed : State → Option ℕ → State
@@ -265,24 +266,12 @@ module _ (s : State) (o : Option ℕ) (e : Event) (r : Reply) (other : is_of_job
 -- ---- without a job
 
 -- a line that isn't a job's starts none
-idle_next : (s : State) (e : Event) (r : Reply) (h : Head) → is_of_job e ≡ false → s.owed ≡ None → (next_by h s e r).owed ≡ None
-idle_next s e r h other idle = by h
-  where
-    started : (after s e).owed ≡ None
-    started = let owed = owed_after s e other in owed.is ∙ ap (option_map owed.change) idle
-
-    by : (head : Head) → (next_by head s e r).owed ≡ None
-    by (Refused why) = idle
-    by Fine = started
-    by (Working units) = started
-    by Finished = started
-    by Unrouted = started
-    by (Unresolved ip) = started
-    by Silent = started
+idle_next : (s : State) (e : Event) (r : Reply) → is_of_job e ≡ false → s.owed ≡ None → (next s e r).owed ≡ None
+idle_next s e r other idle = let owed = owed_after s e other in next_holds (λ x. x.owed ≡ None) s e r r.head idle (owed.is ∙ ap (option_map owed.change) idle)
 
 pub leaves_alike : (s : State) (e : Event) (r : Reply) → is_of_job e ≡ false → without_job (next s e r) ≡ next (without_job s) e r
 leaves_alike s e r other =
-    sym (next_alike s None e r other ∙ ap (with_owed (next s e r)) (idle_next (without_job s) e r r.head other refl))
+    sym (next_alike s None e r other ∙ ap (with_owed (next s e r)) (idle_next (without_job s) e r other refl))
 
 pub jobs_leave_lines : JobsLeaveLines
 jobs_leave_lines s e r other = ((fits_alike s None e r other, fits_alike (without_job s) s.owed e r other), leaves_alike s e r other)

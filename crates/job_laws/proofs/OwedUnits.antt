@@ -60,20 +60,14 @@ units_stay s Bad other quiet = refl
 units_stay s (Exchange base size capacity) other quiet = refl
 units_stay s (DeclaresParticipant name asn id) other quiet = refl
 units_stay s (DeclaresPort name number ip mac) other quiet = known_owed s (pid_of s.routing name) (λ who. with_port s (record { owner = who; number = number; ip = ip; mac = mac })) (λ who. refl)
-units_stay s (Update name bytes) other quiet = absurd (cc)
-units_stay s (Down name) other quiet = absurd (cc)
-units_stay s (Export name text) other quiet = absurd (cc)
-units_stay s (Outbound name text) other quiet = absurd (cc)
-units_stay s (Inbound name text) other quiet = absurd (cc)
 units_stay s (Take name count) other quiet = known_owed s (pid_of s.routing name) (λ who. settled (running (taken s who (take count (pending s who))))) (λ who. refl)
 units_stay s (Drain name) other quiet = known_owed s (pid_of s.routing name) (λ who. settled (running (with_told s who (present s who)))) (λ who. refl)
 units_stay s (Arp n bytes) other quiet = known_owed s (port_of s n) (λ q. running (with_answer s q bytes)) (λ q. answer_owed s q bytes)
 units_stay s (Resolve n) other quiet = known_owed s (port_of s n) (λ q. running (with_resolved s n (unresolved s q))) (λ q. resolved_owed s n (unresolved s q))
 units_stay s (Packet n bytes) other quiet = refl
 units_stay s (Frame n bytes) other quiet = refl
-units_stay s Recompile other quiet = absurd (cc)
-units_stay s (Work units) other quiet = absurd (cc)
 units_stay s Table other quiet = refl
+units_stay s e other quiet = absurd (cc)
 
 -- ---- lines that build rules
 
@@ -117,22 +111,7 @@ units_start_anew s (Inbound name text) none building other =
     let refuses : Pid → Option Refusal = λ w. inbound_refusal s w (policy_of_text text) in
     let k = known (pid_of s.routing name) (λ w. if_short text (refuses w)) (passes s (Inbound name text) none).1 in
     known_owes s (pid_of s.routing name) (λ w. received_by s w text (policy_of_text text)) k.0 k.1 (received_owes s k.0 text (policy_of_text text) (short (nat_lt 8192 (length text)) (refuses k.0) k.2))
-units_start_anew s (Update name bytes) none building other = absurd (cc)
-units_start_anew s (Down name) none building other = absurd (cc)
-units_start_anew s (Export name text) none building other = absurd (cc)
-units_start_anew s Bad none building other = absurd (cc)
-units_start_anew s (Exchange base size capacity) none building other = absurd (cc)
-units_start_anew s (DeclaresParticipant name asn id) none building other = absurd (cc)
-units_start_anew s (DeclaresPort name number ip mac) none building other = absurd (cc)
-units_start_anew s (Take name count) none building other = absurd (cc)
-units_start_anew s (Drain name) none building other = absurd (cc)
-units_start_anew s (Arp n bytes) none building other = absurd (cc)
-units_start_anew s (Resolve n) none building other = absurd (cc)
-units_start_anew s (Packet n bytes) none building other = absurd (cc)
-units_start_anew s (Frame n bytes) none building other = absurd (cc)
-units_start_anew s Recompile none building other = absurd (cc)
-units_start_anew s (Work units) none building other = absurd (cc)
-units_start_anew s Table none building other = absurd (cc)
+units_start_anew s e none building other = absurd (cc)
 
 -- ---- how much a job owes
 

@@ -3,7 +3,6 @@ use Rattle.std.proofs.Common.{◌≡◌, ◌⊎◌, ℕ, ◌-◌, ◌≤◌, ◌
 use Rattle.std.specs.Prelude.{Option, Some, None, is_some, unwrap_or}
 use Rattle.std.specs.FinMap.{get, keys}
 use Rattle.std.specs.Option.{option_map}
-use Rattle.std.specs.Ordering.{eq_by_cmp}
 use Rattle.std.proofs.lemmas.Bool.{cases_lt}
 use Rattle.block_build.proofs.TightLemmas.{sifted-form, tight_forms_stay_right}
 use Rattle.block_build.specs.Tight.{sifted}
@@ -34,7 +33,6 @@ use Rattle.job_laws.specs.Ending.{IsTableAtEnd}
 use Rattle.job_laws.specs.Jobs.{IsSteadyInJob, without_job}
 use Rattle.job_laws.specs.Replying.{AllLinesHaveReplies, AllRunsGoOn}
 use Rattle.net_types.proofs.OrderLemmas.{pairs_total}
-use Rattle.net_types.proofs.TieLemmas.{pair_cmp-IsAntisymmetric, same_from_tie}
 use Rattle.net_types.specs.Answers.{Policies, part_answer}
 use Rattle.net_types.specs.Cells.{cell_atoms}
 use Rattle.net_types.specs.Keys.{pair_cmp}
@@ -42,6 +40,7 @@ use Rattle.net_types.specs.Maps.{tabulate}
 use Rattle.net_types.specs.Sets.{Member}
 use Rattle.net_types.specs.declared.rule.Pair.{Pair}
 use Rattle.net_types.specs.declared.rule.Rule.{Rule}
+use Rattle.reply_laws.proofs.BuiltLines.{tie}
 use Rattle.reply_laws.proofs.EveryLine.{lines_have_replies}
 use Rattle.reply_laws.proofs.PortMacs.{ports_keep_macs}
 use Rattle.reply_laws.specs.Replying.{HasOctets, PortsHaveMacs}
@@ -55,9 +54,6 @@ module _ (s : State) (steady : IsSteady (without_job s)) where
 
   abbrev table : TableOf
   table = tabulate pair_cmp (keys s.table) left
-
-  tie : (x y : Pair) → eq_by_cmp pair_cmp x y ≡ true → x ≡ y
-  tie = same_from_tie pair_cmp pair_cmp-IsAntisymmetric
 
   had_rules : (b : Bool) (o : Option (List Rule)) → is_some (cond b (option_map (sifted []) o) None) ≡ true → is_some o ≡ true
   had_rules true None e = e

@@ -62,10 +62,10 @@ counted_in t (e ∷ es) at =
     ∙ ap (λ o. length (unwrap_or o []) + sum_by (λ pair. length (unwrap_or (get t pair) [])) (map (λ (d : Pair × List Rule). d.0) es)) (sym (at e (inl refl)))
     ∙ sym (sum_by-cons (λ pair. length (unwrap_or (get t pair) [])) e.0 (map (λ (d : Pair × List Rule). d.0) es))
 
-counted : (t : TableOf) → sum_by (λ (rules : List Rule). length rules) (values t) ≡ sum_by (λ pair. length (unwrap_or (get t pair) [])) (keys t)
+pub counted : (t : TableOf) → sum_by (λ (rules : List Rule). length rules) (values t) ≡ sum_by (λ pair. length (unwrap_or (get t pair) [])) (keys t)
 counted t = counted_in t (entries t) (entry_at t)
 
-tie : (x y : Pair) → eq_by_cmp pair_cmp x y ≡ true → x ≡ y
+pub tie : (x y : Pair) → eq_by_cmp pair_cmp x y ≡ true → x ≡ y
 tie = same_from_tie pair_cmp pair_cmp-IsAntisymmetric
 
 -- a pair that isn't new was live

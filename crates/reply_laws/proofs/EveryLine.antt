@@ -1,5 +1,5 @@
 -- Each line has a reply that fits.
-use Rattle.std.proofs.Common.{◌≡◌, ◌&&◌, nat_eq, nat_lt, ℕ, ◌<◌, ◌≤◌, ◌^◌, Bool, true, false, not, List, [], ◌∷◌, ◌++◌, length, map, sym, ap, subst, ◌∙◌, refl, arith, inl, inr}
+use Rattle.std.proofs.Common.{◌≡◌, nat_eq, nat_lt, ℕ, ◌<◌, ◌≤◌, ◌^◌, Bool, true, false, not, List, [], ◌∷◌, ◌++◌, length, map, sym, ap, subst, ◌∙◌, refl, arith}
 use Rattle.std.specs.Prelude.{Option, Some, None, Result, Ok, Err, is_some, MatchOption, slice_get, take, unwrap_or}
 use Rattle.std.specs.FinMap.{FinMap, contains_key-keys, empty, get, get-empty, keys}
 use Rattle.std.proofs.lemmas.Bool.{false≢true}
@@ -7,11 +7,10 @@ use Rattle.events.proofs.Reached.{declared_pid}
 use Rattle.events.specs.After.{next, with_named}
 use Rattle.events.specs.Forms.{IsWellFormed}
 use Rattle.events.specs.Fits.{Fits, FitsBy, IsAnswer, IsSent, IsTagged, adverts, asks_for, bare, by_table, all_flows, destination, dropped, is_of_job, is_receivers, is_senders, none_rebuilt, responder_reply, tagged_frame}
-use Rattle.events.specs.Legal.{LegalFrom}
 use Rattle.events.specs.Pending.{pending, with_all_news}
 use Rattle.events.specs.Refusals.{if_short, inbound_refusal, is_datagram, outbound_refusal, refusal, refused_if}
 use Rattle.events.specs.Resolving.{is_resolved, tag_address, unresolved}
-use Rattle.events.specs.State.{State, first, port_of, present, told_to}
+use Rattle.events.specs.State.{State, port_of, present, told_to}
 use Rattle.events.specs.declared.Entry.{Entry}
 use Rattle.events.specs.declared.Event.{Event}
 use Rattle.events.specs.declared.Event.TheVariants.{Bad, Exchange, Participant as DeclaresParticipant, Port as DeclaresPort, Update, Down, Export, Outbound, Inbound, Take, Drain, Arp, Resolve, Packet, Frame, Recompile, Work, Table}
@@ -30,7 +29,6 @@ use Rattle.exchange_laws.proofs.PolicyEdits.{inbounds_are_changes, inbounds_are_
 use Rattle.exchange_laws.proofs.PoolTags.{told_small}
 use Rattle.exchange_laws.proofs.QuietLines.{quiet_lines_are_accepted}
 use Rattle.exchange_laws.proofs.Rerouted.{Rerouted, known, passes, rerouted}
-use Rattle.exchange_laws.proofs.SteadySteps.{starts_steady, steps_stay_steady}
 use Rattle.exchange_laws.proofs.ToldAnew.{drains_are_accepted, takes_are_accepted}
 use Rattle.exchange_laws.specs.Editing.{IsBase, inbound_base, outbound_base}
 use Rattle.exchange_laws.specs.Octets.{AreOctets, IsMac}
@@ -58,8 +56,7 @@ use Rattle.net_types.specs.declared.address.PortNo.{PortNo}
 use Rattle.net_types.specs.declared.prefix.Prefix.{Prefix}
 use Rattle.net_types.specs.declared.route.PortInfo.{PortInfo}
 use Rattle.reply_laws.proofs.BuiltLines.{built_reply}
-use Rattle.reply_laws.proofs.PortMacs.{ports_keep_macs}
-use Rattle.reply_laws.specs.Replying.{HasOctets, LinesHaveReplies, PortsHaveMacs, RunsGoOn}
+use Rattle.reply_laws.specs.Replying.{HasOctets, LinesHaveReplies, PortsHaveMacs}
 
 -- ---- octets
 
@@ -214,27 +211,3 @@ lines_have_replies s e steady macs formed other octets = by (refusal s e) refl
     by : (o : Option Refusal) → refusal s e ≡ o → (r : Reply) × Fits s e r
     by (Some why) is = (bare (Refused why), subst (λ o. FitsBy o s e (bare (Refused why))) (sym is) refl)
     by None none = answered s e steady macs formed other octets none
-
--- ---- runs
-
--- replies to further lines
-replies_from : (s : State) (fs : List Event) → IsSteady s → PortsHaveMacs s → ((e : Event) → Member e fs → IsWellFormed e × (is_of_job e ≡ false) × HasOctets e) → (more : List Reply) × LegalFrom s fs more
-replies_from s [] steady macs written = ([], tt)
-replies_from s (e ∷ fs) steady macs written =
-    let here = written e (inl refl) in
-    let r = lines_have_replies s e steady macs here.0 here.1 here.2 in
-    let later = replies_from (next s e r.0) fs (steps_stay_steady s e r.0 steady here.0 here.1 r.1) (ports_keep_macs s e r.0 macs here.2) (λ x m. written x (inr m)) in
-    (r.0 ∷ later.0, (r.1, later.1))
-
-from_go_on : (s : State) (es fs : List Event) (rs : List Reply) → IsSteady s → PortsHaveMacs s → ((e : Event) → Member e (es ++ fs) → IsWellFormed e × (is_of_job e ≡ false) × HasOctets e) → LegalFrom s es rs
-    → (more : List Reply) × LegalFrom s (es ++ fs) (rs ++ more)
-from_go_on s [] fs [] steady macs written legal = replies_from s fs steady macs written
-from_go_on s [] fs (r ∷ rs) steady macs written legal = absurd legal
-from_go_on s (e ∷ es) fs [] steady macs written legal = absurd legal
-from_go_on s (e ∷ es) fs (r ∷ rs) steady macs written legal =
-    let here = written e (inl refl) in
-    let later = from_go_on (next s e r) es fs rs (steps_stay_steady s e r steady here.0 here.1 legal.0) (ports_keep_macs s e r macs here.2) (λ x m. written x (inr m)) legal.1 in
-    (later.0, (legal.0, later.1))
-
-pub runs_go_on : RunsGoOn
-runs_go_on es fs rs written legal = from_go_on first es fs rs starts_steady (λ q m. elim m [ ]) written legal

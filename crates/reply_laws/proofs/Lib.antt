@@ -1,3 +1,4 @@
+pub mod NextStates
 pub mod BuiltLines
 pub mod PortMacs
 pub mod EveryLine

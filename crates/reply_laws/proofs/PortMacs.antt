@@ -2,16 +2,13 @@
 use Rattle.std.proofs.Common.{◌≡◌, ℕ, ◌-◌, Bool, true, false, cond, ◌&&◌, nat_lt, List, [], ◌∷◌, ◌++◌, sym, subst, refl, inl, inr}
 use Rattle.std.specs.Prelude.{Option, Some, None, Result, Ok, Err, slice_set, take}
 use Rattle.std.specs.Option.{option_map_or}
-use Rattle.events.specs.After.{after, bound_read, merged, next_by, received_by, ruled, running, sent_by, settled, taken, updated, with_known, with_port, with_told, without_from, worked}
+use Rattle.events.specs.After.{after, bound_read, merged, received_by, ruled, running, sent_by, settled, taken, updated, with_known, with_port, with_told, without_from, worked}
 use Rattle.events.specs.Pending.{pending}
 use Rattle.events.specs.Resolving.{is_pool_request, port_place, resolved_at, unresolved, with_answer, with_resolved}
 use Rattle.events.specs.State.{State, port_of, present}
 use Rattle.events.specs.Tags.{retagged}
 use Rattle.events.specs.declared.Event.{Event}
 use Rattle.events.specs.declared.Event.TheVariants.{Bad, Exchange, Participant as DeclaresParticipant, Port as DeclaresPort, Update, Down, Export, Outbound, Inbound, Take, Drain, Arp, Resolve, Packet, Frame, Recompile, Work, Table}
-use Rattle.events.specs.declared.Head.{Head}
-use Rattle.events.specs.declared.Head.TheVariants.{Fine, Working, Finished, Unrouted, Unresolved, Silent, Refused}
-use Rattle.events.specs.declared.Reply.{Reply}
 use Rattle.exchange_laws.specs.Octets.{IsMac}
 use Rattle.grammar.specs.TextReading.{Fault as Misread}
 use Rattle.net_types.proofs.SetLemmas.{Member-append_cases}
@@ -32,6 +29,7 @@ use Rattle.net_types.specs.declared.export.ExportRule.{ExportRule}
 use Rattle.net_types.specs.declared.route.PortInfo.{PortInfo}
 use Rattle.net_types.specs.declared.update.Fault.{Fault}
 use Rattle.net_types.specs.declared.update.Update.{Update as Message}
+use Rattle.reply_laws.proofs.NextStates.{next_holds}
 use Rattle.reply_laws.specs.Replying.{HasOctets, PortsHaveMacs, PortsKeepMacs}
 
 -- ---- ports
@@ -115,15 +113,5 @@ after_macs s Recompile macs octets = macs
 after_macs s (Work units) macs octets = known_macs s s.owed (worked s units) macs (λ owed. worked_ports s units owed)
 after_macs s Table macs octets = macs
 
--- an accepted line leaves each port its MAC, and so does a refused one
-next_macs : (s : State) (e : Event) (r : Reply) (h : Head) → PortsHaveMacs s → HasOctets e → PortsHaveMacs (next_by h s e r)
-next_macs s e r (Refused why) macs octets = macs
-next_macs s e r Fine macs octets = after_macs s e macs octets
-next_macs s e r (Working units) macs octets = after_macs s e macs octets
-next_macs s e r Finished macs octets = after_macs s e macs octets
-next_macs s e r Unrouted macs octets = after_macs s e macs octets
-next_macs s e r (Unresolved ip) macs octets = after_macs s e macs octets
-next_macs s e r Silent macs octets = after_macs s e macs octets
-
 pub ports_keep_macs : PortsKeepMacs
-ports_keep_macs s e r macs octets = next_macs s e r r.head macs octets
+ports_keep_macs s e r macs octets = next_holds PortsHaveMacs s e r r.head macs (after_macs s e macs octets)

@@ -1,9 +1,8 @@
--- Each line has a reply that fits, so legal replies to the first lines of a run go on (this exchange's own rule).
-use Rattle.std.specs.Prelude.{◌≡◌, false, List, ◌++◌}
+-- Each line that isn't a job's has a reply that fits (this exchange's own rule).
+use Rattle.std.specs.Prelude.{◌≡◌, false}
 use Rattle.events.specs.Forms.{IsWellFormed}
 use Rattle.events.specs.After.{next}
 use Rattle.events.specs.Fits.{Fits, is_of_job}
-use Rattle.events.specs.Legal.{Legal}
 use Rattle.events.specs.State.{State}
 use Rattle.events.specs.declared.Event.{Event}
 use Rattle.events.specs.declared.Event.TheVariants.{Bad, Exchange, Participant as DeclaresParticipant, Port as DeclaresPort, Update, Down, Export, Outbound, Inbound, Take, Drain, Arp, Resolve, Packet, Frame, Recompile, Work, Table}
@@ -45,9 +44,3 @@ PortsKeepMacs = (s : State) (e : Event) (r : Reply) → PortsHaveMacs s → HasO
 -- in a steady state some reply to each line that isn't a job's fits
 abbrev pub LinesHaveReplies : Type 0
 LinesHaveReplies = (s : State) (e : Event) → IsSteady s → PortsHaveMacs s → IsWellFormed e → is_of_job e ≡ false → HasOctets e → (r : Reply) × Fits s e r
-
--- so legal replies to the first lines of a run of such lines go on
-abbrev pub RunsGoOn : Type 0
-RunsGoOn =
-    (es fs : List Event) (rs : List Reply) → ((e : Event) → Member e (es ++ fs) → IsWellFormed e × (is_of_job e ≡ false) × HasOctets e) → Legal es rs
-    → (more : List Reply) × Legal (es ++ fs) (rs ++ more)

@@ -3,4 +3,4 @@
 
 mod replying;
 
-pub use replying::{lines_have_replies, ports_keep_macs, runs_go_on};
+pub use replying::{lines_have_replies, ports_keep_macs};

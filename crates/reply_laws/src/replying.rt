@@ -1,6 +1,6 @@
 //! Each line has a reply.
 
-ghost use Rattle.reply_laws.specs.Replying.{LinesHaveReplies, PortsKeepMacs, RunsGoOn};
+ghost use Rattle.reply_laws.specs.Replying.{LinesHaveReplies, PortsKeepMacs};
 
 /// Any line, a job's too, and any reply leave each port its MAC.
 pub fn ports_keep_macs()
@@ -10,9 +10,4 @@ pub fn ports_keep_macs()
 /// In a steady state whose ports have MACs, some reply fits each line that can be written and isn't a job's.
 pub fn lines_have_replies()
     ensures { LinesHaveReplies }
-{}
-
-/// Legal replies to the first lines of a run of such lines go on to all of them.
-pub fn runs_go_on()
-    ensures { RunsGoOn }
 {}
