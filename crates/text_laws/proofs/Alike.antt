@@ -1,13 +1,15 @@
 -- Texts that agree with whatever follows them: what they then have in common.
-use Rattle.std.proofs.Common.{◌≡◌, ℕ, ◌^◌, ◌<◌, ◌≤◌, Bool, true, false, ◌&&◌, ◌||◌, nat_le, List, [], ◌∷◌, ◌++◌, append_assoc, decimal, refl, sym, ap, ◌∙◌, arith}
+use Rattle.std.proofs.Common.{◌≡◌, ◌⊎◌, ℕ, zero, suc, ◌+◌, ◌*◌, ◌/◌, ◌%◌, ◌^◌, ◌<◌, ◌≤◌, ◌==◌, Bool, true, false, cond, ◌&&◌, ◌||◌, nat_le, nat_lt, List, [], ◌∷◌, ◌++◌, append_assoc, length, decimal, inl, inr, refl, sym, ap, subst, ◌∙◌, arith}
 use Rattle.std.specs.List.{list_all}
-use Rattle.std.specs.Str.Parse.{AllDigits}
-use Rattle.std.proofs.lemmas.Bool.{and_parts}
+use Rattle.std.specs.Fmt.{digit_glyph, digits, digits_onto}
+use Rattle.std.specs.Str.Parse.{digits_value}
+use Rattle.std.proofs.lemmas.Bool.{and_parts, cases_lt}
 use Rattle.std.proofs.lemmas.Bool.Decides.{nat_tests}
-use Rattle.std.proofs.lemmas.Fmt.{decimal_injective, decimal_is_IsNumeral}
+use Rattle.std.proofs.Math.Nat.{one-le-pow, pow-suc}
+use Rattle.std.proofs.lemmas.Fmt.{decimal_is_IsNumeral_wide, length-decimal-le_wide}
+use Rattle.std.proofs.lemmas.Nat.{le-div}
 use Rattle.std.proofs.lemmas.List.{append_cancel_left}
 use Rattle.std.proofs.lemmas.List.Folds.{list_all-append}
-use Rattle.std.proofs.lemmas.Str.Parse.{digit_from_value}
 
 -- ---- octets
 
@@ -19,6 +21,10 @@ starts test (c ∷ cs) = test c
 -- each octet of a text passes a test
 abbrev pub Over : (ℕ → Bool) → List ℕ → Type 0
 Over test text = list_all test text ≡ true
+
+-- no end of a line
+abbrev pub is_inside : ℕ → Bool
+is_inside c = nat_lt 10 c
 
 -- `0` to `9`, and `a` to `f`
 abbrev pub is_hex : ℕ → Bool
@@ -50,13 +56,37 @@ over_append test x y one two = list_all-append test x y ∙ ap (λ b. b && list_
 pub over_more : (test : ℕ → Bool) (c : ℕ) (x : List ℕ) → test c ≡ true → Over test x → Over test (c ∷ x)
 over_more test c x one rest = ap (λ b. b && list_all test x) one ∙ rest
 
--- a test that passes the digits passes decimals
-pub over_decimal : (test : ℕ → Bool) → ((c : ℕ) → 48 ≤ c → c ≤ 57 → test c ≡ true) → (n : ℕ) → n < 2 ^ 64 → Over test (decimal n)
-over_decimal test digits n low = by (decimal n) (decimal_is_IsNumeral n low).0.1
-  where
-    by : (ds : List ℕ) → AllDigits 10 ds → Over test ds
-    by [] all = refl
-    by (d ∷ ds) all = over_more test d ds (digits d (omega (arith, digit_from_value d all.0)) (omega (arith, digit_from_value d all.0))) (by ds all.1)
+-- a test that passes the digits passes decimals, whatever the number is
+module _ (test : ℕ → Bool) (digits : (c : ℕ) → 48 ≤ c → c ≤ 57 → test c ≡ true) where
+  glyph_passes : (n : ℕ) → test (digit_glyph false (n % 10)) ≡ true
+  glyph_passes n = by (n % 10) (omega arith)
+    where
+      low : (d : ℕ) → d < 10 → 48 ≤ digit_glyph false d
+      low d less = grind (arith, nat_tests)
+
+      high : (d : ℕ) → d < 10 → digit_glyph false d ≤ 57
+      high d less = grind (arith, nat_tests)
+
+      by : (d : ℕ) → d < 10 → test (digit_glyph false d) ≡ true
+      by d less = digits (digit_glyph false d) (low d less) (high d less)
+
+  onto_over : (k n : ℕ) (behind : List ℕ) → Over test behind → Over test (digits_onto k 10 false n behind)
+  onto_over zero n behind is = is
+  onto_over (suc k) n behind is =
+      let more : Over test (digit_glyph false (n % 10) ∷ behind) = over_more test (digit_glyph false (n % 10)) behind (glyph_passes n) is in
+      by (n / 10 == 0) more (onto_over k (n / 10) (digit_glyph false (n % 10) ∷ behind) more)
+    where
+      by : (b : Bool) → Over test (digit_glyph false (n % 10) ∷ behind) → Over test (digits_onto k 10 false (n / 10) (digit_glyph false (n % 10) ∷ behind))
+          → Over test (cond b (digit_glyph false (n % 10) ∷ behind) (digits_onto k 10 false (n / 10) (digit_glyph false (n % 10) ∷ behind)))
+      by true one all = one
+      by false one all = all
+
+  whole : (n : ℕ) → digits_onto 64 10 false n [] ≡ decimal n
+  unfolding digits
+  whole n = refl
+
+  pub over_decimal : (n : ℕ) → Over test (decimal n)
+  over_decimal n = subst (Over test) (whole n) (onto_over 64 n [] refl)
 
 -- ---- texts with whatever follows
 
@@ -67,6 +97,10 @@ pub record Alike (E : List ℕ → Type 0) (P : Type 0) (a b : List ℕ) : Type 
 -- no hexadecimal digit follows
 abbrev pub Stops : List ℕ → Type 0
 Stops s = starts is_hex s ≡ false
+
+-- the line ends, or nothing follows
+abbrev pub Ends : List ℕ → Type 0
+Ends s = starts is_inside s ≡ false
 
 -- this octet follows
 abbrev pub Begins : ℕ → List ℕ → Type 0
@@ -111,9 +145,70 @@ gives then one = record { is = λ s t ends stops e. let is = one.is s t ends sto
 pub digit_hex : (c : ℕ) → 48 ≤ c → c ≤ 57 → is_hex c ≡ true
 digit_hex c low high = grind (arith, nat_tests)
 
-pub decimals : (m n : ℕ) → m < 2 ^ 64 → n < 2 ^ 64 → Alike Stops (m ≡ n) (decimal m) (decimal n)
-decimals m n low less = record {
+-- of a number with so many digits and more so many are written
+onto_length : (k n : ℕ) (behind : List ℕ) → 10 ^ k ≤ n → length (digits_onto k 10 false n behind) ≡ k + length behind
+onto_length zero n behind most = let is : length behind ≡ 0 + length behind = omega arith in is
+onto_length (suc k) n behind most =
+    let more : 10 ^ suc k ≡ 10 ^ k * 10 = pow-suc 10 k in
+    let some : 1 ≤ 10 ^ k = one-le-pow k 10 (omega arith) in
+    let less : 10 ^ k ≤ n / 10 = le-div (10 ^ k) n 10 (omega arith) (subst (λ x. x ≤ n) more most) in
+    by (n / 10 == 0) refl less some (onto_length k (n / 10) (digit_glyph false (n % 10) ∷ behind) less)
+  where
+    not_none : (x p : ℕ) → x == 0 ≡ true → p ≤ x → 1 ≤ p → ⊥
+    not_none x p none less some = grind (arith, nat_tests, none, less, some)
+
+    by : (b : Bool) → (n / 10 == 0) ≡ b → 10 ^ k ≤ n / 10 → 1 ≤ 10 ^ k → length (digits_onto k 10 false (n / 10) (digit_glyph false (n % 10) ∷ behind)) ≡ k + length (digit_glyph false (n % 10) ∷ behind)
+        → length (cond b (digit_glyph false (n % 10) ∷ behind) (digits_onto k 10 false (n / 10) (digit_glyph false (n % 10) ∷ behind))) ≡ suc k + length behind
+    by true none less some rest = absurd (not_none (n / 10) (10 ^ k) none less some)
+    by false some_left less some rest = rest ∙ (let is : k + suc (length behind) ≡ suc k + length behind = omega arith in is)
+
+-- a number has a digit
+onto_some : (k n : ℕ) (behind : List ℕ) → 0 < length behind → 0 < length (digits_onto k 10 false n behind)
+onto_some zero n behind some = some
+onto_some (suc k) n behind some = by (n / 10 == 0) (onto_some k (n / 10) (digit_glyph false (n % 10) ∷ behind) (omega arith))
+  where
+    by : (b : Bool) → 0 < length (digits_onto k 10 false (n / 10) (digit_glyph false (n % 10) ∷ behind)) → 0 < length (cond b (digit_glyph false (n % 10) ∷ behind) (digits_onto k 10 false (n / 10) (digit_glyph false (n % 10) ∷ behind)))
+    by true rest = omega arith
+    by false rest = rest
+
+first_some : (k n : ℕ) → 0 < length (digits_onto (suc k) 10 false n [])
+first_some k n = by (n / 10 == 0) (onto_some k (n / 10) (digit_glyph false (n % 10) ∷ []) (omega arith))
+  where
+    by : (b : Bool) → 0 < length (digits_onto k 10 false (n / 10) (digit_glyph false (n % 10) ∷ [])) → 0 < length (cond b (digit_glyph false (n % 10) ∷ []) (digits_onto k 10 false (n / 10) (digit_glyph false (n % 10) ∷ [])))
+    by true rest = omega arith
+    by false rest = rest
+
+some_digits : (n : ℕ) → 0 < length (decimal n)
+unfolding digits
+some_digits n = first_some 63 n
+
+long : (n : ℕ) → 10 ^ 64 ≤ n → length (decimal n) ≡ 64
+unfolding digits
+long n most = onto_length 64 n [] most
+
+-- a number of at most 63 digits is told from any number
+pub decimal_tells : (m n : ℕ) → m < 10 ^ 63 → decimal m ≡ decimal n → m ≡ n
+decimal_tells m n low e = by (cases_lt n (10 ^ 64))
+  where
+    by : (n < 10 ^ 64) ⊎ (10 ^ 64 ≤ n) → m ≡ n
+    by (inl less) = sym (decimal_is_IsNumeral_wide m (omega (arith, low))).1 ∙ ap (digits_value 10) e ∙ (decimal_is_IsNumeral_wide n less).1
+    by (inr most) =
+        let short : length (decimal m) ≤ 63 = length-decimal-le_wide 63 m (omega arith) low (omega (arith, low)) in
+        let all : length (decimal n) ≡ 64 = long n most in
+        let equal : length (decimal m) ≡ length (decimal n) = ap length e in
+        absurd (omega (arith, short, all, equal))
+
+-- whatever the number is, its text begins with a digit
+pub number_starts : (n : ℕ) → starts is_hex (decimal n) ≡ true
+number_starts n = by (decimal n) (some_digits n) (over_decimal is_hex digit_hex n)
+  where
+    by : (x : List ℕ) → 0 < length x → Over is_hex x → starts is_hex x ≡ true
+    by [] some over = absurd (omega arith)
+    by (d ∷ ds) some over = (and_parts (is_hex d) (list_all is_hex ds) over).0
+
+pub decimals : (m n : ℕ) → m < 10 ^ 63 → Alike Stops (m ≡ n) (decimal m) (decimal n)
+decimals m n low = record {
   is = λ s t ends stops e.
-      let is = spans is_hex (decimal m) (decimal n) s t (over_decimal is_hex digit_hex m low) (over_decimal is_hex digit_hex n less) ends stops e in
-      (decimal_injective m n low less is.0, is.1);
+      let is = spans is_hex (decimal m) (decimal n) s t (over_decimal is_hex digit_hex m) (over_decimal is_hex digit_hex n) ends stops e in
+      (decimal_tells m n low is.0, is.1);
 }

@@ -1,15 +1,14 @@
 -- The fields of cubes and of actions, and of which octets they are.
-use Rattle.std.proofs.Common.{◌≡◌, ℕ, ◌-◌, ◌/◌, ◌%◌, ◌^◌, ◌<◌, ◌≤◌, Bool, true, false, cond, ◌&&◌, ◌||◌, not, nat_eq, nat_le, nat_lt, List, [], ◌∷◌, ◌++◌, append-nil, codes, decimal, refl, sym, ap, ◌∙◌, subst, arith}
+use Rattle.std.proofs.Common.{◌≡◌, ℕ, ◌-◌, ◌/◌, ◌%◌, ◌^◌, ◌≤◌, Bool, true, false, cond, ◌&&◌, ◌||◌, not, nat_eq, nat_le, nat_lt, List, [], ◌∷◌, ◌++◌, append-nil, codes, decimal, refl, sym, ap, ◌∙◌, subst, arith}
 use Rattle.std.specs.Prelude.{Option, Some, None}
 use Rattle.std.proofs.lemmas.Bool.Decides.{nat_tests}
 use Rattle.std.proofs.lemmas.List.{append_cancel_left}
-use Rattle.std.proofs.lemmas.Fmt.{decimal_injective}
 use Rattle.events.specs.Text.{address_field, address_text, number_field, prefix_field, prefix_text}
 use Rattle.net_types.proofs.PrefixLemmas.{prefix_ext}
 use Rattle.net_types.specs.declared.address.Ip.{Ip}
 use Rattle.net_types.specs.declared.prefix.Prefix.{Prefix}
 use Rattle.text_laws.specs.Widths.{Each, IfThere, IsAddress, IsNumber}
-use Rattle.text_laws.proofs.Alike.{Alike, Over, over_append, over_decimal, over_more}
+use Rattle.text_laws.proofs.Alike.{Alike, Over, decimal_tells, over_append, over_decimal, over_more}
 use Rattle.text_laws.proofs.Numbers.{addresses, prefixes}
 
 -- ---- octets of fields
@@ -32,24 +31,24 @@ module _ (test : ℕ → Bool) (digits : (c : ℕ) → 48 ≤ c → c ≤ 57 →
   over_one : (c : ℕ) → test c ≡ true → Over test (c ∷ [])
   over_one c is = over_more test c [] is refl
 
-  pub address_over : (ip : Ip) → ip.0 < 2 ^ 32 → Over test (address_text ip)
-  address_over ip low =
-      let number : (n : ℕ) → n < 2 ^ 64 → Over test (decimal n) = over_decimal test digits in
+  pub address_over : (ip : Ip) → Over test (address_text ip)
+  address_over ip =
+      let number : (n : ℕ) → Over test (decimal n) = over_decimal test digits in
       over_append test _ _ (over_append test _ _ (over_append test _ _ (over_append test _ _ (over_append test _ _ (over_append test _ _
-      (number (ip.0 / 16777216) (omega arith)) (over_one 46 dot)) (number (ip.0 / 65536 % 256) (omega arith))) (over_one 46 dot)) (number (ip.0 / 256 % 256) (omega arith))) (over_one 46 dot)) (number (ip.0 % 256) (omega arith))
+      (number (ip.0 / 16777216)) (over_one 46 dot)) (number (ip.0 / 65536 % 256))) (over_one 46 dot)) (number (ip.0 / 256 % 256))) (over_one 46 dot)) (number (ip.0 % 256))
 
   prefix_over : (p : Prefix) → Over test (prefix_text p)
-  prefix_over p = over_append test _ _ (over_append test _ _ (address_over p.address p.in_range) (over_one 47 slash)) (over_decimal test digits p.len (omega (arith, p.short)))
+  prefix_over p = over_append test _ _ (over_append test _ _ (address_over p.address) (over_one 47 slash)) (over_decimal test digits p.len)
 
   -- ---- fields that are there or not
 
-  pub number_over : (name : List ℕ) (o : Option ℕ) → Over test (name ++ codes "=") → IfThere IsNumber o → Each (Over test) (number_field name o)
-  number_over name None word is = tt
-  number_over name (Some n) word is = (over_append test (name ++ codes "=") (decimal n) word (over_decimal test digits n is), tt)
+  pub number_over : (name : List ℕ) (o : Option ℕ) → Over test (name ++ codes "=") → Each (Over test) (number_field name o)
+  number_over name None word = tt
+  number_over name (Some n) word = (over_append test (name ++ codes "=") (decimal n) word (over_decimal test digits n), tt)
 
-  pub address_field_over : (name : List ℕ) (o : Option Ip) → Over test (name ++ codes "=") → IfThere IsAddress o → Each (Over test) (address_field name o)
-  address_field_over name None word is = tt
-  address_field_over name (Some ip) word is = (over_append test (name ++ codes "=") (address_text ip) word (address_over ip is), tt)
+  pub address_field_over : (name : List ℕ) (o : Option Ip) → Over test (name ++ codes "=") → Each (Over test) (address_field name o)
+  address_field_over name None word = tt
+  address_field_over name (Some ip) word = (over_append test (name ++ codes "=") (address_text ip) word (address_over ip), tt)
 
   pub prefix_field_over : (name : List ℕ) (p : Prefix) → Over test (name ++ codes "=") → Each (Over test) (prefix_field name p)
   prefix_field_over name p word = by (nat_eq p.len 0)
@@ -69,23 +68,23 @@ only x y e = cc
 some_is : {X : Type 0} (x y : X) → x ≡ y → Some x ≡ Some y
 some_is x y e = ap Some e
 
-pub number_told : (name : List ℕ) (o p : Option ℕ) → IfThere IsNumber o → IfThere IsNumber p → number_field name o ≡ number_field name p → o ≡ p
-number_told name None None one two e = refl
-number_told name None (Some n) one two e = absurd (cc)
-number_told name (Some m) None one two e = absurd (cc)
-number_told name (Some m) (Some n) one two e =
-    some_is m n (decimal_injective m n one two (append_cancel_left (name ++ codes "=") (decimal m) (decimal n) (only _ _ e)))
+pub number_told : (name : List ℕ) (o p : Option ℕ) → IfThere IsNumber o → number_field name o ≡ number_field name p → o ≡ p
+number_told name None None one e = refl
+number_told name None (Some n) one e = absurd (cc)
+number_told name (Some m) None one e = absurd (cc)
+number_told name (Some m) (Some n) one e =
+    some_is m n (decimal_tells m n one (append_cancel_left (name ++ codes "=") (decimal m) (decimal n) (only _ _ e)))
 
 -- texts that agree where nothing follows
 pub closed_is : {P : Type 0} {a b : List ℕ} {E : List ℕ → Type 0} → E [] → Alike E P a b → a ≡ b → P
 closed_is {a = a} {b = b} nothing one e = (one.is [] [] nothing nothing (append-nil a ∙ e ∙ sym (append-nil b))).0
 
-pub address_told : (name : List ℕ) (o p : Option Ip) → IfThere IsAddress o → IfThere IsAddress p → address_field name o ≡ address_field name p → o ≡ p
-address_told name None None one two e = refl
-address_told name None (Some n) one two e = absurd (cc)
-address_told name (Some m) None one two e = absurd (cc)
-address_told name (Some m) (Some n) one two e =
-    some_is m n (closed_is refl (addresses m n one two) (append_cancel_left (name ++ codes "=") (address_text m) (address_text n) (only _ _ e)))
+pub address_told : (name : List ℕ) (o p : Option Ip) → IfThere IsAddress o → address_field name o ≡ address_field name p → o ≡ p
+address_told name None None one e = refl
+address_told name None (Some n) one e = absurd (cc)
+address_told name (Some m) None one e = absurd (cc)
+address_told name (Some m) (Some n) one e =
+    some_is m n (closed_is refl (addresses m n one) (append_cancel_left (name ++ codes "=") (address_text m) (address_text n) (only _ _ e)))
 
 -- only the prefix of everything has length 0
 any_prefix : (p q : Prefix) → p.len ≡ 0 → q.len ≡ 0 → p ≡ q

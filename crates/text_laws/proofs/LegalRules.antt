@@ -67,17 +67,17 @@ same_policies s ps qs are also =
 
 -- ---- tables
 
-abbrev AreFree : List Rule → Type 0
+abbrev pub AreFree : List Rule → Type 0
 AreFree rules = Each (λ (r : Rule). IsOfNoPort r.cube) rules
 
 abbrev FlowsAreFree : List Flow → Type 0
 FlowsAreFree flows = Each (λ (f : Flow). IsOfNoPort f.rule.cube) flows
 
 -- no rule of the table has an inport
-abbrev TableIsFree : State → Type 0
+abbrev pub TableIsFree : State → Type 0
 TableIsFree s = (pair : Pair) (rules : List Rule) → get s.table pair ≡ Some rules → AreFree rules
 
-sound_free : (s : State) (ps : Policies) → ArePolicies s ps → ArePassed s ps → IsSound s → TableIsFree s
+pub sound_free : (s : State) (ps : Policies) → ArePolicies s ps → ArePassed s ps → IsSound s → TableIsFree s
 sound_free s ps are passed sound pair rules there =
     let known = sound.right.2 pair rules there in
     right_rules_are_of_no_port s ps passed known.0 pair.port rules (subst (λ x. IsRight x known.0 pair.port rules) (same_policies s sound.right.0 ps sound.right.1 are) known.2)

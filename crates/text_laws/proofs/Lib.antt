@@ -5,6 +5,14 @@ pub mod Fields
 pub mod Rules
 pub mod Heads
 pub mod Lines
+pub mod Replies
 pub mod Portless
 pub mod LegalRules
-pub mod Replies
+pub mod Read
+pub mod Ranges
+pub mod Counts
+pub mod Details
+pub mod Determined
+pub mod LegalReplies
+pub mod Formed
+pub mod ReadEvents

@@ -26,7 +26,7 @@ use Rattle.text_laws.proofs.Fields.{each_append}
 
 -- ---- cubes
 
-some_of : {X : Type 0} (x y : X) → Some x ≡ Some y → x ≡ y
+pub some_of : {X : Type 0} (x y : X) → Some x ≡ Some y → x ≡ y
 some_of x y e = cc
 
 made : (i : Option PortNo) (s d : Option Prefix) (p q r : Option (Option ℕ)) (c : Cube) → i ≡ None → cube_of (Some i) s d p q r ≡ Some c → IsOfNoPort c

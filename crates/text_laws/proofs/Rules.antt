@@ -1,10 +1,7 @@
 -- Cubes, actions and rules are told by their texts.
-use Rattle.std.proofs.Common.{◌≡◌, ℕ, ◌^◌, ◌<◌, ◌≤◌, Bool, true, false, cond, nat_eq, List, [], ◌∷◌, ◌++◌, append_assoc, append-nil, length, map, codes, decimal, get_or, refl, sym, ap, ap₂, ◌∙◌, subst, arith}
+use Rattle.std.proofs.Common.{◌≡◌, ℕ, ◌<◌, ◌≤◌, Bool, true, false, cond, nat_eq, List, [], ◌∷◌, ◌++◌, append_assoc, append-nil, map, codes, decimal, get_or, refl, sym, ap, ap₂, ◌∙◌, subst, arith}
 use Rattle.std.specs.Prelude.{Option, Some, None}
-use Rattle.std.specs.List.{list_all}
-use Rattle.std.proofs.lemmas.Bool.{and_parts}
 use Rattle.std.proofs.lemmas.List.{append_cancel_left}
-use Rattle.std.proofs.lemmas.Fmt.{decimal_is_IsNumeral}
 use Rattle.events.specs.Text.{action_text, address_field, address_text, cube_text, in_brackets, joined, number_field, or_none, or_star, prefix_field, prefix_text, rule_text}
 use Rattle.net_types.specs.declared.actions.Action.{Action}
 use Rattle.net_types.specs.declared.address.Ip.{Ip}
@@ -13,7 +10,7 @@ use Rattle.net_types.specs.declared.cube.Cube.{Cube}
 use Rattle.net_types.specs.declared.prefix.Prefix.{Prefix}
 use Rattle.net_types.specs.declared.rule.Rule.{Rule}
 use Rattle.text_laws.specs.Widths.{Each, IsAction, IsCube, IsRule}
-use Rattle.text_laws.proofs.Alike.{Alike, Begins, Nothing, Over, Stops, both, closed, decimals, digit_hex, gives, is_hex, next, over_append, over_decimal, over_more, starts, true_false}
+use Rattle.text_laws.proofs.Alike.{Alike, Begins, Nothing, Over, Stops, both, closed, decimals, gives, is_hex, next, number_starts, over_append, over_decimal, over_more, starts, true_false}
 use Rattle.text_laws.proofs.Fields.{address_field_over, address_told, closed_is, dark_digit, each_append, is_dark, is_plain, number_over, number_told, plain_digit, prefix_field_over, prefix_told}
 use Rattle.text_laws.proofs.Joined.{IsField, cons_is, field_told, first_rank, list_told, rank_over}
 
@@ -78,7 +75,7 @@ cube_of : Option PortNo → Prefix → Prefix → Option ℕ → Option ℕ → 
 cube_of inport src dst proto sport dport = record { inport = inport; src = src; dst = dst; proto = proto; sport = sport; dport = dport }
 
 module _ (c d : Cube) where
-  cube_is : c.inport ≡ d.inport → c.src ≡ d.src → c.dst ≡ d.dst → c.proto ≡ d.proto → c.sport ≡ d.sport → c.dport ≡ d.dport → c ≡ d
+  pub cube_is : c.inport ≡ d.inport → c.src ≡ d.src → c.dst ≡ d.dst → c.proto ≡ d.proto → c.sport ≡ d.sport → c.dport ≡ d.dport → c ≡ d
   unfolding cube_of
   cube_is e f g h i j =
       ap (λ x. cube_of x c.src c.dst c.proto c.sport c.dport) e ∙ ap (λ x. cube_of d.inport x c.dst c.proto c.sport c.dport) f ∙ ap (λ x. cube_of d.inport d.src x c.proto c.sport c.dport) g
@@ -121,24 +118,24 @@ fields_told {a = a} {b = b} {c = c} {d = d} {e = e} {a' = a'} {b' = b'} {c' = c'
 abbrev texts_of : Cube → List (List ℕ)
 texts_of c = prefix_field (codes "srcip") c.src ++ prefix_field (codes "dstip") c.dst ++ number_field (codes "proto") c.proto ++ number_field (codes "srcport") c.sport ++ number_field (codes "dstport") c.dport
 
-cube_over : (c : Cube) → IsCube c → Each (Over is_plain) (texts_of c)
-cube_over c is =
+cube_over : (c : Cube) → Each (Over is_plain) (texts_of c)
+cube_over c =
     each_append (Over is_plain) _ _ (each_append (Over is_plain) _ _ (each_append (Over is_plain) _ _ (each_append (Over is_plain) _ _
     (prefix_field_over is_plain plain_digit refl refl (codes "srcip") c.src refl) (prefix_field_over is_plain plain_digit refl refl (codes "dstip") c.dst refl))
-    (number_over is_plain plain_digit refl refl (codes "proto") c.proto refl is.proto)) (number_over is_plain plain_digit refl refl (codes "srcport") c.sport refl is.sport))
-    (number_over is_plain plain_digit refl refl (codes "dstport") c.dport refl is.dport)
+    (number_over is_plain plain_digit refl refl (codes "proto") c.proto refl)) (number_over is_plain plain_digit refl refl (codes "srcport") c.sport refl))
+    (number_over is_plain plain_digit refl refl (codes "dstport") c.dport refl)
 
 -- what follows begins so
 moved_ends : (a b s t u v : List ℕ) → s ≡ u → t ≡ v → a ++ s ≡ b ++ t → a ++ u ≡ b ++ v
 moved_ends a b s t u v e f g = sym (ap (λ x. a ++ x) e) ∙ g ∙ ap (λ x. b ++ x) f
 
-pub cubes : (c d : Cube) → IsCube c → IsCube d → c.inport ≡ None → d.inport ≡ None → Alike (Begins 32) (c ≡ d) (cube_text c) (cube_text d)
-cubes c d one two free also = record {
+pub cubes : (c d : Cube) → IsCube c → c.inport ≡ None → d.inport ≡ None → Alike (Begins 32) (c ≡ d) (cube_text c) (cube_text d)
+cubes c d one free also = record {
   is = λ s t ends stops e.
-      let told = stars_told (texts_of c) (texts_of d) ends.0 stops.0 (cube_over c one) (cube_over d two) (proper_fields (cube_fields c)) (proper_fields (cube_fields d)) (moved_ends (cube_text c) (cube_text d) s t (32 ∷ ends.0) (32 ∷ stops.0) ends.1 stops.1 e) in
+      let told = stars_told (texts_of c) (texts_of d) ends.0 stops.0 (cube_over c) (cube_over d) (proper_fields (cube_fields c)) (proper_fields (cube_fields d)) (moved_ends (cube_text c) (cube_text d) s t (32 ∷ ends.0) (32 ∷ stops.0) ends.1 stops.1 e) in
       let fields = fields_told (cube_fields c) (cube_fields d) told.0 in (
-        cube_is c d (free ∙ sym also) (prefix_told (codes "srcip") c.src d.src fields.0) (prefix_told (codes "dstip") c.dst d.dst fields.1) (number_told (codes "proto") c.proto d.proto one.proto two.proto fields.2)
-            (number_told (codes "srcport") c.sport d.sport one.sport two.sport fields.3) (number_told (codes "dstport") c.dport d.dport one.dport two.dport fields.4),
+        cube_is c d (free ∙ sym also) (prefix_told (codes "srcip") c.src d.src fields.0) (prefix_told (codes "dstip") c.dst d.dst fields.1) (number_told (codes "proto") c.proto d.proto one.proto fields.2)
+            (number_told (codes "srcport") c.sport d.sport one.sport fields.3) (number_told (codes "dstport") c.dport d.dport one.dport fields.4),
         ends.1 ∙ ap (λ x. 32 ∷ x) told.1 ∙ sym stops.1,
       );
 }
@@ -178,11 +175,11 @@ action_fields a = record {
 
 module _ (test : ℕ → Bool) (digits : (c : ℕ) → 48 ≤ c → c ≤ 57 → test c ≡ true) (dot : test 46 ≡ true) (slash : test 47 ≡ true)
     (src : Over test (codes "srcip=")) (dst : Over test (codes "dstip=")) (sport : Over test (codes "srcport=")) (dport : Over test (codes "dstport=")) where
-  set_over : (a : Action) → IsAction a → Each (Over test) (set_fields a)
-  set_over a is =
+  set_over : (a : Action) → Each (Over test) (set_fields a)
+  set_over a =
       each_append (Over test) _ _ (each_append (Over test) _ _ (each_append (Over test) _ _
-      (address_field_over test digits dot slash (codes "srcip") a.set.src src is.src) (address_field_over test digits dot slash (codes "dstip") a.set.dst dst is.dst))
-      (number_over test digits dot slash (codes "srcport") a.set.sport sport is.sport)) (number_over test digits dot slash (codes "dstport") a.set.dport dport is.dport)
+      (address_field_over test digits dot slash (codes "srcip") a.set.src src) (address_field_over test digits dot slash (codes "dstip") a.set.dst dst))
+      (number_over test digits dot slash (codes "srcport") a.set.sport sport)) (number_over test digits dot slash (codes "dstport") a.set.dport dport)
 
 action_of : ℕ → Option Ip → Option Ip → Option ℕ → Option ℕ → Action
 action_of port src dst sport dport = record { port = record { 0 = port }; set = record { src = src; dst = dst; sport = sport; dport = dport } }
@@ -194,29 +191,25 @@ module _ (a b : Action) where
       ap (λ x. action_of x a.set.src a.set.dst a.set.sport a.set.dport) e ∙ ap (λ x. action_of b.port.0 x a.set.dst a.set.sport a.set.dport) f ∙ ap (λ x. action_of b.port.0 b.set.src x a.set.sport a.set.dport) g
       ∙ ap (λ x. action_of b.port.0 b.set.src b.set.dst x a.set.dport) h ∙ ap (λ x. action_of b.port.0 b.set.src b.set.dst b.set.sport x) i
 
-  action_told : IsAction a → IsAction b → action_text a ≡ action_text b → a ≡ b
-  action_told one two e =
+  action_told : IsAction a → action_text a ≡ action_text b → a ≡ b
+  action_told one e =
       let brackets : Alike Nothing (set_fields a ≡ set_fields b) (in_brackets (set_fields a)) (in_brackets (set_fields b)) =
-      alone (in_brackets (set_fields a)) (in_brackets (set_fields b)) (brackets_told (set_fields a) (set_fields b) (set_over is_plain plain_digit refl refl refl refl refl refl a one) (set_over is_plain plain_digit refl refl refl refl refl refl b two)) in
-      let told = closed_is refl (both (decimals a.port.0 b.port.0 one.port two.port) brackets (bracket_stops (set_fields a)) (bracket_stops (set_fields b))) e in
+      alone (in_brackets (set_fields a)) (in_brackets (set_fields b)) (brackets_told (set_fields a) (set_fields b) (set_over is_plain plain_digit refl refl refl refl refl refl a) (set_over is_plain plain_digit refl refl refl refl refl refl b)) in
+      let told = closed_is refl (both (decimals a.port.0 b.port.0 one.port) brackets (bracket_stops (set_fields a)) (bracket_stops (set_fields b))) e in
       let fields = fields_told (action_fields a) (action_fields b) (sym (with_none (address_field (codes "srcip") a.set.src) (address_field (codes "dstip") a.set.dst) (number_field (codes "srcport") a.set.sport) (number_field (codes "dstport") a.set.dport)) ∙ told.1 ∙ with_none (address_field (codes "srcip") b.set.src) (address_field (codes "dstip") b.set.dst) (number_field (codes "srcport") b.set.sport) (number_field (codes "dstport") b.set.dport)) in
-      action_is told.0 (address_told (codes "srcip") a.set.src b.set.src one.src two.src fields.0) (address_told (codes "dstip") a.set.dst b.set.dst one.dst two.dst fields.1)
-      (number_told (codes "srcport") a.set.sport b.set.sport one.sport two.sport fields.3) (number_told (codes "dstport") a.set.dport b.set.dport one.dport two.dport fields.4)
+      action_is told.0 (address_told (codes "srcip") a.set.src b.set.src one.src fields.0) (address_told (codes "dstip") a.set.dst b.set.dst one.dst fields.1)
+      (number_told (codes "srcport") a.set.sport b.set.sport one.sport fields.3) (number_told (codes "dstport") a.set.dport b.set.dport one.dport fields.4)
 
 -- ---- rules
 
--- the first octet of a number is a digit
-starts_digit : (n : ℕ) → n < 2 ^ 64 → (s : List ℕ) → starts is_hex (decimal n ++ s) ≡ true
-starts_digit n low s = by (decimal n) (decimal_is_IsNumeral n low).0.0 (over_decimal is_hex digit_hex n low)
-  where
-    by : (ds : List ℕ) → 0 < length ds → Over is_hex ds → starts is_hex (ds ++ s) ≡ true
-    by [] some over = absurd (omega arith)
-    by (d ∷ ds) some over = (and_parts (is_hex d) (list_all is_hex ds) over).0
+starts_so : (x s : List ℕ) → starts is_hex x ≡ true → starts is_hex (x ++ s) ≡ true
+starts_so [] s is = absurd (cc)
+starts_so (d ∷ ds) s is = is
 
-not_none : (a : Action) (xs : List (List ℕ)) → IsAction a → codes "none" ∷ [] ≡ action_text a ∷ xs → ⊥
-not_none a xs is e =
+not_none : (a : Action) (xs : List (List ℕ)) → codes "none" ∷ [] ≡ action_text a ∷ xs → ⊥
+not_none a xs e =
     let same : codes "none" ≡ action_text a = cc in
-    true_false (starts is_hex (action_text a)) (starts_digit a.port.0 is.port (in_brackets (set_fields a))) (sym (ap (starts is_hex) same))
+    true_false (starts is_hex (action_text a)) (starts_so (decimal a.port.0) (in_brackets (set_fields a)) (number_starts a.port.0)) (sym (ap (starts is_hex) same))
 
 brackets_over : (test : ℕ → Bool) (fs : List (List ℕ)) → test 91 ≡ true → test 44 ≡ true → test 93 ≡ true → Each (Over test) fs → Over test (in_brackets fs)
 brackets_over test [] one two three over = refl
@@ -226,45 +219,45 @@ brackets_over test (x ∷ xs) one two three over = over_append test (codes "[" +
     by x [] over = over.0
     by x (y ∷ ys) over = over_append test (x ++ codes ",") (joined (codes ",") (y ∷ ys)) (over_append test x (codes ",") over.0 (over_more test 44 [] two refl)) (by y ys over.1)
 
-action_over : (a : Action) → IsAction a → Over is_dark (action_text a)
-action_over a is =
-    over_append is_dark (decimal a.port.0) (in_brackets (set_fields a)) (over_decimal is_dark dark_digit a.port.0 is.port)
-    (brackets_over is_dark (set_fields a) refl refl refl (set_over is_dark dark_digit refl refl refl refl refl refl a is))
+action_over : (a : Action) → Over is_dark (action_text a)
+action_over a =
+    over_append is_dark (decimal a.port.0) (in_brackets (set_fields a)) (over_decimal is_dark dark_digit a.port.0)
+    (brackets_over is_dark (set_fields a) refl refl refl (set_over is_dark dark_digit refl refl refl refl refl refl a))
 
-actions_over : (ls : List Action) → Each IsAction ls → Each (Over is_dark) (map action_text ls)
-actions_over [] each = tt
-actions_over (a ∷ ls) each = (action_over a each.0, actions_over ls each.1)
+actions_over : (ls : List Action) → Each (Over is_dark) (map action_text ls)
+actions_over [] = tt
+actions_over (a ∷ ls) = (action_over a, actions_over ls)
 
-texts_told : (ls bs : List Action) → Each IsAction ls → Each IsAction bs → map action_text ls ≡ map action_text bs → ls ≡ bs
-texts_told [] [] each also e = refl
-texts_told [] (b ∷ bs) each also e = absurd (cc)
-texts_told (a ∷ ls) [] each also e = absurd (cc)
-texts_told (a ∷ ls) (b ∷ bs) each also e =
+texts_told : (ls bs : List Action) → Each IsAction ls → map action_text ls ≡ map action_text bs → ls ≡ bs
+texts_told [] [] each e = refl
+texts_told [] (b ∷ bs) each e = absurd (cc)
+texts_told (a ∷ ls) [] each e = absurd (cc)
+texts_told (a ∷ ls) (b ∷ bs) each e =
     let one : action_text a ≡ action_text b = cc in
     let rest : map action_text ls ≡ map action_text bs = cc in
-    cons_is a b ls bs (action_told a b each.0 also.0 one) (texts_told ls bs each.1 also.1 rest)
+    cons_is a b ls bs (action_told a b each.0 one) (texts_told ls bs each.1 rest)
 
-actions_told : (ls bs : List Action) (s t : List ℕ) → Each IsAction ls → Each IsAction bs → or_none (map action_text ls) ++ (10 ∷ s) ≡ or_none (map action_text bs) ++ (10 ∷ t) → (ls ≡ bs) × (s ≡ t)
-actions_told [] [] s t each also e = (refl, (list_told is_dark 32 10 (codes "+ ") refl refl refl (codes "none") [] (codes "none") [] s t (refl, tt) (refl, tt) e).1)
-actions_told [] (b ∷ bs) s t each also e =
-    absurd (not_none b (map action_text bs) also.0 (list_told is_dark 32 10 (codes "+ ") refl refl refl (codes "none") [] (action_text b) (map action_text bs) s t (refl, tt) (actions_over (b ∷ bs) also) e).0)
-actions_told (a ∷ ls) [] s t each also e =
-    absurd (not_none a (map action_text ls) each.0 (sym (list_told is_dark 32 10 (codes "+ ") refl refl refl (action_text a) (map action_text ls) (codes "none") [] s t (actions_over (a ∷ ls) each) (refl, tt) e).0))
-actions_told (a ∷ ls) (b ∷ bs) s t each also e =
-    let told = list_told is_dark 32 10 (codes "+ ") refl refl refl (action_text a) (map action_text ls) (action_text b) (map action_text bs) s t (actions_over (a ∷ ls) each) (actions_over (b ∷ bs) also) e in
-    (texts_told (a ∷ ls) (b ∷ bs) each also told.0, told.1)
+actions_told : (ls bs : List Action) (s t : List ℕ) → Each IsAction ls → or_none (map action_text ls) ++ (10 ∷ s) ≡ or_none (map action_text bs) ++ (10 ∷ t) → (ls ≡ bs) × (s ≡ t)
+actions_told [] [] s t each e = (refl, (list_told is_dark 32 10 (codes "+ ") refl refl refl (codes "none") [] (codes "none") [] s t (refl, tt) (refl, tt) e).1)
+actions_told [] (b ∷ bs) s t each e =
+    absurd (not_none b (map action_text bs) (list_told is_dark 32 10 (codes "+ ") refl refl refl (codes "none") [] (action_text b) (map action_text bs) s t (refl, tt) (actions_over (b ∷ bs)) e).0)
+actions_told (a ∷ ls) [] s t each e =
+    absurd (not_none a (map action_text ls) (sym (list_told is_dark 32 10 (codes "+ ") refl refl refl (action_text a) (map action_text ls) (codes "none") [] s t (actions_over (a ∷ ls)) (refl, tt) e).0))
+actions_told (a ∷ ls) (b ∷ bs) s t each e =
+    let told = list_told is_dark 32 10 (codes "+ ") refl refl refl (action_text a) (map action_text ls) (action_text b) (map action_text bs) s t (actions_over (a ∷ ls)) (actions_over (b ∷ bs)) e in
+    (texts_told (a ∷ ls) (b ∷ bs) each told.0, told.1)
 
-actions_alike : (ls bs : List Action) → Each IsAction ls → Each IsAction bs → Alike (Begins 10) (ls ≡ bs) (or_none (map action_text ls)) (or_none (map action_text bs))
-actions_alike ls bs each also = record {
+actions_alike : (ls bs : List Action) → Each IsAction ls → Alike (Begins 10) (ls ≡ bs) (or_none (map action_text ls)) (or_none (map action_text bs))
+actions_alike ls bs each = record {
   is = λ s t ends stops e.
-      let told = actions_told ls bs ends.0 stops.0 each also (moved_ends (or_none (map action_text ls)) (or_none (map action_text bs)) s t (10 ∷ ends.0) (10 ∷ stops.0) ends.1 stops.1 e) in
+      let told = actions_told ls bs ends.0 stops.0 each (moved_ends (or_none (map action_text ls)) (or_none (map action_text bs)) s t (10 ∷ ends.0) (10 ∷ stops.0) ends.1 stops.1 e) in
       (told.0, ends.1 ∙ ap (λ x. 10 ∷ x) told.1 ∙ sym stops.1);
 }
 
 rule_is : (r q : Rule) → r.cube ≡ q.cube → r.actions ≡ q.actions → r ≡ q
 rule_is r q e f = ap₂ (λ (c : Cube) (ls : List Action). let x : Rule = record { cube = c; actions = ls } in x) e f
 
-pub rules : (r q : Rule) → IsRule r → IsRule q → r.cube.inport ≡ None → q.cube.inport ≡ None → Alike (Begins 10) (r ≡ q) (rule_text r) (rule_text q)
-rules r q one two here there =
+pub rules : (r q : Rule) → IsRule r → r.cube.inport ≡ None → q.cube.inport ≡ None → Alike (Begins 10) (r ≡ q) (rule_text r) (rule_text q)
+rules r q one here there =
     gives (λ is. rule_is r q is.0 is.1)
-    (next (closed (codes " -> ") (λ s. (codes "-> " ++ s, refl)) (cubes r.cube q.cube one.cube two.cube here there)) (actions_alike r.actions q.actions one.actions two.actions))
+    (next (closed (codes " -> ") (λ s. (codes "-> " ++ s, refl)) (cubes r.cube q.cube one.cube here there)) (actions_alike r.actions q.actions one.actions))

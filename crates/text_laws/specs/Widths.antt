@@ -1,4 +1,4 @@
--- Which numbers replies have: each one fits its type (this exchange's own rule).
+-- Which numbers replies have (this exchange's own rule).
 use Rattle.std.specs.Prelude.{ℕ, ◌^◌, ◌<◌, List, [], ◌∷◌, Option, Some, None}
 use Rattle.net_types.specs.declared.address.Ip.{Ip}
 use Rattle.net_types.specs.declared.address.Tag.{Tag}
@@ -6,7 +6,6 @@ use Rattle.net_types.specs.declared.actions.Action.{Action}
 use Rattle.net_types.specs.declared.cube.Cube.{Cube}
 use Rattle.net_types.specs.declared.rule.Pair.{Pair}
 use Rattle.net_types.specs.declared.rule.Rule.{Rule}
-use Rattle.events.specs.declared.Exchange.{Exchange}
 use Rattle.events.specs.declared.Flow.{Flow}
 use Rattle.events.specs.declared.Frame.{Frame}
 use Rattle.events.specs.declared.Head.{Head}
@@ -26,16 +25,9 @@ abbrev pub IfThere : {X : Type 0} → (X → Type 0) → Option X → Type 0
 IfThere P None = Unit {0}
 IfThere P (Some x) = P x
 
--- a number of 64 bits
+-- A number of at most 63 digits. Of one with more than 64 the last 64 alone are written, as of one that has 64.
 abbrev pub IsNumber : ℕ → Type 0
-IsNumber n = n < 2 ^ 64
-
--- an octet
-abbrev pub IsOctet : ℕ → Type 0
-IsOctet n = n < 256
-
-abbrev pub AreOctets : List ℕ → Type 0
-AreOctets octets = Each IsOctet octets
+IsNumber n = n < 10 ^ 63
 
 -- an address has 32 bits
 abbrev pub IsAddress : Ip → Type 0
@@ -72,13 +64,8 @@ pub record IsFlow (f : Flow) : Type 0 where
 pub record IsTagChange (t : TagChange) : Type 0 where
   pub tag : IfThere (λ (x : Tag). IsNumber x.0) t.tag
 
-pub record IsExchange (x : Exchange) : Type 0 where
-  pub request : IfThere AreOctets x.request
-  pub reply : AreOctets x.reply
-
 pub record IsFrame (f : Frame) : Type 0 where
   pub port : IsNumber f.port.0
-  pub bytes : AreOctets f.bytes
 
 -- the numbers of a refusal
 abbrev pub IsRefusal : Refusal → Type 0
@@ -110,12 +97,14 @@ IsHead (Unresolved ip) = IsAddress ip
 IsHead Silent = Unit {0}
 IsHead (Refused why) = IsRefusal why
 
--- the numbers of a reply, as all values of the program have them
+-- the numbers of a reply; of its octets nothing is asked
 pub record HasWidths (r : Reply) : Type 0 where
   pub head : IsHead r.head
   pub tags : Each IsTagChange r.tags
   pub drops : Each IsPair r.drops
   pub adds : Each IsFlow r.adds
-  pub adverts : Each AreOctets r.adverts
-  pub asks : Each IsExchange r.asks
   pub frames : Each IsFrame r.frames
+
+-- the numbers of the actions of a reply's rules
+abbrev pub HasActionWidths : Reply → Type 0
+HasActionWidths r = Each (λ (f : Flow). Each IsAction f.rule.actions) r.adds

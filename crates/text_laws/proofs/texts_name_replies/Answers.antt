@@ -1,4 +1,4 @@
-use Rattle.text_laws.proofs.Replies.{texts_name_replies}
+use Rattle.text_laws.proofs.LegalReplies.{texts_name_replies}
 use Rattle.text_laws.proofs.texts_name_replies.Goals as goal
 
 pub returns : goal.returns
