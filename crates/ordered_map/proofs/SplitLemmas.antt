@@ -7,7 +7,7 @@ use Rattle.std.specs.declared.cmp.Ordering.{Ordering}
 use Rattle.std.specs.declared.cmp.Ordering.TheVariants.{Less, Equal, Greater}
 use Rattle.std.specs.FinMap.Entries.{find, put, is_sorted, below_all, by_order}
 use Rattle.std.proofs.lemmas.Bool.{and_parts}
-use Rattle.ordered_map.specs.Entries.{without, above, put_given}
+use Rattle.ordered_map.specs.Entries.{without, above, put_given, head_of}
 
 pub less : (r : Ordering) → is_lt r ≡ true → r ≡ Less
 less Less e = refl
@@ -40,7 +40,8 @@ module _ {K X : Type 0} (R : K → K → Ordering) where
     pub find_is : find R q (l ++ e ∷ r) ≡ Some e.1
     pub put_is : (v : X) → put R q v (l ++ e ∷ r) ≡ l ++ (e.0, v) ∷ r
     pub without_is : without R q (l ++ e ∷ r) ≡ l ++ r
-    pub above_is : above R q (l ++ e ∷ r) ≡ r
+    pub above_is : above R q (l ++ e ∷ r) ≡ above R q r
+    pub rising : is_sorted R r ≡ true
 
   -- what stands right of an entry, where the key is greater than it
   pub record IsRight (q : K) (l : List (K × X)) (e : K × X) (r : List (K × X)) : Type 0 where
@@ -195,9 +196,8 @@ module _ {K X : Type 0} (R : K → K → Ordering) where
           without_is = without_past q l (e ∷ r) past
               ∙ ap (λ s. l ++ cond (not (is_eq s)) (e ∷ without R q r) (without R q r)) tie
               ∙ ap (λ es. l ++ es) (without_before q [] r below);
-          above_is = above_past q l (e ∷ r) past
-              ∙ ap (λ s. cond (is_lt s) (e ∷ above R q r) (above R q r)) tie
-              ∙ above_before q [] r below;
+          above_is = above_past q l (e ∷ r) past ∙ ap (λ s. cond (is_lt s) (e ∷ above R q r) (above R q r)) tie;
+          rising = parts.1;
         }
 
     pub right_of : (q : K) (l : List (K × X)) (e : K × X) (r : List (K × X)) → is_sorted R (l ++ e ∷ r) ≡ true → R q e.0 ≡ Greater → IsRight q l e r
@@ -218,3 +218,12 @@ left_shorter es l e r whole = let size = ap length whole ∙ length-append l (e 
 
 pub right_shorter : {A : Type 0} (es l : List A) (e : A) (r : List A) → es ≡ l ++ e ∷ r → length r < length es
 right_shorter es l e r whole = let size = ap length whole ∙ length-append l (e ∷ r) in omega (arith, size)
+
+-- ---- the first of some entries, and else the best one before them
+abbrev pub first_or : {A : Type 0} → Option A → Option A → Option A
+first_or None best = best
+first_or (Some x) best = Some x
+
+pub first_of_split : {A : Type 0} (l : List A) (e : A) (r : List A) (best : Option A) → first_or (head_of (l ++ e ∷ r)) best ≡ first_or (head_of l) (Some e)
+first_of_split [] e r best = refl
+first_of_split (x ∷ l) e r best = refl

@@ -1,9 +1,9 @@
 //! How entries come into a tree and leave it.
 
-ghost use Rattle.std.specs.Prelude.{◌≡◌, ◌≤◌, ◌<◌, ◌+◌, ◌∷◌, ◌++◌, [], None, IsTrue, IfSome, IfNone, is_some, if◌then◌else◌};
+ghost use Rattle.std.specs.Prelude.{◌≡◌, ◌≤◌, ◌<◌, ◌+◌, ◌++◌, [], None, IsTrue, IfSome, IfNone, is_some, if◌then◌else◌};
 ghost use Rattle.std.specs.Vec.{vec_len};
-ghost use Rattle.std.specs.FinMap.Entries.{find, put, is_sorted};
-ghost use Rattle.ordered_map.specs.Entries.{entries_of, node_entries, own_entry, is_full, put_given, without, root_value, beside_root};
+ghost use Rattle.std.specs.FinMap.Entries.{find, is_sorted};
+ghost use Rattle.ordered_map.specs.Entries.{entries_of, own_entry, is_full, put_given, without, root_value, beside_root};
 
 use crate::balance::{Height, between, height_of, height_since, level, rebalance};
 use crate::spare::{give_back, lone};

@@ -34,10 +34,10 @@ pub(crate) fn value_of<'a, K: Ord, V>(tree: &'a Tree<K, V>, key: &K) -> Option<&
     requires rising { IsTrue (is_sorted K.cmp (entries_of tree.now)) }
     ensures { option_copied result ≡ find K.cmp key.now (entries_of tree.now) }
 {
-    match tree {
-        Tree::Empty => None,
-        Tree::Fork(node) => match &**node {
-            Node::Blank => None,
+    let mut here = tree;
+    while let Tree::Fork(node) = here {
+        match &**node {
+            Node::Blank => return None,
             Node::Full {
                 left,
                 key: held,
@@ -45,34 +45,37 @@ pub(crate) fn value_of<'a, K: Ord, V>(tree: &'a Tree<K, V>, key: &K) -> Option<&
                 height: _,
                 right,
             } => match key.cmp(held) {
-                Ordering::Less => value_of(left, key),
-                Ordering::Equal => Some(value),
-                Ordering::Greater => value_of(right, key),
+                Ordering::Less => here = left,
+                Ordering::Equal => return Some(value),
+                Ordering::Greater => here = right,
             },
-        },
+        }
     }
+    None
 }
 
 /// The entry with the least key.
 pub(crate) fn first<K, V>(tree: &Tree<K, V>) -> Option<(&K, &V)>
     ensures { option_map deref_pair result ≡ head_of (entries_of tree.now) }
 {
-    match tree {
-        Tree::Empty => None,
-        Tree::Fork(node) => match &**node {
-            Node::Blank => None,
+    let mut best = None;
+    let mut here = tree;
+    while let Tree::Fork(node) = here {
+        match &**node {
+            Node::Blank => return best,
             Node::Full {
                 left,
                 key,
                 value,
                 height: _,
                 right: _,
-            } => match first(left) {
-                None => Some((key, value)),
-                Some(entry) => Some(entry),
-            },
-        },
+            } => {
+                best = Some((key, value));
+                here = left;
+            }
+        }
     }
+    best
 }
 
 /// The entry with the least key above a key.
@@ -80,10 +83,11 @@ pub(crate) fn next_after<'a, K: Ord, V>(tree: &'a Tree<K, V>, key: &K) -> Option
     requires rising { IsTrue (is_sorted K.cmp (entries_of tree.now)) }
     ensures { option_map deref_pair result ≡ head_of (above K.cmp key.now (entries_of tree.now)) }
 {
-    match tree {
-        Tree::Empty => None,
-        Tree::Fork(node) => match &**node {
-            Node::Blank => None,
+    let mut best = None;
+    let mut here = tree;
+    while let Tree::Fork(node) = here {
+        match &**node {
+            Node::Blank => return best,
             Node::Full {
                 left,
                 key: held,
@@ -91,13 +95,14 @@ pub(crate) fn next_after<'a, K: Ord, V>(tree: &'a Tree<K, V>, key: &K) -> Option
                 height: _,
                 right,
             } => match key.cmp(held) {
-                Ordering::Less => match next_after(left, key) {
-                    None => Some((held, value)),
-                    Some(entry) => Some(entry),
-                },
-                Ordering::Equal => first(right),
-                Ordering::Greater => next_after(right, key),
+                Ordering::Less => {
+                    best = Some((held, value));
+                    here = left;
+                }
+                Ordering::Equal => here = right,
+                Ordering::Greater => here = right,
             },
-        },
+        }
     }
+    best
 }
