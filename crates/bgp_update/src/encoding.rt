@@ -7,6 +7,7 @@ ghost use Rattle.net_types.specs.AttributeTypes.{type_flags, type_number};
 ghost use Rattle.net_types.specs.Updates.{aggregator_octets, atomic_octets, attribute, attrs_octets, communities_octets, long, med_octets, optional_attrs_octets, passed_on, prefix_octets, prefixes_octets, segment_octets, short, wide_octets, wide_segment_octets};
 ghost use Rattle.net_types.specs.declared.route.Unknown.{Unknown as Foreign};
 
+use crate::lengths::path_len;
 use crate::paths::has_wide;
 use net_types::{Aggregator, AttributeType, Attrs, Ip, Memory, Prefix, Segment, Unknown};
 use std::alloc::Global;
@@ -42,7 +43,10 @@ fn push_shorts(out: &mut Vec<u8>, asns: &[u32]) -> Result<(), Memory>
     ensures { OnOk result (out.new.items ≡ out.old.items ++ flat_map short asns.now) }
 {
     for asn in asns {
-        out.extend_from_slice(short(*asn).as_slice())?;
+        let [high, low] = short(*asn);
+        out.reserve(2)?;
+        out.push_reserved(high);
+        out.push_reserved(low);
     }
     Ok(())
 }
@@ -51,7 +55,12 @@ fn push_longs(out: &mut Vec<u8>, numbers: &[u32]) -> Result<(), Memory>
     ensures { OnOk result (out.new.items ≡ out.old.items ++ flat_map long numbers.now) }
 {
     for number in numbers {
-        out.extend_from_slice(long(*number).as_slice())?;
+        let [first, second, third, fourth] = long(*number);
+        out.reserve(4)?;
+        out.push_reserved(first);
+        out.push_reserved(second);
+        out.push_reserved(third);
+        out.push_reserved(fourth);
     }
     Ok(())
 }
@@ -70,9 +79,9 @@ pub fn push_prefix(out: &mut Vec<u8>, prefix: Prefix) -> Result<(), Memory>
     ensures { OnOk result (out.new.items ≡ out.old.items ++ prefix_octets prefix) }
 {
     let held = (prefix.len as usize + 7) / 8;
-    let address = long(prefix.address.0);
-    out.push(prefix.len)?;
-    out.extend_from_slice(&address.as_slice()[..held])?;
+    let [first, second, third, fourth] = long(prefix.address.0);
+    let octets = [prefix.len, first, second, third, fourth];
+    out.extend_from_slice(&octets.as_slice()[..1 + held])?;
     Ok(())
 }
 
@@ -130,13 +139,24 @@ fn push_wide_path(out: &mut Vec<u8>, path: &[Segment]) -> Result<(), Memory>
     Ok(())
 }
 
+/// What stands in front of a value of at most 255 octets.
+fn push_short_head(out: &mut Vec<u8>, flags: u8, number: u8, len: u8) -> Result<(), Memory>
+    ensures { OnOk result (out.new.items ≡ out.old.items ++ flags ∷ number ∷ len ∷ []) }
+{
+    out.reserve(3 + len as usize)?;
+    out.push_reserved(flags);
+    out.push_reserved(number);
+    out.push_reserved(len);
+    Ok(())
+}
+
 /// An attribute; its length takes two octets, which the flag 0x10 says, only where one doesn't hold it.
 fn push_attribute(out: &mut Vec<u8>, flags: u8, number: u8, value: &[u8]) -> Result<(), Memory>
     requires { flags < 240 }
     ensures { OnOk result (out.new.items ≡ out.old.items ++ attribute flags number value.now) }
 {
     if value.len() <= 255 {
-        out.extend_from_slice([flags, number, value.len() as u8].as_slice())?;
+        push_short_head(out, flags, number, value.len() as u8)?;
     } else {
         let [high, low] = word(value.len());
         out.extend_from_slice([flags + 16, number, high, low].as_slice())?;
@@ -171,9 +191,15 @@ fn push_passed_on(
 fn push_as_path(alloc: Global, out: &mut Vec<u8>, path: &[Segment]) -> Result<(), Memory>
     ensures { OnOk result (out.new.items ≡ out.old.items ++ attribute 64 2 (flat_map segment_octets path.now)) }
 {
+    let row = AttributeType::AsPath.row();
+    let len = path_len(path);
+    if len <= 255 {
+        push_short_head(out, row.flags, row.number, len as u8)?;
+        return push_path(out, path);
+    }
     let mut value = Vec::new(alloc);
     push_path(&mut value, path)?;
-    push_known(out, AttributeType::AsPath, value.as_slice())
+    push_attribute(out, row.flags, row.number, value.as_slice())
 }
 
 /// AS4_PATH has the whole path, where AS_PATH doesn't tell some number of it.

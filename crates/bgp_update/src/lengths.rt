@@ -29,7 +29,7 @@ fn attribute_len(len: usize) -> usize
     if len <= 255 { add(3, len) } else { add(4, len) }
 }
 
-fn prefix_len(prefix: Prefix) -> usize
+pub fn prefix_len(prefix: Prefix) -> usize
     ensures { result ≡ length (prefix_octets prefix) }
 {
     1 + (prefix.len as usize + 7) / 8
@@ -55,7 +55,7 @@ fn segment_len(segment: &Segment) -> usize
     }
 }
 
-fn path_len(path: &[Segment]) -> usize
+pub fn path_len(path: &[Segment]) -> usize
     ensures { result ≡ min 65535 (length (flat_map segment_octets path.now)) }
 {
     let mut total = 0;
@@ -138,7 +138,7 @@ fn communities_len(partial: bool, communities: &[u32]) -> usize
     }
 }
 
-fn attrs_len(attrs: &Attrs) -> usize
+pub fn attrs_len(attrs: &Attrs) -> usize
     ensures { result ≡ min 65535 (length (attrs_octets attrs.now)) }
 {
     let path = attribute_len(path_len(attrs.path.items()));

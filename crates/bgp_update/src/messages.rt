@@ -7,9 +7,16 @@ ghost use Rattle.net_types.specs.SoundUpdates.{IsSoundUpdate};
 ghost use Rattle.net_types.specs.UpdateSpelling.{Spells};
 
 use crate::encoding::{push_attrs, push_optional_attrs, push_prefix, push_prefixes, word};
+use crate::lengths::{attrs_len, prefix_len};
 use crate::ranges::optional_fit;
 use net_types::{Attrs, Bytes, Ip, Items, Memory, Prefix, Update};
 use std::alloc::Global;
+
+/// The head of a message without withdrawn prefixes, in which the lengths of the message and of its attributes are missing.
+const HEAD: [u8; 23] = [
+    255, 255, 255, 255, 255, 255, 255, 255, 255, 255, 255, 255, 255, 255, 255, 255, 0, 0, 2, 0, 0,
+    0, 0,
+];
 
 /// The length of a message in two octets, from the lengths of its three blocks.
 fn total(withdrawn: usize, attributes: usize, announced: usize) -> [u8; 2]
@@ -72,25 +79,31 @@ pub fn announcement(
 ) -> Result<Bytes, Memory>
     ensures { IfOk result (λ m. m ≡ announcement prefix attrs.now next_hop) }
 {
-    let mut attributes = Vec::new(alloc);
-    push_attrs(alloc, &mut attributes, attrs, next_hop)?;
-    let mut announced = Vec::new(alloc);
-    push_prefix(&mut announced, prefix)?;
-    let message = message(
-        alloc,
-        [].as_slice(),
-        attributes.as_slice(),
-        announced.as_slice(),
-    )?;
-    Ok(Items::from_vec(message))
+    let mut out = Vec::with_capacity(alloc, 23 + attrs_len(attrs) + prefix_len(prefix))?;
+    out.extend_from_slice(HEAD.as_slice())?;
+    push_attrs(alloc, &mut out, attrs, next_hop)?;
+    let attributes = out.len() - 23;
+    push_prefix(&mut out, prefix)?;
+    let [total_high, total_low] = total(0, attributes, prefix_len(prefix));
+    let [high, low] = word(attributes);
+    out[16] = total_high;
+    out[17] = total_low;
+    out[21] = high;
+    out[22] = low;
+    Ok(Items::from_vec(out))
 }
 
 /// The canonical message that withdraws one prefix.
 pub fn withdrawal(alloc: Global, prefix: Prefix) -> Result<Bytes, Memory>
     ensures { IfOk result (λ m. m ≡ withdrawal prefix) }
 {
-    let mut withdrawn = Vec::new(alloc);
-    push_prefix(&mut withdrawn, prefix)?;
-    let message = message(alloc, withdrawn.as_slice(), [].as_slice(), [].as_slice())?;
-    Ok(Items::from_vec(message))
+    let withdrawn = prefix_len(prefix);
+    let [total_high, total_low] = total(withdrawn, 0, 0);
+    let [high, low] = word(withdrawn);
+    let mut out = Vec::with_capacity(alloc, 23 + withdrawn)?;
+    out.extend_from_slice([255; 16].as_slice())?;
+    out.extend_from_slice([total_high, total_low, 2, high, low].as_slice())?;
+    push_prefix(&mut out, prefix)?;
+    out.extend_from_slice([0, 0].as_slice())?;
+    Ok(Items::from_vec(out))
 }
