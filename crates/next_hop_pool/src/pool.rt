@@ -102,6 +102,7 @@ impl Pool {
         let at = (tag.0 - 1) as usize;
         self.taken[at] = true;
         self.free -= 1;
+        self.raise_least();
         self.mark_run(at);
     }
 
@@ -154,6 +155,13 @@ impl Pool {
             return Some(Tag(number));
         }
         None
+    }
+
+    // Passes the tags that are taken, so that the next search begins behind them.
+    fn raise_least(&mut self)
+        ensures { self.new ≡ self.old }
+    {
+        self.least = first_free(self.taken.as_slice(), self.full.as_slice(), self.least);
     }
 
     // Marks the run of a place, where all its places are taken.
