@@ -1,6 +1,6 @@
 //! Runs over generated lines.
 
-use super::Case;
+use super::failing::Case;
 use replay_run::Status;
 
 /// The summary of the declarations alone.

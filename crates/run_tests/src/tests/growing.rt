@@ -1,6 +1,6 @@
 //! An exchange that grows by one update after another, and a job that makes it small again.
 
-use crate::replay::replay;
+use crate::{Given, run_given};
 use net_types::Memory;
 use replay_run::Status;
 use std::alloc::Global;
@@ -85,7 +85,7 @@ fn a_job_leaves_one_tag_of_twenty_thousand(rt: HostRuntime) -> Result<(), Fail> 
     let lines = lines(alloc)?;
     let mut replies = growing(alloc)?;
     shrinking(alloc, &mut replies)?;
-    let ended = replay(&rt, lines.as_bytes())?;
+    let ended = run_given(&rt, Given::replay(lines.as_bytes()))?;
     assert!(rt; ended.status == Status::Done);
     assert!(rt; ended.output.as_slice() == replies.as_bytes());
     Ok(())
