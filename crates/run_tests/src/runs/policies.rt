@@ -398,13 +398,6 @@ out A fwd(2)
 out A modify(dstport=80)
 in B fwd(4)
 in B match(inport=2) >> fwd(2)
-out A \x20
-out A pass +
-out A pass pass
-out A match(dstport=080)
-out A fwd(10.0.0.1)
-out A match(srcip=10.0.0.0/33)
-in B modify(srcip=1.2.3.4/8)
 ";
 
 /// To these, and to the texts at the limits and beyond.
@@ -417,15 +410,8 @@ pub const REFUSED_REPLIES: &str = "\
 14 refused policy modify-outbound 0 18
 15 refused policy foreign-port 0 6
 16 refused policy inport-inbound 6 14
-17 refused syntax 1
-18 refused syntax 6
-19 refused syntax 5
-20 refused syntax 15
-21 refused syntax 6
-22 refused syntax 22
-23 refused syntax 20
-24 refused too-deep 64
-25 ok
-26 refused too-long
-27 ok
+17 refused too-deep 64
+18 ok
+19 refused too-long
+20 ok
 ";
