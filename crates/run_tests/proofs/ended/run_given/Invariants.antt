@@ -1,0 +1,5 @@
+use Rattle.run_tests.proofs.ended.run_given.Given as goal
+
+-- the ledger of the counter
+abbrev pub ghosts-status_of : goal.ghosts-status_of
+ghosts-status_of a = record { name = a.blank.name; parts = a.blank.parts }
