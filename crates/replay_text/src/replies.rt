@@ -8,6 +8,9 @@ use events::{Event, Exchange, Flow, Frame, Head, Refusal, Reply, TagChange};
 use net_types::{Bytes, Items, Kind, Memory, Pair};
 use std::alloc::Global;
 
+/// The room that a text starts with, in octets: most replies fit in it, so that their texts never move.
+const ROOM: usize = 512;
+
 /// How a policy breaks isolation.
 fn kind_word(kind: Kind) -> &'static str
     ensures { result.now ≡ kind_word kind }
@@ -273,7 +276,7 @@ pub fn write_reply(
 ) -> Result<Bytes, Memory>
     ensures { IfOk result (λ text. text ≡ reply_text number event.now reply.now) }
 {
-    let mut text = String::new(alloc);
+    let mut text = String::with_capacity(alloc, ROOM)?;
     push_reply(&mut text, number, event, reply)?;
     Ok(Bytes::from_vec(text.into_bytes()))
 }
