@@ -1,13 +1,15 @@
--- Hexadecimal digits, as the library reads them.
-use Rattle.std.proofs.Common.{◌≡◌, ℕ, ◌+◌, ◌*◌, ◌/◌, ◌%◌, ◌==◌, Bool, true, false, cond, List, [], ◌∷◌, length, slice_index, refl, ap, ◌∙◌, arith, nat_lt, nat_eq, Option, Some, None, Result, Ok, Err}
+-- Hexadecimal digits, as the library reads and writes them.
+use Rattle.std.proofs.Common.{◌≡◌, ◌<◌, get_or, suc, ℕ, ◌+◌, ◌*◌, ◌/◌, ◌%◌, ◌==◌, Bool, true, false, cond, List, [], ◌∷◌, length, slice_index, refl, ap, ◌∙◌, arith, nat_lt, nat_eq, Option, Some, None, Result, Ok, Err}
 use Rattle.std.specs.Option.{option_map, option_and_then}
 use Rattle.std.specs.Result.{result_ok}
+use Rattle.std.proofs.lemmas.Bool.{agree_below_at, eqb-true}
 use Rattle.std.proofs.lemmas.Bool.Decides.{nat_tests}
-use Rattle.hex.specs.Hex.{decode_of, decode_pairs, decode_sized, digit_or_error, hex_digit_value, ◌>>=◌}
+use Rattle.hex.specs.Hex.{encode_lower, encode_with, lower_digits, decode_of, decode_pairs, decode_sized, digit_or_error, hex_digit_value, ◌>>=◌}
 use Rattle.hex.specs.declared.error.FromHexError.{FromHexError}
 use Rattle.hex.specs.declared.error.FromHexError.TheVariants.{OddLength, InvalidStringLength}
 use Rattle.hex.proofs.HexLemmas.{decode_pairs-ok}
 use Rattle.events.specs.Lines.{hex_digit, hex_octets, bytes, one_octet, only_if}
+use Rattle.events.specs.Text.{hex_text, hex_text_digit}
 
 same_digit : (c : ℕ) → hex_digit c ≡ hex_digit_value c
 same_digit c = grind (arith, nat_tests)
@@ -62,3 +64,21 @@ sized_by s (Ok octets) is = let len = (decode_pairs-ok 0 s octets is).1 in grind
 
 pub one_octet-decode : (s : List ℕ) → one_octet s ≡ first_of (result_ok (decode_sized s 1))
 one_octet-decode s = ap one_of (same_octets 0 s) ∙ sized_by s (decode_pairs 0 s) refl
+
+-- ---- digits that are written
+
+abbrev is_written : ℕ → Bool
+is_written n = slice_index lower_digits n == hex_text_digit n
+
+written_digit : (n : ℕ) → n < 16 → slice_index lower_digits n ≡ hex_text_digit n
+written_digit n less = eqb-true _ _ (agree_below_at is_written (λ _. true) 16 n refl less)
+
+-- The text of octets in digits of lower case.
+pub hex_text-encode : (s : List ℕ) → ((k : ℕ) → get_or s k 0 < 256) → encode_lower s ≡ hex_text s
+unfolding encode_with
+hex_text-encode [] small = refl
+hex_text-encode (b ∷ bs) small =
+    let high : slice_index lower_digits (b / 16) ≡ hex_text_digit (b / 16) = written_digit (b / 16) (let h = small 0 in omega (arith, h)) in
+    let low : slice_index lower_digits (b % 16) ≡ hex_text_digit (b % 16) = written_digit (b % 16) (omega arith) in
+    let others = hex_text-encode bs (λ k. small (suc k)) in
+    rw (high, low, others) refl

@@ -1,12 +1,15 @@
 //! Writing a reply.
-ghost use Rattle.std.specs.Prelude.{◌≡◌, ◌++◌, ◌∷◌, ◌<◌, [], IfOk, OnOk, codes, string_bytes, flat_map};
-ghost use Rattle.events.specs.Text.{reply_text, head_text, kind_word, refusal_text, tag_text, drop_text, end_line, flow_text, add_text, rule_line, hex_text, hex_text_digit, advert_text, ask_text, exchange_text, frame_text};
+ghost use Rattle.std.specs.Prelude.{◌≡◌, ◌++◌, IfOk, OnOk, codes, string_bytes, flat_map};
+ghost use Rattle.events.specs.Text.{reply_text, head_text, kind_word, refusal_text, tag_text, drop_text, end_line, flow_text, add_text, rule_line, hex_text, advert_text, ask_text, exchange_text, frame_text};
 ghost use Rattle.replay_text.specs.Fields.{pair_rule_text};
 
 use super::rules::{push_address, push_prefix, push_rule};
 use events::{Event, Exchange, Flow, Frame, Head, Refusal, Reply, TagChange};
 use net_types::{Bytes, Items, Kind, Memory, Pair};
 use std::alloc::Global;
+
+/// The room that a text starts with, in octets: most replies fit in it, so that their texts never move.
+const ROOM: usize = 512;
 
 /// How a policy breaks isolation.
 fn kind_word(kind: Kind) -> &'static str
@@ -116,30 +119,9 @@ fn push_drop(text: &mut String, pair: Pair) -> Result<(), Memory>
 fn push_hex(text: &mut String, octets: &[u8]) -> Result<(), Memory>
     ensures { OnOk result (string_bytes text.new ≡ string_bytes text.old ++ hex_text octets.now) }
 {
-    for octet in octets {
-        push_octet(text, *octet)?;
-    }
+    let digits = hex::encode(*text.allocator(), octets)?;
+    text.push_str(digits.as_str())?;
     Ok(())
-}
-
-fn push_octet(text: &mut String, octet: u8) -> Result<(), Memory>
-    ensures { OnOk result (string_bytes text.new ≡ string_bytes text.old ++ hex_text (octet ∷ [])) }
-{
-    text.push(hex_digit(octet / 16))?;
-    text.push(hex_digit(octet % 16))?;
-    Ok(())
-}
-
-/// A digit in lower case.
-fn hex_digit(n: u8) -> char
-    requires { n < 16 }
-    ensures { result ≡ hex_text_digit n }
-{
-    if n < 10 {
-        char::from(b'0' + n)
-    } else {
-        char::from(b'a' + (n - 10))
-    }
 }
 
 fn push_advert(text: &mut String, octets: &[u8]) -> Result<(), Memory>
@@ -294,7 +276,7 @@ pub fn write_reply(
 ) -> Result<Bytes, Memory>
     ensures { IfOk result (λ text. text ≡ reply_text number event.now reply.now) }
 {
-    let mut text = String::new(alloc);
+    let mut text = String::with_capacity(alloc, ROOM)?;
     push_reply(&mut text, number, event, reply)?;
     Ok(Bytes::from_vec(text.into_bytes()))
 }
