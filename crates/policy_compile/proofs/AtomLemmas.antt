@@ -38,7 +38,7 @@ behind-both ps qs cubes ks ls f g =
     SetLemmas.same_trans (cubes-same ks ls) (SetLemmas.same_trans (SetLemmas.same_append f g) (SetLemmas.same_eq (sym (behind-append ps qs cubes))))
 
 -- a cube that was found, behind an assignment
-abbrev pull_found : Option Cube → Assign → Option Cube
+abbrev pub pull_found : Option Cube → Assign → Option Cube
 pull_found None set = None
 pull_found (Some c) set = pull_cube c set
 
@@ -46,7 +46,7 @@ has-pull_found : (o : Option Cube) (set : Assign) (h : Headers) → has_option (
 has-pull_found None set h = refl
 has-pull_found (Some c) set h = has-pull c set h
 
-pull-followed : (c : Cube) (first next : Assign) → pull_found (pull_cube c next) first ≡ pull_cube c (followed_by first next)
+pub pull-followed : (c : Cube) (first next : Assign) → pull_found (pull_cube c next) first ≡ pull_cube c (followed_by first next)
 pull-followed c first next =
     option_ext (pull_found (pull_cube c next) first) (pull_cube c (followed_by first next)) (λ h.
     has-pull_found (pull_cube c next) first h ∙ has-pull c next (apply first h)

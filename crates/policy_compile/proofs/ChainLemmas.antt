@@ -26,7 +26,7 @@ or-regrouped : {A : Type 0} (a b c : Option A) → option_or (option_or c b) a �
 or-regrouped a b None = refl
 or-regrouped a b (Some x) = refl
 
-followed-regrouped : (first second third : Assign) → followed_by first (followed_by second third) ≡ followed_by (followed_by first second) third
+pub followed-regrouped : (first second third : Assign) → followed_by first (followed_by second third) ≡ followed_by (followed_by first second) third
 followed-regrouped a b c =
     let src = or-regrouped a.src b.src c.src in
     let dst = or-regrouped a.dst b.dst c.dst in

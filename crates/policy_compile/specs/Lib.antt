@@ -3,3 +3,5 @@ pub mod Narrow
 pub mod Apart
 pub mod Measures
 pub mod Parts
+pub mod Cells
+pub mod Paths

@@ -2,14 +2,19 @@
 #![tactic(auto)]
 
 mod apart;
+mod at_cells;
 mod atoms;
+mod cells;
 mod fields;
 mod meets;
 mod mods;
+mod pairs;
 mod parts;
+mod paths;
 mod policies;
 mod preds;
 mod sets;
+mod sums;
 mod width;
 
 pub use policies::compile;

@@ -14,9 +14,12 @@ ghost use Rattle.policy_syntax.specs.Views.{policy_of, target_of};
 ghost use Rattle.classifier.specs.Compiled.{IsCompiled};
 ghost use Rattle.policy_compile.specs.Parts.{AreParts};
 
+use crate::at_cells::compiled_at_cells;
+use crate::pairs::{Pairs, Stop};
 use crate::parts::{alone, appended};
 use crate::preds::{compile_pred, plain_cube, unchanged};
-use classifier::{Classifier, Results, parallel_all, sequence, single};
+use crate::sums::sum_all;
+use classifier::{Classifier, Results, sequence, single};
 use net_types::{Assign, Loc, Memory};
 use policy_isolate::Names;
 use policy_syntax::{Node, Target, Tree};
@@ -55,16 +58,21 @@ fn forward<N: Names>(alloc: Global, target: Target<'_>, names: &N) -> Result<Cla
 
 /// The classifiers of the parts of a sum, however its brackets stand; of another policy its own.
 #[cycle(sums)]
-fn parts_of<N: Names>(alloc: Global, tree: &Tree<'_>, names: &N) -> Result<Vec<Classifier>, Memory>
+fn parts_of<N: Names>(
+    alloc: Global,
+    pairs: &mut Pairs,
+    tree: &Tree<'_>,
+    names: &N,
+) -> Result<Vec<Classifier>, Stop>
     ensures { IfOk result (λ v. AreParts (N.pid_of names.now) (policy_of tree.now) v.items) }
 {
     match tree.node() {
         Node::Both(first, second) => {
-            let parts = parts_of_both(alloc, first, second, names)?;
+            let parts = parts_of_both(alloc, pairs, first, second, names)?;
             Ok(parts)
         }
         _ => {
-            let whole = compiled(alloc, tree, names)?;
+            let whole = compiled(alloc, pairs, tree, names)?;
             let parts = alone(alloc, whole)?;
             Ok(parts)
         }
@@ -75,14 +83,15 @@ fn parts_of<N: Names>(alloc: Global, tree: &Tree<'_>, names: &N) -> Result<Vec<C
 #[cycle(sums)]
 fn parts_of_both<N: Names>(
     alloc: Global,
+    pairs: &mut Pairs,
     first: &Tree<'_>,
     second: &Tree<'_>,
     names: &N,
-) -> Result<Vec<Classifier>, Memory>
+) -> Result<Vec<Classifier>, Stop>
     ensures { IfOk result (λ v. AreParts (N.pid_of names.now) (Both (policy_of first.now) (policy_of second.now)) v.items) }
 {
-    let left = parts_of(alloc, first, names)?;
-    let right = parts_of(alloc, second, names)?;
+    let left = parts_of(alloc, pairs, first, names)?;
+    let right = parts_of(alloc, pairs, second, names)?;
     let parts = appended(left, right)?;
     Ok(parts)
 }
@@ -101,13 +110,15 @@ fn is_simple(tree: &Tree<'_>) -> bool {
 #[cycle(sums)]
 fn whole_before<N: Names>(
     alloc: Global,
+    pairs: &mut Pairs,
     tree: &Tree<'_>,
     next: Classifier,
     names: &N,
-) -> Result<Classifier, Memory>
+) -> Result<Classifier, Stop>
     ensures { IfOk result (λ c. (q : Policy) → IsCompiled (N.pid_of names.now) q next → IsCompiled (N.pid_of names.now) (Then (policy_of tree.now) q) c) }
 {
-    let whole = compiled(alloc, tree, names)?;
+    let whole = compiled(alloc, pairs, tree, names)?;
+    pairs.take_chain(whole.lines(), next.lines())?;
     let chained = sequence(alloc, &whole, &next)?;
     Ok(chained)
 }
@@ -117,33 +128,40 @@ fn whole_before<N: Names>(
 #[cycle(sums)]
 fn before<N: Names>(
     alloc: Global,
+    pairs: &mut Pairs,
     tree: &Tree<'_>,
     next: Classifier,
     names: &N,
-) -> Result<Classifier, Memory>
+) -> Result<Classifier, Stop>
     ensures { IfOk result (λ c. (q : Policy) → IsCompiled (N.pid_of names.now) q next → IsCompiled (N.pid_of names.now) (Then (policy_of tree.now) q) c) }
 {
     match tree.node() {
         Node::Then(first, second) => {
             if is_simple(second) {
-                let end = compiled(alloc, second, names)?;
+                let end = compiled(alloc, pairs, second, names)?;
+                pairs.take_chain(end.lines(), next.lines())?;
                 let later = sequence(alloc, &end, &next)?;
-                let chained = before(alloc, first, later, names)?;
+                let chained = before(alloc, pairs, first, later, names)?;
                 return Ok(chained);
             }
-            let chained = whole_before(alloc, tree, next, names)?;
+            let chained = whole_before(alloc, pairs, tree, next, names)?;
             Ok(chained)
         }
         _ => {
-            let chained = whole_before(alloc, tree, next, names)?;
+            let chained = whole_before(alloc, pairs, tree, next, names)?;
             Ok(chained)
         }
     }
 }
 
-/// What `compile` does, with its three promises as one.
+/// What `compile` does, with its three promises as one, by operations on the classifiers of the parts.
 #[cycle(sums)]
-fn compiled<N: Names>(alloc: Global, tree: &Tree<'_>, names: &N) -> Result<Classifier, Memory>
+fn compiled<N: Names>(
+    alloc: Global,
+    pairs: &mut Pairs,
+    tree: &Tree<'_>,
+    names: &N,
+) -> Result<Classifier, Stop>
     ensures { IfOk result (λ c. IsCompiled (N.pid_of names.now) (policy_of tree.now) c) }
 {
     match tree.node() {
@@ -164,7 +182,7 @@ fn compiled<N: Names>(alloc: Global, tree: &Tree<'_>, names: &N) -> Result<Class
             Ok(sent)
         }
         Node::Test(pred) => {
-            let kept = compile_pred(alloc, pred)?;
+            let kept = compile_pred(alloc, pairs, pred)?;
             Ok(kept)
         }
         Node::Set(set, _) => {
@@ -172,13 +190,13 @@ fn compiled<N: Names>(alloc: Global, tree: &Tree<'_>, names: &N) -> Result<Class
             Ok(changed)
         }
         Node::Both(first, second) => {
-            let parts = parts_of_both(alloc, first, second, names)?;
-            let either = parallel_all(alloc, &parts)?;
+            let parts = parts_of_both(alloc, pairs, first, second, names)?;
+            let either = sum_all(alloc, pairs, &parts)?;
             Ok(either)
         }
         Node::Then(first, second) => {
-            let next = compiled(alloc, second, names)?;
-            let chained = before(alloc, first, next, names)?;
+            let next = compiled(alloc, pairs, second, names)?;
+            let chained = before(alloc, pairs, first, next, names)?;
             Ok(chained)
         }
     }
@@ -194,6 +212,13 @@ pub fn compile<N: Names>(alloc: Global, tree: &Tree<'_>, names: &N) -> Result<Cl
     // Its assignments are those of the policy's paths.
     ensures assigns { IfOk result (λ c. (m : AnyAssign) → Member m (assigns_of c) → Member m (mods (policy_of tree.now))) }
 {
-    let made = compiled(alloc, tree, names)?;
-    Ok(made)
+    let mut pairs = Pairs::new();
+    match compiled(alloc, &mut pairs, tree, names) {
+        Ok(made) => Ok(made),
+        Err(Stop::Memory) => Err(Memory),
+        Err(Stop::Pairs) => {
+            let made = compiled_at_cells(alloc, tree, names)?;
+            Ok(made)
+        }
+    }
 }

@@ -8,8 +8,10 @@ ghost use Rattle.policy_syntax.specs.Views.{pred_of, test_of};
 ghost use Rattle.classifier.specs.Compiled.{Filters, KeepsFound};
 ghost use Rattle.policy_compile.specs.Parts.{AreFilters};
 
+use crate::pairs::{Pairs, Stop};
 use crate::parts::{alone, appended};
-use classifier::{Classifier, Results, negate, parallel_all, sequence, single};
+use crate::sums::sum_all;
+use classifier::{Classifier, Results, negate, sequence, single};
 use net_types::{Assign, Cube, Loc, Memory};
 use policy_syntax::{Pred, Test};
 use std::alloc::Global;
@@ -75,16 +77,16 @@ fn keep_found(alloc: Global, found: Option<Cube>) -> Result<Classifier, Memory>
 
 /// The classifiers of the parts of a disjunction, however its brackets stand; of another predicate its own.
 #[cycle(filters)]
-fn filters_of(alloc: Global, pred: &Pred<'_>) -> Result<Vec<Classifier>, Memory>
+fn filters_of(alloc: Global, pairs: &mut Pairs, pred: &Pred<'_>) -> Result<Vec<Classifier>, Stop>
     ensures { IfOk result (λ v. AreFilters (pred_of pred.now) v.items) }
 {
     match pred {
         Pred::Or(first, second) => {
-            let parts = filters_of_both(alloc, first, second)?;
+            let parts = filters_of_both(alloc, pairs, first, second)?;
             Ok(parts)
         }
         _ => {
-            let whole = compile_pred(alloc, pred)?;
+            let whole = compile_pred(alloc, pairs, pred)?;
             let parts = alone(alloc, whole)?;
             Ok(parts)
         }
@@ -95,20 +97,21 @@ fn filters_of(alloc: Global, pred: &Pred<'_>) -> Result<Vec<Classifier>, Memory>
 #[cycle(filters)]
 fn filters_of_both(
     alloc: Global,
+    pairs: &mut Pairs,
     first: &Pred<'_>,
     second: &Pred<'_>,
-) -> Result<Vec<Classifier>, Memory>
+) -> Result<Vec<Classifier>, Stop>
     ensures { IfOk result (λ v. AreFilters (Or (pred_of first.now) (pred_of second.now)) v.items) }
 {
-    let left = filters_of(alloc, first)?;
-    let right = filters_of(alloc, second)?;
+    let left = filters_of(alloc, pairs, first)?;
+    let right = filters_of(alloc, pairs, second)?;
     let parts = appended(left, right)?;
     Ok(parts)
 }
 
 /// The packet as it is where the predicate holds, and nothing elsewhere.
 #[cycle(filters)]
-pub fn compile_pred(alloc: Global, pred: &Pred<'_>) -> Result<Classifier, Memory>
+pub fn compile_pred(alloc: Global, pairs: &mut Pairs, pred: &Pred<'_>) -> Result<Classifier, Stop>
     ensures { IfOk result (λ c. Filters (pred_of pred.now) c) }
 {
     match pred {
@@ -121,7 +124,7 @@ pub fn compile_pred(alloc: Global, pred: &Pred<'_>) -> Result<Classifier, Memory
             Ok(tested)
         }
         Pred::Not(inner) => {
-            let inside = compile_pred(alloc, inner)?;
+            let inside = compile_pred(alloc, pairs, inner)?;
             let turned = negate(alloc, &inside)?;
             Ok(turned)
         }
@@ -131,15 +134,16 @@ pub fn compile_pred(alloc: Global, pred: &Pred<'_>) -> Result<Classifier, Memory
                 Ok(kept)
             }
             None => {
-                let left = compile_pred(alloc, first)?;
-                let right = compile_pred(alloc, second)?;
+                let left = compile_pred(alloc, pairs, first)?;
+                let right = compile_pred(alloc, pairs, second)?;
+                pairs.take_chain(left.lines(), right.lines())?;
                 let both = sequence(alloc, &left, &right)?;
                 Ok(both)
             }
         },
         Pred::Or(first, second) => {
-            let parts = filters_of_both(alloc, first, second)?;
-            let either = parallel_all(alloc, &parts)?;
+            let parts = filters_of_both(alloc, pairs, first, second)?;
+            let either = sum_all(alloc, pairs, &parts)?;
             Ok(either)
         }
     }

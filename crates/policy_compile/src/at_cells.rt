@@ -1,0 +1,89 @@
+//! Policies compiled cube by cube.
+
+ghost use Rattle.std.specs.Prelude.{◌≡◌, [], IfOk};
+ghost use Rattle.policy_syntax.specs.Views.{policy_of};
+ghost use Rattle.net_types.specs.Cubes.{everything};
+ghost use Rattle.classifier.specs.Classifiers.{lines_of};
+ghost use Rattle.classifier.specs.Lines.{add_lines};
+ghost use Rattle.net_types.specs.Sets.{Member};
+ghost use Rattle.classifier.specs.Meaning.{cubes_of};
+ghost use Rattle.classifier.specs.Compiled.{IsCompiled};
+ghost use Rattle.policy_compile.specs.Paths.{AreAt, IsVisit, begun};
+
+use crate::atoms::atoms_of;
+use crate::cells::cells_of;
+use crate::paths::push_paths;
+use classifier::{Classifier, Line, Results, push_lines};
+use net_types::{Assign, Cube, Items, Loc, Memory};
+use policy_isolate::Names;
+use policy_syntax::Tree;
+use std::alloc::Global;
+use std::collections::HashSet;
+
+/// What a policy makes of the packets of a cube.
+fn results_at<N: Names>(
+    alloc: Global,
+    tree: &Tree<'_>,
+    names: &N,
+    cube: &Cube,
+) -> Result<Results, Memory>
+    ensures { IfOk result (λ r. IsVisit (N.pid_of names.now) (policy_of tree.now) cube.now begun [] r) }
+{
+    let mut results = Results::new(alloc);
+    push_paths(
+        alloc,
+        &mut results,
+        tree,
+        names,
+        cube,
+        (Assign::none(), Loc::Stay),
+    )?;
+    Ok(results)
+}
+
+/// The rule of each cube.
+fn lines_at<N: Names>(
+    alloc: Global,
+    tree: &Tree<'_>,
+    names: &N,
+    cubes: &[Cube],
+) -> Result<Vec<Line>, Memory>
+    ensures { IfOk result (λ v. AreAt (N.pid_of names.now) (policy_of tree.now) cubes.now v.items) }
+{
+    let mut lines = Vec::new(alloc);
+    for cube in cubes {
+        let results = results_at(alloc, tree, names, cube)?;
+        lines.push(Line {
+            cube: *cube,
+            results,
+        })?;
+    }
+    Ok(lines)
+}
+
+/// The classifier of these rules, of which one has all headers, without those that can't be reached.
+fn classifier_of(alloc: Global, lines: Vec<Line>) -> Result<Classifier, Memory>
+    requires { Member everything (cubes_of lines.items) }
+    ensures { IfOk result (λ c. lines_of c ≡ add_lines [] lines.items) }
+{
+    let mut reached = Vec::new(alloc);
+    let mut seen = HashSet::new(alloc);
+    push_lines(&mut reached, &mut seen, lines)?;
+    Ok(Classifier::from_lines(Items::from_vec(reached)))
+}
+
+/// What `compile` does, cube by cube: the meets of the policy's atoms, each with what the policy makes in it.
+pub fn compiled_at_cells<N: Names>(
+    alloc: Global,
+    tree: &Tree<'_>,
+    names: &N,
+) -> Result<Classifier, Memory>
+    ensures { IfOk result (λ c. IsCompiled (N.pid_of names.now) (policy_of tree.now) c) }
+{
+    let atoms = atoms_of(alloc, tree)?;
+    let mut cubes = cells_of(alloc, atoms.as_slice())?;
+    cubes.push(Cube::everything())?;
+    let lines = lines_at(alloc, tree, names, &cubes)?;
+    let made = classifier_of(alloc, lines)?;
+    Ok(made)
+}
