@@ -2,7 +2,7 @@
 
 ghost use Rattle.std.specs.Prelude.{◌≡◌, ◌≤◌, ◌<◌, ◌+◌, IfOk, IsTrue, OnErr, OnOk, is_some, length};
 ghost use Rattle.std.specs.FinMap as map;
-ghost use Rattle.std.specs.FinMap.Entries.{find, is_sorted};
+ghost use Rattle.std.specs.FinMap.Entries.{find};
 ghost use Rattle.net_types.specs.Keys.{tag_cmp};
 ghost use Rattle.net_types.specs.Maps.{put_option};
 ghost use Rattle.ordered_map.specs.Entries.{without};
@@ -103,7 +103,7 @@ impl Grouping {
         ensures { IfOk result (IsLeastBeside self.now tag) }
     {
         match self.tags.get(&tag) {
-            Some(sig) => Ok(least_from(&self.index, sig.share()?, tag)),
+            Some(sig) => Ok(least_from(&self.tags, &self.index, sig.share()?, tag)),
             None => unreachable!(),
         }
     }
@@ -139,15 +139,32 @@ fn take_from(tags: &mut OrderedMap<Tag, SharedSig>, index: &mut OrderedMap<Place
     }
 }
 
+/// Whether a tag stands in the index with a signature. The tags alone, which are found more quickly, tell of most that don't.
+fn is_listed(
+    tags: &OrderedMap<Tag, SharedSig>,
+    index: &OrderedMap<Placed, ()>,
+    wanted: &Placed,
+) -> bool
+    requires { IsIndexed tags.now.items index.now.items }
+    ensures { result ≡ is_some (find placed_cmp wanted.now index.now.items) }
+{
+    tags.get(&wanted.tag).is_some() && index.get(wanted).is_some()
+}
+
 /// The least tag of a signature, of those that stand in the index. One of them does.
-fn least_from(index: &OrderedMap<Placed, ()>, sig: SharedSig, one: Tag) -> Tag
-    requires rising { IsTrue (is_sorted placed_cmp index.now.items) }
+fn least_from(
+    tags: &OrderedMap<Tag, SharedSig>,
+    index: &OrderedMap<Placed, ()>,
+    sig: SharedSig,
+    one: Tag,
+) -> Tag
+    requires indexed { IsIndexed tags.now.items index.now.items }
     requires listed { IsTrue (is_some (find placed_cmp (record { sig = sig; tag = one }) index.now.items)) }
     ensures there { IsTrue (is_some (find placed_cmp (record { sig = sig; tag = result }) index.now.items)) }
     ensures least { (tag : AnyTag) → IsTrue (is_some (find placed_cmp (record { sig = sig; tag = tag }) index.now.items)) → result.0 ≤ tag.0 }
 {
     let from = Placed { sig, tag: Tag(0) };
-    if index.get(&from).is_some() {
+    if is_listed(tags, index, &from) {
         return from.tag;
     }
     match index.next_after(&from) {

@@ -88,8 +88,11 @@ impl Ranked for Part {
 
     fn rank(&self, other: &Part) -> Ordering {
         let bests = self.best.0.cmp(&other.best.0);
-        let offers = rank_items(self.offers.items(), other.offers.items());
-        self.sender.0.cmp(&other.sender.0).then(bests.then(offers))
+        match self.sender.0.cmp(&other.sender.0).then(bests) {
+            Ordering::Equal => rank_items(self.offers.items(), other.offers.items()),
+            Ordering::Less => Ordering::Less,
+            Ordering::Greater => Ordering::Greater,
+        }
     }
 }
 

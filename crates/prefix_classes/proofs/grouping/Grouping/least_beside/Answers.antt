@@ -7,8 +7,8 @@ use Rattle.prefix_classes.proofs.GroupingLemmas.{least_is_beside, own_listed}
 use Rattle.prefix_classes.specs.Placed.{IsLeastBeside}
 use Rattle.prefix_classes.proofs.grouping.Grouping.least_beside.Goals as goal
 
-pub least_from-requires-clause-rising : goal.least_from-requires-clause-rising
-least_from-requires-clause-rising c = c.self.invariant.index_rises
+pub least_from-requires-clause-indexed : goal.least_from-requires-clause-indexed
+least_from-requires-clause-indexed c = c.self.invariant
 
 pub least_from-requires-clause-listed : goal.least_from-requires-clause-listed
 least_from-requires-clause-listed c =
