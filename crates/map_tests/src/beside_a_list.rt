@@ -71,19 +71,26 @@ fn the_map_answers_as_a_list(rt: HostRuntime) -> Result<(), Fail> {
         seed = next(seed);
         let key = (seed >> 16) % 256;
         if (seed >> 8) % 3 == 0 {
-            assert!(rt; map.remove(&key) == slow.remove(key));
+            assert!(rt; map.remove(&key) == slow.remove(key), "round {round}");
         } else {
-            assert!(rt; map.insert(key, round)? == slow.insert(key, round)?);
+            assert!(rt;
+                map.insert(key, round)? == slow.insert(key, round)?,
+                "round {round}"
+            );
         }
-        assert!(rt; map.get(&key).copied() == slow.get(key));
-        assert!(rt; map.len() == slow.entries.len());
+        assert!(rt; map.get(&key).copied() == slow.get(key), "round {round}");
+        assert!(rt; map.len() == slow.entries.len(), "round {round}");
         let after = slow.entries.get(slow.place(key.saturating_add(1))).copied();
-        assert!(rt; map.next_after(&key).map(|entry| (*entry.0, *entry.1)) == after);
+        assert!(rt;
+            map.next_after(&key).map(|entry| (*entry.0, *entry.1)) == after,
+            "round {round}"
+        );
         if round % 100 == 0 {
             assert!(rt;
                 map.iter()
                     .map(|entry| (*entry.0, *entry.1))
-                    .eq(slow.entries.iter().copied())
+                    .eq(slow.entries.iter().copied()),
+                "round {round}"
             );
         }
     }

@@ -137,23 +137,38 @@ fn first_bits(address: u32, len: u8) -> Prefix {
 fn every_length_along_one_path(rt: HostRuntime) -> Result<(), Fail> {
     let mut map: PrefixMap<u8> = PrefixMap::new(rt.alloc());
     let address = 0xffff_ffff;
-    for _ in 0..2 {
+    for turn in 0..2u8 {
         for step in 0..33u8 {
             // short and long ones in turn
             let len = if step % 2 == 0 { step } else { 32 - step };
-            assert!(rt; map.insert(first_bits(address, len), len) == Ok(None));
+            assert!(rt;
+                map.insert(first_bits(address, len), len) == Ok(None),
+                "turn {turn}, length {len}"
+            );
         }
-        assert!(rt; map.len() == 33);
-        assert!(rt; map.iter().map(|entry| *entry.1).eq(0..33u8));
-        assert!(rt; map.longest(Ip(0x7fff_ffff)).map(|entry| *entry.1) == Some(0));
+        assert!(rt; map.len() == 33, "turn {turn}");
+        assert!(rt; map.iter().map(|entry| *entry.1).eq(0..33u8), "turn {turn}");
+        assert!(rt;
+            map.longest(Ip(0x7fff_ffff)).map(|entry| *entry.1) == Some(0),
+            "turn {turn}"
+        );
         for gone in 0..33u8 {
             let len = 32 - gone;
-            assert!(rt; map.longest(Ip(address)).map(|entry| *entry.1) == Some(len));
-            assert!(rt; map.remove(first_bits(address, len)) == Some(len));
-            assert!(rt; map.get(first_bits(address, len)).is_none());
+            assert!(rt;
+                map.longest(Ip(address)).map(|entry| *entry.1) == Some(len),
+                "turn {turn}, length {len}"
+            );
+            assert!(rt;
+                map.remove(first_bits(address, len)) == Some(len),
+                "turn {turn}, length {len}"
+            );
+            assert!(rt;
+                map.get(first_bits(address, len)).is_none(),
+                "turn {turn}, length {len}"
+            );
         }
-        assert!(rt; map.len() == 0);
-        assert!(rt; map.longest(Ip(address)).is_none());
+        assert!(rt; map.len() == 0, "turn {turn}");
+        assert!(rt; map.longest(Ip(address)).is_none(), "turn {turn}");
     }
     Ok(())
 }
@@ -190,21 +205,25 @@ fn prefixes_answer_as_a_list(rt: HostRuntime) -> Result<(), Fail> {
         seed = next(seed);
         let removing = if round / 1000 % 2 == 0 { 3 } else { 7 };
         if (seed >> 8) % 10 < removing {
-            assert!(rt; map.remove(key) == slow.remove(key));
+            assert!(rt; map.remove(key) == slow.remove(key), "round {round}");
         } else {
             assert!(rt;
                 map.insert(key, round).is_ok_and(|before| slow
                     .insert(key, round)
-                    .is_ok_and(|other| before == other))
+                    .is_ok_and(|other| before == other)),
+                "round {round}"
             );
         }
-        assert!(rt; map.get(key).copied() == slow.get(key));
-        assert!(rt; map.len() == slow.entries.len());
+        assert!(rt; map.get(key).copied() == slow.get(key), "round {round}");
+        assert!(rt; map.len() == slow.entries.len(), "round {round}");
         seed = next(seed);
         let ip = some_prefix(seed).address;
-        assert!(rt; map.longest(ip).map(|entry| (entry.0, *entry.1)) == slow.longest(ip));
+        assert!(rt;
+            map.longest(ip).map(|entry| (entry.0, *entry.1)) == slow.longest(ip),
+            "round {round}"
+        );
         if round % 50 == 0 {
-            assert!(rt; same_entries(&map, &slow));
+            assert!(rt; same_entries(&map, &slow), "round {round}");
         }
     }
     Ok(())

@@ -42,7 +42,7 @@ fn members_are_counted(rt: HostRuntime) -> Result<(), Fail> {
     assert!(rt; !give(&mut classes, rt.alloc(), Tag(2), &[twelve])?);
     assert!(rt; give(&mut classes, rt.alloc(), Tag(1), &[eleven, twelve, twelve])?);
     for (tag, members) in [(1, 2), (2, 1), (3, 0)] {
-        assert!(rt; classes.members(Tag(tag)) == members);
+        assert!(rt; classes.members(Tag(tag)) == members, "tag {tag}");
     }
     assert!(rt; classes.tag_of(eleven) == Some(Tag(1)));
     assert!(rt; give(&mut classes, rt.alloc(), Tag(3), &[eleven])?);
@@ -72,7 +72,10 @@ fn the_next_tag_has_members(rt: HostRuntime) -> Result<(), Fail> {
         (Some(2), Some(5)),
         (Some(5), None),
     ] {
-        assert!(rt; classes.next_tag(after.map(Tag)) == next.map(Tag));
+        assert!(rt;
+            classes.next_tag(after.map(Tag)) == next.map(Tag),
+            "behind {after:?}"
+        );
     }
     Ok(())
 }

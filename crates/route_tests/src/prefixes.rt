@@ -27,7 +27,10 @@ fn the_longest_prefix_that_covers(rt: HostRuntime) -> Result<(), Fail> {
         (Ip(u32::MAX), [255, 255, 255, 255], 32, 3),
     ];
     for (ip, octets, len, value) in rows {
-        assert!(rt; map.longest(ip) == Some((prefix(octets, len)?, &value)));
+        assert!(rt;
+            map.longest(ip) == Some((prefix(octets, len)?, &value)),
+            "length {len}"
+        );
     }
     assert!(rt; map.remove(Prefix::any()) == Some(1));
     assert!(rt; map.longest(low) == None);
