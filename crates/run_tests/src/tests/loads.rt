@@ -9,6 +9,10 @@ const DECLARED: &str = "lines 17\nok 17\nrefused 0\nadverts 0\nframes 0\ntags 0\
 /// The same without its end.
 const ALL_BUT_ONE: &str = "lines 17\nok 17\nrefused 0\nadverts 0\nframes 0\ntags 0\nrules 0";
 
+/// The summary of two thousand lines of the seed 7.
+const DRAWN: &str =
+    "lines 2017\nok 1961\nrefused 56\nadverts 7364\nframes 154\ntags 468\nrules 9312\n";
+
 /// A run that draws no line. It would fail if it read.
 fn declared<'c>() -> Case<'c> {
     Case {
@@ -22,10 +26,22 @@ fn declared<'c>() -> Case<'c> {
     }
 }
 
+/// A run that draws two thousand lines.
+fn drawn<'c>() -> Case<'c> {
+    Case {
+        name: "two thousand lines of the seed 7",
+        words: &["load", "7", "2000"],
+        status: Status::Refused,
+        output: DRAWN,
+        ..declared()
+    }
+}
+
 /// Loads, with a write that fails.
-pub fn load_cases<'c>() -> [Case<'c>; 3] {
+pub fn load_cases<'c>() -> [Case<'c>; 4] {
     [
         declared(),
+        drawn(),
         Case {
             name: "the greatest seed",
             words: &["load", "18446744073709551615", "0"],
@@ -42,9 +58,10 @@ pub fn load_cases<'c>() -> [Case<'c>; 3] {
 }
 
 /// The same, where one octet is written at a time.
-pub fn slow_load_cases<'c>() -> [Case<'c>; 3] {
+pub fn slow_load_cases<'c>() -> [Case<'c>; 4] {
     [
         declared(),
+        drawn(),
         Case {
             name: "a write fails within a summary",
             failing_writes: &[7],
