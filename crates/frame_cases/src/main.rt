@@ -5,6 +5,7 @@
 #![tactic(auto)]
 
 mod datagrams;
+mod fields;
 mod octets;
 mod requests;
 mod routers;
@@ -23,6 +24,7 @@ fn answer(alloc: Global, router: &mut Router, question: &str) -> Result<String, 
     match word {
         "update" => updates::answer(alloc, rest),
         "copy" => updates::copied(alloc, rest),
+        "fields" => fields::answer(alloc, rest),
         "beside" => updates::beside(alloc, rest),
         "flags" => updates::flags(alloc, rest),
         "announce" => updates::announced(alloc, rest),

@@ -4,7 +4,9 @@ ghost use Rattle.net_types.specs.SoundUpdates.{IsSoundUpdate};
 ghost use Rattle.std.specs.Prelude.{◌≡◌, [], None, IfOk, IfSome};
 
 use crate::octets::{digits, octets};
-use crate::words::{address, first_word, no_question, numbers, octet, prefix, push_address};
+use crate::words::{
+    address, first_word, no_question, numbers, octet, prefix, push_address, push_prefixes,
+};
 use arp_frame::{ArpRequest, reply};
 use bgp_update::{decode, encode, encoded_len};
 use border_router::{News, Router, TagFault, news};
@@ -46,17 +48,6 @@ fn told(alloc: Global, text: &str) -> Result<Option<News>, Memory>
         Ok(update) => news_of(alloc, &update),
         Err(_) => Ok(None),
     }
-}
-
-/// Puts each prefix behind a text.
-fn push_prefixes(text: &mut String, prefixes: &[Prefix]) -> Result<(), Memory> {
-    for prefix in prefixes {
-        text.push_str(" ")?;
-        push_address(text, prefix.address)?;
-        let len = prefix.len;
-        write!(text, "/{len}")?;
-    }
-    Ok(())
 }
 
 /// What was withdrawn and announced, and by which next hop.

@@ -13,7 +13,8 @@ fn written(alloc: Global, update: &Update) -> Result<String, Memory> {
     digits(alloc, encode(alloc, update)?.as_slice())
 }
 
-fn fault(alloc: Global, why: UpdateFault) -> Result<String, Memory> {
+/// The word of a fault.
+pub fn fault(alloc: Global, why: UpdateFault) -> Result<String, Memory> {
     match why {
         UpdateFault::Bad(fault) => Ok(String::from_str(alloc, fault.row().word)?),
         UpdateFault::Memory => Err(Memory),

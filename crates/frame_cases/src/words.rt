@@ -41,6 +41,17 @@ pub fn push_address(text: &mut String, ip: Ip) -> Result<(), Memory> {
     Ok(())
 }
 
+/// Puts each prefix behind a text.
+pub fn push_prefixes(text: &mut String, prefixes: &[Prefix]) -> Result<(), Memory> {
+    for prefix in prefixes {
+        text.push_str(" ")?;
+        push_address(text, prefix.address)?;
+        let len = prefix.len;
+        write!(text, "/{len}")?;
+    }
+    Ok(())
+}
+
 /// What is said of a question that can't be asked.
 pub fn no_question(alloc: Global) -> Result<String, Memory> {
     Ok(String::from_str(alloc, "no question")?)
