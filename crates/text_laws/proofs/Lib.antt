@@ -14,5 +14,4 @@ pub mod Counts
 pub mod Details
 pub mod Determined
 pub mod LegalReplies
-pub mod Formed
 pub mod ReadEvents
