@@ -36,6 +36,7 @@ use Rattle.events.specs.declared.Head.TheVariants.{Fine, Silent, Unresolved, Unr
 use Rattle.events.specs.declared.Refusal.{Refusal}
 use Rattle.events.specs.declared.Refusal.TheVariants.{TableFull}
 use Rattle.events.specs.declared.Reply.{Reply}
+use Rattle.run_laws.proofs.OneMore.{legal_more, state_more}
 use Rattle.run_laws.proofs.Passing.{policies_have_passed}
 use Rattle.text_laws.specs.Naming.{AddsNoPort, IsOfNoPort, LegalRulesAreOfNoPort}
 use Rattle.text_laws.specs.Widths.{Each}
@@ -200,19 +201,6 @@ module _ (s : State) (e : Event) (r : Reply) (here : TableIsFree s) (later : IsS
 
 -- ---- runs
 
--- a run with a further line
-one_more : (s : State) (es : List Event) (rs : List Reply) (e : Event) (r : Reply) → LegalFrom s es rs → Fits (state_from s es rs) e r → LegalFrom s (es ++ e ∷ []) (rs ++ r ∷ [])
-one_more s [] [] e r legal fits = (fits, tt)
-one_more s [] (q ∷ rs) e r legal fits = absurd legal
-one_more s (d ∷ es) [] e r legal fits = absurd legal
-one_more s (d ∷ es) (q ∷ rs) e r legal fits = (legal.0, one_more (next s d q) es rs e r legal.1 fits)
-
-state_then : (s : State) (es : List Event) (rs : List Reply) (e : Event) (r : Reply) → LegalFrom s es rs → state_from s (es ++ e ∷ []) (rs ++ r ∷ []) ≡ next (state_from s es rs) e r
-state_then s [] [] e r legal = refl
-state_then s [] (q ∷ rs) e r legal = absurd legal
-state_then s (d ∷ es) [] e r legal = absurd legal
-state_then s (d ∷ es) (q ∷ rs) e r legal = state_then (next s d q) es rs e r legal.1
-
 sound_run : (es : List Event) (rs : List Reply) → Legal es rs → IsSound (state_after es rs) → TableIsFree (state_after es rs)
 sound_run es rs legal sound = let ps = policies_have_passed es rs legal in sound_free (state_after es rs) ps.0 ps.1 ps.2 sound
 
@@ -222,8 +210,8 @@ from_free done said legal free es [] more = tt
 from_free done said legal free [] (r ∷ rs) more = absurd more
 from_free done said legal free (e ∷ es) (r ∷ rs) more =
     let s : State = state_after done said in
-    let longer : Legal (done ++ e ∷ []) (said ++ r ∷ []) = one_more first done said e r legal more.0 in
-    let there : next s e r ≡ state_after (done ++ e ∷ []) (said ++ r ∷ []) = sym (state_then first done said e r legal) in
+    let longer : Legal (done ++ e ∷ []) (said ++ r ∷ []) = legal_more first done said e r legal more.0 in
+    let there : next s e r ≡ state_after (done ++ e ∷ []) (said ++ r ∷ []) = sym (state_more first done said e r legal) in
     let sounds : IsSound (next s e r) → TableIsFree (next s e r) = subst (λ x. IsSound x → TableIsFree x) (sym there) (sound_run (done ++ e ∷ []) (said ++ r ∷ []) longer) in
     let step : StaysFree s e r = fitting s e r free sounds (refusal s e) more.0 in
     (step.0, from_free (done ++ e ∷ []) (said ++ r ∷ []) longer (subst TableIsFree there step.1) es rs (subst (λ x. LegalFrom x es rs) there more.1))
