@@ -21,7 +21,7 @@ use Rattle.fast_path.proofs.CommittedTable.{with_is, without_is}
 use Rattle.fast_path.proofs.PortsAndTags.{tie}
 use Rattle.fast_path.specs.Committing.{Block}
 use Rattle.fast_path.specs.Plans.{pair_of}
-use Rattle.job_end.specs.Ends.{IsEnd, ended, is_other, setting_of}
+use Rattle.job_end.specs.Ends.{IsEnd, ended, is_other}
 use Rattle.job_end.specs.Rebuilt.{IsFewer, blocks_of}
 use Rattle.job_end.specs.declared.ended.End.{End}
 use Rattle.job_laws.proofs.MergedStates.{pair_was_live, right_rules_stay}
@@ -39,6 +39,7 @@ use Rattle.net_types.specs.Keys.{pair_cmp}
 use Rattle.net_types.specs.Sets.{IsRising, Member}
 use Rattle.net_types.specs.declared.rule.Pair.{Pair}
 use Rattle.net_types.specs.declared.rule.Rule.{Rule}
+use Rattle.recompile.specs.Setting.{setting_of}
 use Rattle.recompile.specs.Working.{IsSwap}
 use Rattle.recompile.specs.declared.swap.Swap.{Swap}
 
