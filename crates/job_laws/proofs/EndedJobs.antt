@@ -1,5 +1,5 @@
 -- A job ends with right and tight rules, no more for a pair than it had.
-use Rattle.std.proofs.Common.{◌≡◌, ℕ, ◌+◌, ◌-◌, ◌≤◌, ◌<◌, ◌^◌, Bool, true, false, nat_eq, nat_lt, not, List, [], ◌∷◌, filter, length, sum_by, ap, sym, subst, ◌∙◌, refl, arith}
+use Rattle.std.proofs.Common.{◌≡◌, ℕ, ◌+◌, ◌≤◌, ◌<◌, ◌^◌, Bool, true, false, nat_eq, nat_lt, not, List, [], ◌∷◌, filter, length, sum_by, ap, sym, subst, ◌∙◌, refl, arith}
 use Rattle.std.specs.Prelude.{Some, MatchOption, is_some, unwrap_or}
 use Rattle.std.specs.Cmp.Lexicographic.{pointwise}
 use Rattle.std.specs.FinMap.{contains_key-keys, get, keys, values}

@@ -13,7 +13,7 @@ use Rattle.events.specs.declared.Refusal.{Refusal}
 use Rattle.events.specs.declared.Reply.{Reply}
 use Rattle.run_laws.proofs.OneMore.{legal_more, state_more}
 use Rattle.run_laws.proofs.Refusing.{refusals_change_nothing}
-use Rattle.run_laws.specs.Refusing.{AreRefusedRight, IsRefusedInOrder, IsRefusedRight, RefusalsAreInOrder, accepted_events, accepted_replies, unless_refused}
+use Rattle.run_laws.specs.Refusing.{AreRefusedRight, IsRefusedRight, RefusalsAreInOrder, accepted_events, accepted_replies, unless_refused}
 
 -- ---- each refusal
 
