@@ -31,7 +31,7 @@ use Rattle.exchange_laws.specs.Steady.{IsSteady}
 use Rattle.job_laws.specs.Jobs.{without_job}
 use Rattle.net_types.specs.Cubes.{IsInRange}
 use Rattle.text_laws.specs.Naming.{IsOfNoPort}
-use Rattle.text_laws.specs.Widths.{Each, IfThere, IsAction, IsCube, IsNumber, IsPair}
+use Rattle.text_laws.specs.Widths.{Each, IsAction, IsCube, IsNumber, IsPair}
 use Rattle.text_laws.proofs.Counts.{IsSmall, small_pair}
 use Rattle.text_laws.proofs.Fields.{each_append}
 use Rattle.text_laws.proofs.LegalRules.{sound_free}
@@ -55,11 +55,11 @@ pub record DetailsFit (r : Reply) : Type 0 where
   pub drops : Each IsPair r.drops
   pub adds : Each FlowFits r.adds
 
-in_8 : (o : Option ℕ) → IfSome o (λ n. n < 2 ^ 8) → IfThere IsNumber o
+in_8 : (o : Option ℕ) → IfSome o (λ n. n < 2 ^ 8) → IfSome o IsNumber
 in_8 None is = tt
 in_8 (Some n) is = omega (arith, is)
 
-in_16 : (o : Option ℕ) → IfSome o (λ n. n < 2 ^ 16) → IfThere IsNumber o
+in_16 : (o : Option ℕ) → IfSome o (λ n. n < 2 ^ 16) → IfSome o IsNumber
 in_16 None is = tt
 in_16 (Some n) is = omega (arith, is)
 
