@@ -32,7 +32,6 @@ use Rattle.job_end.specs.Laws.{ArePartsOf, EndsCanBeCommitted, EndsFitLines, End
 use Rattle.job_end.specs.Rebuilt.{table_with}
 use Rattle.job_end.specs.declared.ended.End.{End}
 use Rattle.job_laws.specs.Jobs.{IsSteadyInJob, without_job}
-use Rattle.job_upkeep.specs.Upkeep.{setting_of}
 use Rattle.net_types.specs.Exports.{pid_of}
 use Rattle.net_types.specs.Keys.{prefix_cmp}
 use Rattle.net_types.specs.declared.address.Ip.{Ip}
@@ -40,6 +39,7 @@ use Rattle.net_types.specs.declared.rule.Pair.{Pair}
 use Rattle.next_hop_pool.specs.Free.{Tags}
 use Rattle.prefix_classes.specs.Classes.{Classes}
 use Rattle.prefix_classes.specs.Merging.{moved}
+use Rattle.recompile.specs.Setting.{setting_of}
 use Rattle.recompile.specs.Working.{IsSwap}
 use Rattle.recompile.specs.declared.swap.Swap.{Swap}
 use Rattle.registry.specs.Registered.{Registered}

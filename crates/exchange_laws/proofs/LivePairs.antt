@@ -12,14 +12,15 @@ use Rattle.events.specs.declared.Entry.{Entry}
 use Rattle.events.specs.Tags.{is_live, is_live_for, is_live_pair, pairs, same_tag, tags, tells}
 use Rattle.exchange_laws.proofs.FreshTags.{best_announced}
 use Rattle.exchange_laws.proofs.Lists.{get_tabulated, is_some_of}
-use Rattle.exchange_laws.proofs.Sames.{tag_same}
+use Rattle.exchange_laws.proofs.Sames.{tag_itself, tag_same}
 use Rattle.exchange_laws.proofs.TagsAfter.{live_of}
 use Rattle.exchange_laws.specs.Retagging.{TagsArePooled}
 use Rattle.exchange_laws.specs.Rules.{OwnersAreDeclared}
 use Rattle.net_types.proofs.FindLemmas.{any_at, find-IsFound, slice_get-Member}
 use Rattle.net_types.proofs.OrderLemmas.{prefix_tie, prefixes_total}
+use Rattle.net_types.proofs.PassLemmas.{some_there}
 use Rattle.net_types.proofs.SetLemmas.{Member-map, Member-union}
-use Rattle.net_types.proofs.ValueLemmas.{no_entries, value_at}
+use Rattle.net_types.proofs.ValueLemmas.{any_value, no_entries, value_at}
 use Rattle.net_types.specs.Keys.{prefix_cmp}
 use Rattle.net_types.specs.Routes.{Candidate, announced, best}
 use Rattle.net_types.specs.Sets.{Member}
@@ -78,6 +79,17 @@ pub present_tag : (s : State) (who : Pid) (t : Tag) → tells (present s who) t 
 present_tag s who t told =
     let v = value_at prefix_cmp prefixes_total (λ (e : Entry). same_tag e.tag t) (present s who) told in
     (v.key, subst (IsPresent s who v.key) (tag_same v.value.tag t v.passes) (entry_from s who v.key v.value (sym (present_is s who v.key) ∙ v.there)))
+
+-- a best route and a tag make an entry present
+pub present_from : (s : State) (who : Pid) (p : Prefix) (t : Tag) → is_some (best s.routing who p) ≡ true → get s.tag p ≡ Some t → tells (present s who) t ≡ true
+present_from s who p t routed tagged =
+    let chosen = some_there (best s.routing who p) routed in
+    let e : Entry = record { attrs = chosen.0.attrs; tag = t } in
+    any_value prefix_cmp prefixes_total (λ (x : Entry). same_tag x.tag t) (present s who) p e
+    (present_is s who p
+    ∙ ap (λ b. option_and_then (λ (c : Candidate). option_map (λ u. let x : Entry = record { attrs = c.attrs; tag = u } in x) (get s.tag p)) b) chosen.1
+    ∙ ap (λ o. option_map (λ u. let x : Entry = record { attrs = chosen.0.attrs; tag = u } in x) o) tagged)
+    (tag_itself t)
 
 -- ---- live tags
 

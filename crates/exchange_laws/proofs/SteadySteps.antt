@@ -5,7 +5,7 @@ use Rattle.std.specs.FinMap.{get, get-empty}
 use Rattle.events.proofs.Reached.{first_sound, step_sound}
 use Rattle.events.specs.After.{accepted, after, next, next_by}
 use Rattle.events.specs.Forms.{IsWellFormed}
-use Rattle.events.specs.Fits.{FitsBy, is_of_job}
+use Rattle.events.specs.Fits.{Fits, FitsBy, is_of_job}
 use Rattle.events.specs.Legal.{LegalFrom, state_from}
 use Rattle.events.specs.Refusals.{refusal}
 use Rattle.events.specs.Sound.{IsSound}
@@ -171,13 +171,14 @@ steps_stay_steady s e r steady formed other fits = step s e r steady formed othe
 
 -- ---- a run
 
-from_steady : (s : State) (es : List Event) (rs : List Reply) → ((e : Event) → Member e es → IsWellFormed e × (is_of_job e ≡ false)) → IsSteady s → LegalFrom s es rs → IsSteady (state_from s es rs)
-from_steady s [] [] formed steady legal = steady
-from_steady s [] (r ∷ rs) formed steady legal = absurd legal
-from_steady s (e ∷ es) [] formed steady legal = absurd legal
-from_steady s (e ∷ es) (r ∷ rs) formed steady legal =
-    let here = formed e (inl refl) in
-    from_steady (next s e r) es rs (λ x m. formed x (inr m)) (steps_stay_steady s e r steady here.0 here.1 legal.0) legal.1
+-- what each line keeps, where it is such a line and the reply fits, a legal run of such lines keeps
+pub runs_keep : (P : State → Type 0) (Q : Event → Type 0) → ((s : State) (e : Event) (r : Reply) → P s → Q e → Fits s e r → P (next s e r))
+    → (s : State) (es : List Event) (rs : List Reply) → ((e : Event) → Member e es → Q e) → P s → LegalFrom s es rs → P (state_from s es rs)
+runs_keep P Q keeps s [] [] such holds legal = holds
+runs_keep P Q keeps s [] (r ∷ rs) such holds legal = absurd legal
+runs_keep P Q keeps s (e ∷ es) [] such holds legal = absurd legal
+runs_keep P Q keeps s (e ∷ es) (r ∷ rs) such holds legal = runs_keep P Q keeps (next s e r) es rs (λ x m. such x (inr m)) (keeps s e r holds (such e (inl refl)) legal.0) legal.1
 
 pub runs_stay_steady : RunsStaySteady
-runs_stay_steady es rs formed legal = from_steady first es rs formed starts_steady legal
+runs_stay_steady es rs formed legal =
+    runs_keep IsSteady (λ e. IsWellFormed e × (is_of_job e ≡ false)) (λ s e r steady is fits. steps_stay_steady s e r steady is.0 is.1 fits) first es rs formed starts_steady legal

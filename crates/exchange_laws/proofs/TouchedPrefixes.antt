@@ -13,18 +13,17 @@ use Rattle.events.specs.Tags.{group_of, is_carried, is_changed, is_live_pair, re
 use Rattle.events.specs.declared.TagChange.{TagChange}
 use Rattle.exchange_laws.proofs.FreshTags.{carried_listed}
 use Rattle.exchange_laws.proofs.Lists.{clash, is_some_of, key_Member}
-use Rattle.exchange_laws.proofs.LivePairs.{live_at, live_from, port_Member, present_is, present_tag}
+use Rattle.exchange_laws.proofs.LivePairs.{live_at, live_from, port_Member, present_from, present_is, present_tag}
 use Rattle.exchange_laws.proofs.Sames.{signature_itself, tag_itself}
 use Rattle.exchange_laws.proofs.TagsAfter.{tags_are}
 use Rattle.exchange_laws.proofs.Untouched.{is_some-map, keeps_tag, unchanged}
 use Rattle.exchange_laws.specs.Touched.{GonePairsAreTouched, IsLiveBy, IsTouching, NewPairsAreTouched, OthersKeepTags, OthersStayPresent, TouchedHaveChanges, TouchedHaveGroups}
 use Rattle.net_types.proofs.EqualLemmas.{optional_test, signature_test}
 use Rattle.net_types.proofs.OrderLemmas.{prefix_tie, prefixes_total}
-use Rattle.net_types.proofs.PassLemmas.{place_member, some_there}
+use Rattle.net_types.proofs.PassLemmas.{place_member}
 use Rattle.net_types.proofs.RisingLemmas.{Member-filter, before, before_itself, before_trans, filter-IsRising, filter-Member}
 use Rattle.net_types.proofs.SameLemmas.{option_itself}
 use Rattle.net_types.proofs.SetLemmas.{Member-append_left, Member-append_right, rising_unique}
-use Rattle.net_types.proofs.ValueLemmas.{any_value}
 use Rattle.net_types.specs.Attributes.{same_attrs, same_option, same_signature}
 use Rattle.net_types.specs.Changes.{best_attrs}
 use Rattle.net_types.specs.Exports.{Routing}
@@ -44,17 +43,6 @@ use Rattle.net_types.specs.declared.rule.Pair.{Pair}
 -- prefixes in order that have the same members are the same list
 one_list : (ps qs : List Prefix) → IsRising (before prefix_cmp) ps → IsRising (before prefix_cmp) qs → SameMembers ps qs → ps ≡ qs
 one_list = rising_unique (before prefix_cmp) (before_itself prefix_cmp prefixes_total) (before_trans prefix_cmp prefixes_total)
-
--- a best route and a tag make an entry present
-present_from : (s : State) (who : Pid) (p : Prefix) (t : Tag) → is_some (best s.routing who p) ≡ true → get s.tag p ≡ Some t → tells (present s who) t ≡ true
-present_from s who p t routed tagged =
-    let chosen = some_there (best s.routing who p) routed in
-    let e : Entry = record { attrs = chosen.0.attrs; tag = t } in
-    any_value prefix_cmp prefixes_total (λ (x : Entry). same_tag x.tag t) (present s who) p e
-    (present_is s who p
-    ∙ ap (λ b. option_and_then (λ (c : Candidate). option_map (λ u. let x : Entry = record { attrs = c.attrs; tag = u } in x) (get s.tag p)) b) chosen.1
-    ∙ ap (λ o. option_map (λ u. let x : Entry = record { attrs = chosen.0.attrs; tag = u } in x) o) tagged)
-    (tag_itself t)
 
 module _ (s : State) (r : Routing) (ps : List Prefix) (touching : IsTouching s r ps) where
   abbrev s1 : State

@@ -1,12 +1,11 @@
 -- The pairs of the table that don't go and get other rules are those whose rules come, and with those that go those whose rules go.
 use Rattle.std.proofs.Common.{◌≡◌, Bool, true, false, ◌&&◌, ◌||◌, not, List, ◌++◌, ap, sym, ◌∙◌, refl, inl, inr}
-use Rattle.std.specs.Prelude.{is_some}
-use Rattle.std.specs.FinMap.{contains_key-keys, get, keys}
+use Rattle.std.specs.FinMap.{keys}
 use Rattle.std.proofs.lemmas.Bool.{and_from, and_parts, false_from_ne_true, or_left, or_right}
 use Rattle.events.specs.After.{merged}
 use Rattle.events.specs.State.{State}
 use Rattle.events.specs.Tags.{is_live_pair}
-use Rattle.exchange_laws.proofs.Lists.{TableOf, clash, key_Member, not_true}
+use Rattle.exchange_laws.proofs.Lists.{clash, key_Member, not_true}
 use Rattle.exchange_laws.specs.Listed.{AreLiveOnly, AreThose, comes, goes}
 use Rattle.exchange_laws.specs.Rules.{is_new}
 use Rattle.exchange_laws.specs.Steady.{IsSteady}
@@ -14,6 +13,7 @@ use Rattle.fast_path.proofs.PortsAndTags.{tie}
 use Rattle.fast_path.specs.Pairs.{dropped_pairs, is_among}
 use Rattle.job_end.specs.Ends.{is_other}
 use Rattle.job_end.specs.Rebuilt.{Rules, changed_pairs, has_others}
+use Rattle.job_laws.proofs.EndedJobs.{there}
 use Rattle.job_laws.proofs.MergedStates.{pair_was_live}
 use Rattle.job_laws.specs.Jobs.{without_job}
 use Rattle.net_types.proofs.OrderLemmas.{pairs_total}
@@ -25,13 +25,9 @@ use Rattle.net_types.specs.Sets.{Member}
 use Rattle.net_types.specs.declared.rule.Pair.{Pair}
 
 -- what is so by the second of two tests, where the first is met
-second : (a b : Bool) → a ≡ true → (not a || b) ≡ true → b ≡ true
+pub second : (a b : Bool) → a ≡ true → (not a || b) ≡ true → b ≡ true
 second true b is e = e
 second false b is e = absurd (cc)
-
--- a key has something
-there : (t : TableOf) (pair : Pair) → Member pair (keys t) → is_some (get t pair) ≡ true
-there t pair m = contains_key-keys t pair ∙ member_any pair_cmp pairs_total tie pair (keys t) m
 
 module _ (s : State) (steady : IsSteady (without_job s)) (built : Rules) (gone : List Pair) (are : AreLiveOnly s (merged s) gone) where
   abbrev s1 : State

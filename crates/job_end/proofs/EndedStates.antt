@@ -25,7 +25,7 @@ use Rattle.fast_path.specs.Planned.{IsPoolOf}
 use Rattle.job_end.proofs.EndedTables.{changed_live, live_at_end, pairs_at_end, same_comes, same_goes, swapped, tightened}
 use Rattle.job_end.proofs.MergedTags.{tags_merged}
 use Rattle.job_end.specs.Committing.{CanEnd}
-use Rattle.job_end.specs.Ends.{IsEnd, ended, setting_of}
+use Rattle.job_end.specs.Ends.{IsEnd, ended}
 use Rattle.job_end.specs.Laws.{ArePartsOf, LeadsTo, end_reply}
 use Rattle.job_end.specs.Rebuilt.{IsFewer, table_with}
 use Rattle.job_end.specs.declared.ended.End.{End}
@@ -43,6 +43,7 @@ use Rattle.next_hop_pool.specs.Free.{IsTag, Tags, is_taken}
 use Rattle.prefix_classes.proofs.MemberLemmas.{no_members}
 use Rattle.prefix_classes.specs.Classes.{Classes}
 use Rattle.prefix_classes.specs.Merging.{IsMergeOf, moved}
+use Rattle.recompile.specs.Setting.{setting_of}
 use Rattle.recompile.specs.Working.{IsSwap}
 use Rattle.recompile.specs.declared.swap.Swap.{Swap}
 use Rattle.std.specs.List.{list_any}

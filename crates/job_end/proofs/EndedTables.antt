@@ -21,7 +21,8 @@ use Rattle.fast_path.proofs.CommittedTable.{with_is, without_is}
 use Rattle.fast_path.proofs.PortsAndTags.{tie}
 use Rattle.fast_path.specs.Committing.{Block}
 use Rattle.fast_path.specs.Plans.{pair_of}
-use Rattle.job_end.specs.Ends.{IsEnd, ended, is_other, setting_of}
+use Rattle.job_end.proofs.ChangedPairs.{second}
+use Rattle.job_end.specs.Ends.{IsEnd, ended, is_other}
 use Rattle.job_end.specs.Rebuilt.{IsFewer, blocks_of}
 use Rattle.job_end.specs.declared.ended.End.{End}
 use Rattle.job_laws.proofs.MergedStates.{pair_was_live, right_rules_stay}
@@ -39,6 +40,7 @@ use Rattle.net_types.specs.Keys.{pair_cmp}
 use Rattle.net_types.specs.Sets.{IsRising, Member}
 use Rattle.net_types.specs.declared.rule.Pair.{Pair}
 use Rattle.net_types.specs.declared.rule.Rule.{Rule}
+use Rattle.recompile.specs.Setting.{setting_of}
 use Rattle.recompile.specs.Working.{IsSwap}
 use Rattle.recompile.specs.declared.swap.Swap.{Swap}
 
@@ -50,11 +52,6 @@ block_pairs built (pair ∷ pairs) = ap (λ ps. pair ∷ ps) (block_pairs built 
 turned : (b : Bool) → not b ≡ false → b ≡ true
 turned true e = refl
 turned false e = absurd (cc)
-
--- what is so by the second of two tests, where the first is met
-second : (a b : Bool) → a ≡ true → (not a || b) ≡ true → b ≡ true
-second true b is e = e
-second false b is e = absurd (cc)
 
 module _ (s : State) (swap : Swap) (end : End) (steady : IsSteadyInJob s) (is_swap : IsSwap (setting_of s) swap) (is : IsEnd s swap end) where
   abbrev s1 : State

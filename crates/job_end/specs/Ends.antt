@@ -16,14 +16,10 @@ use Rattle.net_types.specs.Sets.{IsRising, union_over}
 use Rattle.net_types.specs.declared.rule.Pair.{Pair}
 use Rattle.advert_queue.specs.Advertised.{Advertised}
 use Rattle.prefix_classes.specs.Classes.{Classes}
-use Rattle.recompile.specs.Setting.{Setting}
+use Rattle.recompile.specs.Setting.{setting_of}
 use Rattle.recompile.specs.Working.{IsSwap}
 use Rattle.recompile.specs.declared.swap.Swap.{Swap}
 use Rattle.registry.specs.Registered.{Registered}
-
--- what a background job works on in a state
-abbrev pub setting_of : State → Setting
-setting_of s = record { tag = s.tag; kept = s.kept; table = s.table }
 
 -- The parts of an exchange show a steady state, in which a job may run, the swap is one for it, and the pairs are those of the
 -- table, in order.

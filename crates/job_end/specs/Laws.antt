@@ -14,7 +14,7 @@ use Rattle.fast_path.specs.Committing.{kept_without, marked_all}
 use Rattle.fast_path.specs.Offers.{AreTo, HaveRoom, all_present, offered_all}
 use Rattle.fast_path.specs.Planned.{IsPoolOf}
 use Rattle.job_end.specs.Committing.{CanEnd}
-use Rattle.job_end.specs.Ends.{IsEnd, ended, setting_of}
+use Rattle.job_end.specs.Ends.{IsEnd, ended}
 use Rattle.job_end.specs.Rebuilt.{table_with}
 use Rattle.job_end.specs.declared.ended.End.{End}
 use Rattle.job_laws.specs.Ending.{IsTableAtEnd}
@@ -22,6 +22,7 @@ use Rattle.job_laws.specs.Jobs.{IsSteadyInJob}
 use Rattle.next_hop_pool.specs.Free.{Tags}
 use Rattle.prefix_classes.specs.Classes.{Classes}
 use Rattle.prefix_classes.specs.Merging.{moved}
+use Rattle.recompile.specs.Setting.{setting_of}
 use Rattle.recompile.specs.Working.{IsSwap}
 use Rattle.recompile.specs.declared.swap.Swap.{Swap}
 

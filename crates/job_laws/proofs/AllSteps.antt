@@ -1,11 +1,10 @@
 -- Any line with a reply that fits leaves a state steady in which a job may run.
-use Rattle.std.proofs.Common.{◌≡◌, ℕ, ◌-◌, ◌≤◌, Bool, true, false, nat_lt, List, [], ◌∷◌, ap, sym, subst, ◌∙◌, refl, inl, inr}
+use Rattle.std.proofs.Common.{◌≡◌, ℕ, ◌-◌, ◌≤◌, Bool, true, false, nat_lt, ap, sym, subst, ◌∙◌, refl}
 use Rattle.std.specs.Prelude.{Option, Some, None, MatchOption}
 use Rattle.std.specs.Option.{option_map}
 use Rattle.events.specs.After.{all_units, merged, next, next_by, put_flows, without_pairs}
 use Rattle.events.specs.Fits.{FitsBy, bare, IsFinished, IsWorked, Passes, is_building, is_of_job}
 use Rattle.events.specs.Forms.{IsWellFormed}
-use Rattle.events.specs.Legal.{LegalFrom, state_from}
 use Rattle.events.specs.Refusals.{refusal}
 use Rattle.events.specs.Sound.{IsSound}
 use Rattle.events.specs.State.{State, first}
@@ -15,18 +14,18 @@ use Rattle.events.specs.declared.Head.TheVariants.{Working}
 use Rattle.events.specs.declared.Refusal.{Refusal}
 use Rattle.events.specs.declared.Reply.{Reply}
 use Rattle.exchange_laws.proofs.Lists.{TableOf}
-use Rattle.exchange_laws.proofs.SteadySteps.{starts_steady, steps_stay_steady}
+use Rattle.exchange_laws.proofs.SteadySteps.{runs_keep, starts_steady, steps_stay_steady}
 use Rattle.exchange_laws.specs.Steady.{IsSteady}
 use Rattle.exchange_laws.specs.Unchanged.{OwesFew}
-use Rattle.job_laws.proofs.EndedJobs.{ended_steady, ends_leave}
+use Rattle.job_laws.proofs.EndedJobs.{ended_steady}
 use Rattle.job_laws.proofs.JobUnits.{all_few, owes_steady, rest_few, starts_later, works_later, works_leave}
 use Rattle.job_laws.proofs.OtherLines.{fits_alike, leaves_alike}
 use Rattle.job_laws.proofs.OwedUnits.{owed_after}
 use Rattle.job_laws.specs.Jobs.{IsSteadyInJob, without_job}
 use Rattle.job_laws.specs.Steps.{AllRunsStaySteady, AllStepsStaySteady, SteadyWithoutJobs}
 use Rattle.job_laws.specs.Units.{owing}
-use Rattle.net_types.specs.Sets.{Member}
 use Rattle.reply_laws.proofs.NextStates.{next_holds}
+use Rattle.run_laws.proofs.Answering.{ends_leave}
 
 -- ---- without a job
 
@@ -94,16 +93,9 @@ all_steps_stay_steady s e r steady formed fits = by (is_of_job e) refl
       few = few_next s e r other steady.few;
     }
 
-from_steady : (s : State) (es : List Event) (rs : List Reply) → ((e : Event) → Member e es → IsWellFormed e) → IsSteadyInJob s → LegalFrom s es rs → IsSteadyInJob (state_from s es rs)
-from_steady s [] [] formed steady legal = steady
-from_steady s [] (r ∷ rs) formed steady legal = absurd legal
-from_steady s (e ∷ es) [] formed steady legal = absurd legal
-from_steady s (e ∷ es) (r ∷ rs) formed steady legal =
-    from_steady (next s e r) es rs (λ x m. formed x (inr m)) (all_steps_stay_steady s e r steady (formed e (inl refl)) legal.0) legal.1
-
 -- before the first line no job runs
 pub first_steady : IsSteadyInJob first
 first_steady = record { steady = starts_steady; few = tt }
 
 pub all_runs_stay_steady : AllRunsStaySteady
-all_runs_stay_steady es rs formed legal = from_steady first es rs formed first_steady legal
+all_runs_stay_steady es rs formed legal = runs_keep IsSteadyInJob IsWellFormed all_steps_stay_steady first es rs formed first_steady legal

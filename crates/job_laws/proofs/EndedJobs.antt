@@ -1,12 +1,12 @@
 -- A job ends with right and tight rules, no more for a pair than it had.
-use Rattle.std.proofs.Common.{◌≡◌, ℕ, ◌+◌, ◌-◌, ◌≤◌, ◌<◌, ◌^◌, Bool, true, false, cond, nat_eq, nat_lt, not, List, [], ◌∷◌, filter, length, sum_by, ap, sym, subst, ◌∙◌, refl, arith}
+use Rattle.std.proofs.Common.{◌≡◌, ℕ, ◌+◌, ◌≤◌, ◌<◌, ◌^◌, Bool, true, false, nat_eq, nat_lt, not, List, [], ◌∷◌, filter, length, sum_by, ap, sym, subst, ◌∙◌, refl, arith}
 use Rattle.std.specs.Prelude.{Some, MatchOption, is_some, unwrap_or}
 use Rattle.std.specs.Cmp.Lexicographic.{pointwise}
 use Rattle.std.specs.FinMap.{contains_key-keys, get, keys, values}
 use Rattle.std.proofs.lemmas.Bool.{eqb-true, le-ltb, not-false}
 use Rattle.std.proofs.lemmas.List.Filters.{sum_by-filter_both}
 use Rattle.std.proofs.lemmas.List.Sums.{sum_by-cons}
-use Rattle.events.specs.After.{after, merged, next, next_by, put_flows, running, with_known, without_pairs, worked}
+use Rattle.events.specs.After.{merged, next, next_by, put_flows, without_pairs}
 use Rattle.events.specs.Fits.{IsAnswer, IsFinished, IsWorked, dropped, has_other_rules}
 use Rattle.events.specs.Sound.{IsSound, rule_count, same_rule}
 use Rattle.events.specs.State.{State}
@@ -24,7 +24,6 @@ use Rattle.exchange_laws.specs.Replies.{IsBuiltOn}
 use Rattle.exchange_laws.specs.Steady.{IsSteady}
 use Rattle.job_laws.proofs.JobUnits.{works_later}
 use Rattle.job_laws.proofs.MergedStates.{kept_for, kept_is, kept_live, live_kept, pair_was_live, tag_there, tag_was_live}
-use Rattle.job_laws.proofs.MergedTags.{some_cond}
 use Rattle.job_laws.proofs.SameRules.{rules_test}
 use Rattle.job_laws.specs.Ending.{IsTableAtEnd, JobsEnd}
 use Rattle.job_laws.specs.Jobs.{without_job}
@@ -41,6 +40,7 @@ use Rattle.net_types.specs.declared.route.PortInfo.{PortInfo}
 use Rattle.net_types.specs.declared.rule.Pair.{Pair}
 use Rattle.net_types.specs.declared.rule.Rule.{Rule}
 use Rattle.reply_laws.proofs.BuiltLines.{counted, tie}
+use Rattle.run_laws.proofs.Answering.{ends_leave, some_cond}
 
 -- ---- rules that are the same
 
@@ -88,14 +88,6 @@ fewer_rules old new among each =
     omega (arith, less, same, both, first, second)
 
 -- ---- the state
-
--- as many units as a job owes, or more, end it
-pub ends_leave : (s : State) (units owed : ℕ) → s.owed ≡ Some owed → nat_lt units owed ≡ false → after s (Work units) ≡ merged s
-ends_leave s units owed runs all = ap (λ o. with_known s o (worked s units)) runs ∙ by (nat_lt units owed) all
-  where
-    by : (b : Bool) → b ≡ false → cond b (running (record s { owed = Some (owed - units) })) (merged s) ≡ merged s
-    by true all = absurd (cc)
-    by false all = refl
 
 -- whatever the table, a sound state at the end of a job is steady
 pub ended_steady : (s : State) (table : TableOf) → IsSteady (without_job s) → (s.phase ≡ Start → ⊥) → IsSound (record (merged s) { table = table }) → IsSteady (record (merged s) { table = table })

@@ -10,22 +10,17 @@ use Rattle.events.specs.After.{merged}
 use Rattle.events.specs.Sound.{owners_part, part_of}
 use Rattle.events.specs.State.{State, port_of, present, told_to}
 use Rattle.events.specs.Tags.{is_carried, is_live, is_live_pair, same_tag, tells}
-use Rattle.events.specs.declared.Entry.{Entry}
-use Rattle.exchange_laws.proofs.LivePairs.{live_at, live_from, live_tag, port_Member, present_is, present_tag}
+use Rattle.exchange_laws.proofs.LivePairs.{live_at, live_from, live_tag, port_Member, present_from, present_tag}
 use Rattle.exchange_laws.proofs.Lists.{cond_there}
-use Rattle.exchange_laws.proofs.Sames.{tag_itself}
 use Rattle.exchange_laws.proofs.TagsAfter.{live_cases, live_of}
 use Rattle.exchange_laws.specs.Steady.{IsSteady}
 use Rattle.job_laws.proofs.MergedTags.{merged_from, merged_there}
 use Rattle.job_laws.specs.Ending.{MergedPairsWereLive, MergedTagsWereLive, RightRulesStay}
 use Rattle.job_laws.specs.Jobs.{without_job}
 use Rattle.net_types.proofs.FindLemmas.{find-IsFound}
-use Rattle.net_types.proofs.OrderLemmas.{prefixes_total}
 use Rattle.net_types.proofs.PassLemmas.{some_there}
 use Rattle.net_types.proofs.TieLemmas.{tag_cmp-IsAntisymmetric}
-use Rattle.net_types.proofs.ValueLemmas.{any_value}
 use Rattle.net_types.specs.Exports.{Routing}
-use Rattle.net_types.specs.Keys.{prefix_cmp}
 use Rattle.net_types.specs.Routes.{Candidate, best, pids}
 use Rattle.net_types.specs.Signatures.{part, signature}
 use Rattle.net_types.specs.declared.address.Pid.{Pid}
@@ -56,17 +51,6 @@ part_routed r p who x is =
 alike_routed : (r : Routing) (p q : Prefix) (who : Pid) (c : Candidate) → who.0 < length r.participants → best r who p ≡ Some c → signature r q ≡ signature r p → is_some (best r who q) ≡ true
 alike_routed r p q who c declared chosen same =
     part_routed r q who (part_with r who p c) (ap (λ sig. part_of sig who) same ∙ signature_part r who p c declared chosen)
-
--- a best route and a tag make an entry present
-present_from : (s : State) (who : Pid) (p : Prefix) (t : Tag) → is_some (best s.routing who p) ≡ true → get s.tag p ≡ Some t → tells (present s who) t ≡ true
-present_from s who p t routed tagged =
-    let chosen = some_there (best s.routing who p) routed in
-    let e : Entry = record { attrs = chosen.0.attrs; tag = t } in
-    any_value prefix_cmp prefixes_total (λ (x : Entry). same_tag x.tag t) (present s who) p e
-    (present_is s who p
-    ∙ ap (λ b. option_and_then (λ (c : Candidate). option_map (λ u. let x : Entry = record { attrs = c.attrs; tag = u } in x) (get s.tag p)) b) chosen.1
-    ∙ ap (λ o. option_map (λ u. let x : Entry = record { attrs = chosen.0.attrs; tag = u } in x) o) tagged)
-    (tag_itself t)
 
 -- ---- the state
 

@@ -1,6 +1,6 @@
 -- The tags at the end of a job.
 use Rattle.std.proofs.Common.{◌≡◌, ◌≤◌, Bool, true, false, cond, nat_eq, nat_lt, List, [], ◌∷◌, filter, ap, sym, subst, ◌∙◌, refl, arith, inl, inr}
-use Rattle.std.specs.Prelude.{Option, Some, None, is_some}
+use Rattle.std.specs.Prelude.{Some, None, is_some}
 use Rattle.std.specs.FinMap.{get}
 use Rattle.std.specs.List.{filter_map, list_any}
 use Rattle.std.specs.Ordering.{eq_by_cmp, is_lt}
@@ -26,13 +26,10 @@ use Rattle.net_types.specs.Sets.{IsRising, Member}
 use Rattle.net_types.specs.Signatures.{signature}
 use Rattle.net_types.specs.declared.address.Tag.{Tag}
 use Rattle.net_types.specs.declared.prefix.Prefix.{Prefix}
-use Rattle.run_laws.proofs.Sharing.{given_by}
+use Rattle.run_laws.proofs.Answering.{some_cond}
+use Rattle.run_laws.proofs.Sharing.{first_Member, given_by}
 
 -- ---- lists
-
-first_Member : {A : Type 0} (xs : List A) (x : A) → first_of_list xs ≡ Some x → Member x xs
-first_Member [] x e = absurd (cc)
-first_Member (y ∷ xs) x e = inl (sym (some_of y x e))
 
 first_there : {A : Type 0} (xs : List A) (x : A) → Member x xs → (y : A) × (first_of_list xs ≡ Some y)
 first_there [] x m = absurd m
@@ -75,10 +72,6 @@ pub record IsMergedTag (s : State) (p : Prefix) (t : Tag) : Type 0 where
   pub tagged : get s.tag like ≡ Some t
   pub alike : signature s.routing like ≡ signature s.routing p
   pub least : (q : Prefix) (u : Tag) → is_carried s.routing q ≡ true → get s.tag q ≡ Some u → signature s.routing q ≡ signature s.routing p → t.0 ≤ u.0
-
-pub some_cond : {A : Type 0} (b : Bool) (o : Option A) (x : A) → cond b o None ≡ Some x → o ≡ Some x
-some_cond true o x e = e
-some_cond false o x e = absurd (cc)
 
 -- a carried prefix has its tag among those of its signature
 own_Member : (s : State) (p q : Prefix) (t : Tag) → is_carried s.routing q ≡ true → get s.tag q ≡ Some t → signature s.routing q ≡ signature s.routing p → Member t (ordered tag_cmp (tags_like s p))

@@ -15,7 +15,6 @@ use Rattle.exchange_laws.specs.Replies.{RightRulesAreSome}
 use Rattle.exchange_laws.specs.Steady.{IsSteady}
 use Rattle.fast_path.proofs.PortsAndTags.{prefix_with, tie}
 use Rattle.job_upkeep.proofs.Tagged.{some_with}
-use Rattle.job_upkeep.specs.Upkeep.{setting_of}
 use Rattle.net_types.proofs.FindLemmas.{find-IsFound}
 use Rattle.net_types.proofs.OrderLemmas.{pairs_total}
 use Rattle.net_types.specs.Keys.{pair_cmp}
@@ -26,6 +25,7 @@ use Rattle.net_types.specs.declared.route.PortInfo.{PortInfo}
 use Rattle.net_types.specs.declared.rule.Pair.{Pair}
 use Rattle.net_types.specs.declared.rule.Rule.{Rule}
 use Rattle.recompile.specs.Covering.{AreFew}
+use Rattle.recompile.specs.Setting.{setting_of}
 
 how_many : {B : Type 0} (at : ℕ → B) (low count : ℕ) → length (map at (numbers low count)) ≡ count
 how_many at low zero = refl

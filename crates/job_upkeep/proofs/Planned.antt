@@ -17,7 +17,7 @@ use Rattle.fast_path.specs.Plans.{IsPlan, planned}
 use Rattle.fast_path.specs.declared.planned.Class.{Class}
 use Rattle.fast_path.specs.declared.planned.Plan.{Plan}
 use Rattle.job_upkeep.proofs.Tagged.{none_without, some_with, with_some, without_none}
-use Rattle.job_upkeep.specs.Upkeep.{fresh_of, setting_of}
+use Rattle.job_upkeep.specs.Upkeep.{fresh_of}
 use Rattle.net_types.proofs.PassLemmas.{some_there}
 use Rattle.net_types.proofs.SetLemmas.{Member-map}
 use Rattle.net_types.specs.Exports.{Routing}
@@ -28,6 +28,7 @@ use Rattle.net_types.specs.declared.rule.Pair.{Pair}
 use Rattle.prefix_classes.specs.Classes.{members}
 use Rattle.recompile.specs.Changing.{IsChange}
 use Rattle.recompile.specs.Covering.{AreFew}
+use Rattle.recompile.specs.Setting.{setting_of}
 
 module _ (s : State) (r : Routing) (is_rebuilt : Pair → Bool) (plan : Plan) (base : IsBase s is_rebuilt) (alike : IsDeclaredAlike s.routing r) (is : IsPlan s r is_rebuilt plan) where
   abbrev s1 : State

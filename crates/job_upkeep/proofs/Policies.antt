@@ -35,7 +35,7 @@ use Rattle.job_upkeep.proofs.QuietLines.{setting_without}
 use Rattle.job_upkeep.proofs.Listed.{joined_once, rising_once}
 use Rattle.job_upkeep.proofs.Planned.{had_or_fresh}
 use Rattle.job_upkeep.proofs.Reroutings.{building_other, few_planned, refused_alike}
-use Rattle.job_upkeep.specs.Upkeep.{HasJob, PoliciesKeepJobs, fresh_of, pairs_after, setting_of}
+use Rattle.job_upkeep.specs.Upkeep.{HasJob, PoliciesKeepJobs, fresh_of, pairs_after}
 use Rattle.net_types.proofs.OrderLemmas.{pairs_total}
 use Rattle.net_types.proofs.OrderedLemmas.{any_member, member_any, ordered_same}
 use Rattle.net_types.proofs.RisingLemmas.{Member-filter, before_itself, filter-IsRising, filter-Member, keys-IsRising}
@@ -51,6 +51,7 @@ use Rattle.net_types.specs.declared.rule.Pair.{Pair}
 use Rattle.prefix_classes.specs.Classes.{members}
 use Rattle.recompile.specs.Changing.{CoversListed, IsListed}
 use Rattle.recompile.specs.Covering.{AreFew, Covers}
+use Rattle.recompile.specs.Setting.{setting_of}
 use Rattle.recompile.specs.Underway.{Underway}
 
 -- ---- the carried prefixes stay

@@ -25,7 +25,6 @@ use Rattle.exchange_laws.proofs.ToldAnew.{get_retained}
 use Rattle.fast_path.proofs.PortsAndTags.{prefix_with}
 use Rattle.job_laws.specs.Steps.{UnitsStay}
 use Rattle.job_upkeep.proofs.Tagged.{some_with, without_none}
-use Rattle.job_upkeep.specs.Upkeep.{setting_of}
 use Rattle.net_types.proofs.OrderLemmas.{pairs_total, tags_total}
 use Rattle.net_types.proofs.TieLemmas.{tag_cmp-IsAntisymmetric}
 use Rattle.net_types.specs.Arp.{arp_reply, asked_ip, asker_ip, asker_mac}
@@ -44,6 +43,7 @@ use Rattle.net_types.specs.declared.rule.Pair.{Pair}
 use Rattle.prefix_classes.specs.Classes.{members}
 use Rattle.recompile.specs.Changing.{IsChange}
 use Rattle.recompile.specs.Covering.{AreFew}
+use Rattle.recompile.specs.Setting.{setting_of}
 
 -- prefixes have the same tags, and these the same signatures
 pub record Keeps (s s1 : State) : Type 0 where

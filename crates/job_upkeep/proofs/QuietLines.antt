@@ -18,11 +18,12 @@ use Rattle.job_laws.specs.Steps.{JobsLeaveLines, UnitsStay}
 use Rattle.job_upkeep.proofs.Carried.{entries_carried, no_more}
 use Rattle.job_upkeep.proofs.Few.{few_steady}
 use Rattle.job_upkeep.proofs.Quiet.{quiet_owed, quiet_stays, stays_change}
-use Rattle.job_upkeep.specs.Upkeep.{HasJob, JobsBegin, NoJobsStart, QuietLinesKeepJobs, RefusedLinesKeepJobs, SteadySettingsAreFew, setting_of}
+use Rattle.job_upkeep.specs.Upkeep.{HasJob, JobsBegin, NoJobsStart, QuietLinesKeepJobs, RefusedLinesKeepJobs, SteadySettingsAreFew}
 use Rattle.net_types.proofs.OrderLemmas.{pairs_total}
 use Rattle.net_types.specs.Keys.{pair_cmp}
 use Rattle.recompile.specs.Changing.{IsListed, QuietChangesKeepJobs}
 use Rattle.recompile.specs.Covering.{Covers}
+use Rattle.recompile.specs.Setting.{setting_of}
 use Rattle.recompile.specs.Underway.{Underway}
 
 pub settings_are_few : RightRulesAreSome → SteadySettingsAreFew

@@ -25,10 +25,11 @@ use Rattle.job_laws.specs.Steps.{JobsLeaveLines}
 use Rattle.job_upkeep.proofs.Few.{few_steady}
 use Rattle.job_upkeep.proofs.QuietLines.{setting_without}
 use Rattle.job_upkeep.proofs.Planned.{told}
-use Rattle.job_upkeep.specs.Upkeep.{PlansTellChanges, ReroutingsKeepJobs, fresh_of, setting_of}
+use Rattle.job_upkeep.specs.Upkeep.{PlansTellChanges, ReroutingsKeepJobs, fresh_of}
 use Rattle.net_types.specs.Exports.{Routing}
 use Rattle.net_types.specs.declared.rule.Pair.{Pair}
 use Rattle.recompile.specs.Covering.{AreFew, Covers}
+use Rattle.recompile.specs.Setting.{setting_of}
 
 -- ---- lines that build rules aren't a job's, and are refused alike with a job as without
 

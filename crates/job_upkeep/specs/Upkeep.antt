@@ -25,12 +25,8 @@ use Rattle.net_types.specs.declared.address.Tag.{Tag}
 use Rattle.net_types.specs.declared.rule.Pair.{Pair}
 use Rattle.recompile.specs.Changing.{CoversAfter, CoversListed, IsChange}
 use Rattle.recompile.specs.Covering.{AreFew, Covers}
-use Rattle.recompile.specs.Setting.{Setting}
+use Rattle.recompile.specs.Setting.{setting_of}
 use Rattle.recompile.specs.Underway.{Underway}
-
--- what a job works on in a state
-abbrev pub setting_of : State → Setting
-setting_of s = record { tag = s.tag; kept = s.kept; table = s.table }
 
 -- the state has this job, which covers what it works on, or none
 abbrev pub HasJob : State → Option Underway → Type 0

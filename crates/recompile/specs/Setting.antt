@@ -1,6 +1,7 @@
 -- What a background job works on (this exchange's own rule).
 use Rattle.std.specs.Prelude.{List}
 use Rattle.std.specs.FinMap.{FinMap}
+use Rattle.events.specs.State.{State}
 use Rattle.net_types.specs.Keys.{pair_cmp, prefix_cmp, tag_cmp}
 use Rattle.net_types.specs.declared.address.Tag.{Tag}
 use Rattle.net_types.specs.declared.route.Part.{Part}
@@ -16,3 +17,7 @@ pub record Setting : Type 0 where
 -- what the classes and a table have
 abbrev pub setting : Classes → FinMap pair_cmp (List Rule) → Setting
 setting classes table = record { tag = classes.tag; kept = classes.kept; table = table }
+
+-- what a state has
+abbrev pub setting_of : State → Setting
+setting_of s = record { tag = s.tag; kept = s.kept; table = s.table }

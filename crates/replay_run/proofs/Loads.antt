@@ -14,6 +14,7 @@ use Rattle.load_gen.specs.Generated.{generated}
 use Rattle.net_types.specs.Routes.{numbers}
 use Rattle.net_types.specs.Sets.{Member}
 use Rattle.job_laws.specs.Replying.{AllRunsGoOn}
+use Rattle.run_laws.proofs.OneMore.{legal_more, state_more}
 use Rattle.sdx_core.specs.Steps.{step_bound}
 use Rattle.replay_run.specs.Bounds.{first_bound, line_bound, run_bound}
 use Rattle.replay_run.specs.Load.{BeginsSummary, CountsEvent, HasLoaded, Loaded, LoadedBy, Loads, Summarizes, counted_with, generated_events, generated_lines, live_count, load_events, summary, tally_of, tally_text}
@@ -28,7 +29,7 @@ use Rattle.replay_run.proofs.Bytes.{Appends_none}
 use Rattle.replay_run.proofs.LineSplits.{numbered-append}
 use Rattle.replay_run.proofs.Octets.{IsWritten, lines_written}
 use Rattle.replay_run.proofs.Parts.{within_more}
-use Rattle.replay_run.proofs.Runs.{bare_append, legal_more, line_within, state_more}
+use Rattle.replay_run.proofs.Runs.{bare_append, line_within}
 use Rattle.replay_run.proofs.Tallies.{refused_counted, tally_more}
 
 -- ---- lines

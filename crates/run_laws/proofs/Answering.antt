@@ -197,16 +197,19 @@ sent s e q bytes r None same is = quiet_as s e r _ is (λ ends. cc) refl same
 sent s e q bytes r (Some p) same is =
     where_known s e r (get (told_to s q.owner) p) (λ told. IsTagged (is_resolved s q.number (tag_address s told.tag)) s q bytes p told r) (λ told there. tagged (is_resolved s q.number (tag_address s told.tag)) s e q bytes p told r same) is
 
+-- as many units as a job owes, or more, end it
+pub ends_leave : (s : State) (units owed : ℕ) → s.owed ≡ Some owed → nat_lt units owed ≡ false → after s (Work units) ≡ merged s
+ends_leave s units owed runs all = ap (λ o. with_known s o (worked s units)) runs ∙ by (nat_lt units owed) all
+  where
+    by : (b : Bool) → b ≡ false → cond b (running (record s { owed = Some (owed - units) })) (merged s) ≡ merged s
+    by true all = absurd (cc)
+    by false all = refl
+
 -- the state after the end of a job
 ended : (s : State) (units owed : ℕ) (r : Reply) → s.owed ≡ Some owed → nat_lt units owed ≡ false → r.head ≡ Finished → next s (Work units) r ≡ record (merged s) { table = (next s (Work units) r).table }
 ended s units owed r known few head =
     let table : (next_by Finished s (Work units) r).table ≡ (next s (Work units) r).table = ap (λ h. (next_by h s (Work units) r).table) (sym head) in
-    let ends : with_known s s.owed (worked s units) ≡ merged s = ap (λ o. with_known s o (worked s units)) known ∙ by (nat_lt units owed) few in
-    ap (λ h. next_by h s (Work units) r) head ∙ (λ i. record (ends i) { table = table i })
-  where
-    by : (b : Bool) → b ≡ false → cond b (running (record s { owed = Some (owed - units) })) (merged s) ≡ merged s
-    by true few = absurd (cc)
-    by false few = refl
+    ap (λ h. next_by h s (Work units) r) head ∙ (λ i. record (ends_leave s units owed known few i) { table = table i })
 
 worked_kind : (b : Bool) (s : State) (units owed : ℕ) (r : Reply) → s.owed ≡ Some owed → nat_lt units owed ≡ b → IsWorked b s (next s (Work units) r) units owed r → Kind s (Work units) r
 worked_kind true s units owed r known more is =

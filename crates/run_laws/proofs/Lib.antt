@@ -3,6 +3,8 @@ pub mod Carried
 pub mod Passing
 pub mod Fitting
 pub mod Refusing
+pub mod OneMore
+mod Leaving
 pub mod Taking
 pub mod Answering
 pub mod Sharing

@@ -1,5 +1,5 @@
 -- Which prefixes are given a tag, and which share one.
-use Rattle.std.proofs.Common.{◌≡◌, Bool, true, false, cond, not, List, [], ◌∷◌, filter, ap, sym, subst, ◌∙◌, refl, inl, inr}
+use Rattle.std.proofs.Common.{◌≡◌, Bool, true, false, not, List, [], ◌∷◌, filter, ap, sym, subst, ◌∙◌, refl, inl, inr}
 use Rattle.std.specs.Prelude.{Option, Some, None}
 use Rattle.std.specs.FinMap.{FinMap, get}
 use Rattle.std.specs.List.{cons_option, filter_map, list_any}
@@ -33,7 +33,7 @@ use Rattle.net_types.specs.Sets.{Member}
 use Rattle.net_types.specs.Signatures.{signature}
 use Rattle.net_types.specs.declared.address.Tag.{Tag}
 use Rattle.net_types.specs.declared.prefix.Prefix.{Prefix}
-use Rattle.run_laws.proofs.Answering.{Kind, kind_of}
+use Rattle.run_laws.proofs.Answering.{Kind, kind_of, some_cond}
 use Rattle.run_laws.specs.Sharing.{AlikeShare, FreshTagsWereDead, HasLike, IsGivenTag, SharedTagsShareSignatures, TagsTell}
 
 -- ---- changes of tags
@@ -62,13 +62,9 @@ change_of old new c m =
 
 -- ---- the end of a job
 
-first_Member : {A : Type 0} (xs : List A) (x : A) → first_of_list xs ≡ Some x → Member x xs
+pub first_Member : {A : Type 0} (xs : List A) (x : A) → first_of_list xs ≡ Some x → Member x xs
 first_Member [] x e = cc
 first_Member (y ∷ xs) x e = inl (let same : y ≡ x = cc in sym same)
-
-some_cond : {A : Type 0} (b : Bool) (o : Option A) (x : A) → cond b o None ≡ Some x → o ≡ Some x
-some_cond true o x e = e
-some_cond false o x e = cc
 
 -- a member of what a function gives of some, with what it comes from
 pub record IsGivenBy {A B : Type 0} (f : A → Option B) (xs : List A) (y : B) : Type 0 where

@@ -1,4 +1,5 @@
 pub mod Given
 pub mod Promises
+pub mod Refusing
 pub mod Sharing
 pub mod Taking

@@ -4,6 +4,7 @@
 
 ghost use Rattle.run_laws.specs.Given.{KeptOffersWereExported, StaleTagsReachExporters};
 ghost use Rattle.run_laws.specs.Promises.{AdvertsFitMessages, PoliciesHavePassed, RefusalsChangeNothing};
+ghost use Rattle.run_laws.specs.Refusing.{RefusalsAreInOrder};
 ghost use Rattle.run_laws.specs.Sharing.{FreshTagsWereDead, SharedTagsShareSignatures};
 ghost use Rattle.run_laws.specs.Taking.{TakesTellTheFirst};
 
@@ -22,6 +23,13 @@ pub fn adverts_fit_messages()
 /// none does, the line builds rules and the table would be full.
 pub fn refusals_change_nothing()
     ensures { RefusalsChangeNothing }
+{}
+
+/// In every legal run each line is refused for the first condition that holds, and the reply names it; where none holds, a line
+/// is refused only because the table would be full. The lines that are refused can be left out: the others with their replies
+/// are a legal run to the same state.
+pub fn refusals_are_in_order()
+    ensures { RefusalsAreInOrder }
 {}
 
 /// After any legal run `take` tells a participant of the first pending prefixes, as many as it says, and `drain` of all: what is

@@ -25,7 +25,7 @@ use Rattle.exchange_laws.specs.Unchanged.{OwesFew}
 use Rattle.job_laws.specs.Jobs.{IsSteadyInJob, without_job}
 use Rattle.job_laws.specs.Steps.{AllStepsStaySteady, JobsLeaveLines}
 use Rattle.job_laws.specs.Units.{RecompilesAreAccepted, WorksAreAccepted, owing}
-use Rattle.job_upkeep.specs.Upkeep.{HasJob, JobsBegin, setting_of}
+use Rattle.job_upkeep.specs.Upkeep.{HasJob, JobsBegin}
 use Rattle.net_types.specs.Keys.{pair_cmp, prefix_cmp, tag_cmp}
 use Rattle.net_types.specs.declared.address.Tag.{Tag}
 use Rattle.net_types.specs.declared.memory.Memory.{Memory}
@@ -34,7 +34,7 @@ use Rattle.net_types.specs.declared.rule.Rule.{Rule}
 use Rattle.prefix_classes.specs.Classes.{Classes}
 use Rattle.recompile.specs.Changing.{CoversListed}
 use Rattle.recompile.specs.Covering.{Covers}
-use Rattle.recompile.specs.Setting.{Setting, setting}
+use Rattle.recompile.specs.Setting.{Setting, setting, setting_of}
 use Rattle.recompile.specs.Underway.{Underway}
 use Rattle.recompile.specs.Working.{IsProgress}
 use Rattle.recompile.specs.declared.swap.Progress.{Progress}

@@ -17,7 +17,7 @@ use Rattle.net_types.specs.Answers.{Policies}
 use Rattle.net_types.specs.Cells.{cell_atoms}
 use Rattle.net_types.specs.Cubes.{IsInRange}
 use Rattle.net_types.specs.Keys.{pair_cmp}
-use Rattle.net_types.specs.Meets.{meets}
+use Rattle.net_types.specs.Meets.{IsMeet, meets}
 use Rattle.net_types.specs.Routes.{numbers}
 use Rattle.net_types.specs.Sets.{HasNoRepeats, IsRising, Member}
 use Rattle.net_types.specs.declared.address.PortNo.{PortNo}
@@ -33,9 +33,8 @@ use Rattle.events.specs.State.{State, ArePolicies}
 use Rattle.events.specs.Tags.{is_live_pair, live_pairs, pairs, tags}
 use Rattle.exchange_laws.proofs.Lists.{numbers_range}
 use Rattle.exchange_laws.specs.Steady.{PortsAreNumbered}
-use Rattle.text_laws.specs.Widths.{Each}
 use Rattle.text_laws.proofs.Numbers.{pair_is}
-use Rattle.text_laws.proofs.Ranges.{atoms_in_range, meets_in_range}
+use Rattle.text_laws.proofs.Ranges.{cells_in_range}
 use Rattle.text_laws.proofs.Rules.{cube_is}
 
 -- ---- lists without repeats
@@ -154,8 +153,8 @@ cube_low c is =
     numbered_low (prefix_code c.src) (prefix_code c.dst) (option_code c.proto) (option_code c.sport) (option_code c.dport) (port_code c.inport) (prefix_low c.src c.src) (prefix_low c.dst c.dst)
     (option_low c.proto (in_16 c.proto is.proto)) (option_low c.sport is.sport) (option_low c.dport is.dport) (port_low c.inport is.inport)
 
-few_meets : (cs : List Cube) → Each IsInRange cs → length (meets cs) ≤ 2 ^ 144
-few_meets cs each = few_coded cube_code IsInRange cube_tells (2 ^ 144) cube_low (meets cs) (λ c m. meets_in_range cs c each (meets-IsMeet cs c m)) (meets-HasNoRepeats cs)
+few_meets : (cs : List Cube) → ((c : Cube) → IsMeet cs c → IsInRange c) → length (meets cs) ≤ 2 ^ 144
+few_meets cs ranges = few_coded cube_code IsInRange cube_tells (2 ^ 144) cube_low (meets cs) (λ c m. ranges c (meets-IsMeet cs c m)) (meets-HasNoRepeats cs)
 
 -- ---- pairs
 
@@ -201,7 +200,7 @@ module _ (s : State) (ports : PortsAreNumbered s.routing.ports) (size : s.size �
       where
         by : (o : Option Part) → option_map_or (λ (part : Part). length (meets (cell_atoms ps pair.port part))) o 0 ≤ 2 ^ 144
         by None = omega arith
-        by (Some part) = few_meets (cell_atoms ps pair.port part) (atoms_in_range s ps are pair.port part)
+        by (Some part) = few_meets (cell_atoms ps pair.port part) (cells_in_range s ps are pair.port part)
 
     few_step : (a b n : ℕ) → a ≤ 2 ^ 144 → b ≤ n * 2 ^ 144 → a + b ≤ suc n * 2 ^ 144
     few_step a b n one rest = omega (arith, one, rest)

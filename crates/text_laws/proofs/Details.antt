@@ -31,12 +31,12 @@ use Rattle.exchange_laws.specs.Steady.{IsSteady}
 use Rattle.job_laws.specs.Jobs.{without_job}
 use Rattle.net_types.specs.Cubes.{IsInRange}
 use Rattle.text_laws.specs.Naming.{IsOfNoPort}
-use Rattle.text_laws.specs.Widths.{Each, IfThere, IsAction, IsCube, IsNumber, IsPair}
+use Rattle.text_laws.specs.Widths.{Each, IsAction, IsCube, IsNumber, IsPair}
 use Rattle.text_laws.proofs.Counts.{IsSmall, small_pair}
 use Rattle.text_laws.proofs.Fields.{each_append}
 use Rattle.text_laws.proofs.LegalRules.{sound_free}
 use Rattle.text_laws.proofs.Lines.{IsPlainFlow}
-use Rattle.text_laws.proofs.Ranges.{atoms_in_range, meets_in_range}
+use Rattle.text_laws.proofs.Ranges.{cells_in_range}
 
 -- ---- rules
 
@@ -55,11 +55,11 @@ pub record DetailsFit (r : Reply) : Type 0 where
   pub drops : Each IsPair r.drops
   pub adds : Each FlowFits r.adds
 
-in_8 : (o : Option ℕ) → IfSome o (λ n. n < 2 ^ 8) → IfThere IsNumber o
+in_8 : (o : Option ℕ) → IfSome o (λ n. n < 2 ^ 8) → IfSome o IsNumber
 in_8 None is = tt
 in_8 (Some n) is = omega (arith, is)
 
-in_16 : (o : Option ℕ) → IfSome o (λ n. n < 2 ^ 16) → IfThere IsNumber o
+in_16 : (o : Option ℕ) → IfSome o (λ n. n < 2 ^ 16) → IfSome o IsNumber
 in_16 None is = tt
 in_16 (Some n) is = omega (arith, is)
 
@@ -98,7 +98,7 @@ module _ (s : State) (steady : IsSteady s) where
       let right = steady.sound.right in
       let known = right.2 pair rules there in
       both_fit rules (sound_free s steady.policies.policies steady.policies.read steady.policies.passed steady.sound pair rules there)
-      (λ c m. cube_fits c (meets_in_range _ c (atoms_in_range s right.0 right.1 pair.port known.0) (known.2.meets c m)))
+      (λ c m. cube_fits c (cells_in_range s right.0 right.1 pair.port known.0 c (known.2.meets c m)))
 
   entry_fits : (e : Pair × List Rule) → Member e (entries s.table) → IsPair e.0 × Each RuleFits e.1
   entry_fits e m =

@@ -1,13 +1,13 @@
 -- The fields of cubes and of actions, and of which octets they are.
 use Rattle.std.proofs.Common.{◌≡◌, ℕ, ◌-◌, ◌/◌, ◌%◌, ◌^◌, ◌≤◌, Bool, true, false, cond, ◌&&◌, ◌||◌, not, nat_eq, nat_le, nat_lt, List, [], ◌∷◌, ◌++◌, append-nil, codes, decimal, refl, sym, ap, ◌∙◌, subst, arith}
-use Rattle.std.specs.Prelude.{Option, Some, None}
+use Rattle.std.specs.Prelude.{IfSome, Option, Some, None}
 use Rattle.std.proofs.lemmas.Bool.Decides.{nat_tests}
 use Rattle.std.proofs.lemmas.List.{append_cancel_left}
 use Rattle.events.specs.Text.{address_field, address_text, number_field, prefix_field, prefix_text}
 use Rattle.net_types.proofs.PrefixLemmas.{prefix_ext}
 use Rattle.net_types.specs.declared.address.Ip.{Ip}
 use Rattle.net_types.specs.declared.prefix.Prefix.{Prefix}
-use Rattle.text_laws.specs.Widths.{Each, IfThere, IsAddress, IsNumber}
+use Rattle.text_laws.specs.Widths.{Each, IsAddress, IsNumber}
 use Rattle.text_laws.proofs.Alike.{Alike, Over, decimal_tells, over_append, over_decimal, over_more}
 use Rattle.text_laws.proofs.Numbers.{addresses, prefixes}
 
@@ -68,7 +68,7 @@ only x y e = cc
 some_is : {X : Type 0} (x y : X) → x ≡ y → Some x ≡ Some y
 some_is x y e = ap Some e
 
-pub number_told : (name : List ℕ) (o p : Option ℕ) → IfThere IsNumber o → number_field name o ≡ number_field name p → o ≡ p
+pub number_told : (name : List ℕ) (o p : Option ℕ) → IfSome o IsNumber → number_field name o ≡ number_field name p → o ≡ p
 number_told name None None one e = refl
 number_told name None (Some n) one e = absurd (cc)
 number_told name (Some m) None one e = absurd (cc)
@@ -79,7 +79,7 @@ number_told name (Some m) (Some n) one e =
 pub closed_is : {P : Type 0} {a b : List ℕ} {E : List ℕ → Type 0} → E [] → Alike E P a b → a ≡ b → P
 closed_is {a = a} {b = b} nothing one e = (one.is [] [] nothing nothing (append-nil a ∙ e ∙ sym (append-nil b))).0
 
-pub address_told : (name : List ℕ) (o p : Option Ip) → IfThere IsAddress o → address_field name o ≡ address_field name p → o ≡ p
+pub address_told : (name : List ℕ) (o p : Option Ip) → IfSome o IsAddress → address_field name o ≡ address_field name p → o ≡ p
 address_told name None None one e = refl
 address_told name None (Some n) one e = absurd (cc)
 address_told name (Some m) None one e = absurd (cc)

@@ -1,6 +1,6 @@
 -- In a legal run no rule of a reply has a cube of a port: the tables that it passes have right rules of policies that passed.
 use Rattle.std.proofs.Common.{◌≡◌, ℕ, Bool, true, false, cond, T, ◌&&◌, List, [], ◌∷◌, ◌++◌, inl, inr, map, refl, sym, ap, subst, ◌∙◌}
-use Rattle.std.specs.Prelude.{Option, Some, None, MatchOption, Result, Ok, filter, is_none, nat_lt, take, ◌||◌}
+use Rattle.std.specs.Prelude.{Option, Some, None, MatchOption, filter, is_none, nat_lt, take, ◌||◌}
 use Rattle.std.specs.FinMap.{entries, entries_sorted, find, get, get-entries, is_sorted, keys}
 use Rattle.std.specs.FinMap.Entries.{below_all}
 use Rattle.std.specs.Ordering.{eq_by_cmp}
@@ -12,22 +12,20 @@ use Rattle.net_types.specs.Answers.{Policies}
 use Rattle.net_types.specs.Arp.{arp_reply, asked_ip, asker_ip, asker_mac}
 use Rattle.net_types.specs.Exports.{pid_of}
 use Rattle.net_types.specs.Keys.{pair_cmp}
-use Rattle.net_types.specs.Policies.{Policy}
 use Rattle.net_types.specs.Routes.{longest_of}
 use Rattle.net_types.specs.Sets.{Member, union_over}
-use Rattle.net_types.specs.declared.address.Pid.{Pid}
 use Rattle.net_types.specs.declared.prefix.Prefix.{Prefix}
 use Rattle.net_types.specs.declared.route.PortInfo.{PortInfo}
 use Rattle.net_types.specs.declared.rule.Pair.{Pair}
 use Rattle.net_types.specs.declared.rule.Rule.{Rule}
 use Rattle.events.specs.After.{next}
-use Rattle.events.specs.Fits.{Fits, FitsBy, IsAccepted, IsAnswer, IsBuilt, IsSent, IsTagged, IsTaken, IsWorked, Passes, added, all_flows, asks_for, bare, by_table, destination, flows_of, is_building, is_receivers, is_senders, none_rebuilt, responder_reply}
-use Rattle.events.specs.Legal.{Legal, LegalFrom, state_after, state_from}
+use Rattle.events.specs.Fits.{FitsBy, IsAccepted, IsAnswer, IsBuilt, IsSent, IsTagged, IsTaken, IsWorked, Passes, added, all_flows, asks_for, bare, by_table, destination, flows_of, is_building, is_receivers, is_senders, none_rebuilt, responder_reply}
+use Rattle.events.specs.Legal.{Legal, LegalFrom, state_after}
 use Rattle.events.specs.Pending.{pending}
 use Rattle.events.specs.Refusals.{refusal}
 use Rattle.events.specs.Resolving.{is_pool_request, is_resolved, pool_mac, tag_address, unresolved}
 use Rattle.events.specs.Sound.{IsRight, IsSound}
-use Rattle.events.specs.State.{State, ArePassed, ArePolicies, AreRead, first, port_of, told_to}
+use Rattle.events.specs.State.{State, ArePassed, ArePolicies, first, port_of, told_to}
 use Rattle.events.specs.declared.Entry.{Entry}
 use Rattle.events.specs.declared.Event.{Event}
 use Rattle.events.specs.declared.Event.TheVariants.{Bad, Exchange, Participant, Port, Update, Down, Export, Outbound, Inbound, Take, Drain, Arp, Resolve, Packet, Frame, Recompile, Work, Table}
@@ -36,34 +34,13 @@ use Rattle.events.specs.declared.Head.TheVariants.{Fine, Silent, Unresolved, Unr
 use Rattle.events.specs.declared.Refusal.{Refusal}
 use Rattle.events.specs.declared.Refusal.TheVariants.{TableFull}
 use Rattle.events.specs.declared.Reply.{Reply}
+use Rattle.exchange_laws.proofs.ReadPolicies.{policies_are_one}
+use Rattle.run_laws.proofs.OneMore.{legal_more, state_more}
 use Rattle.run_laws.proofs.Passing.{policies_have_passed}
 use Rattle.text_laws.specs.Naming.{AddsNoPort, IsOfNoPort, LegalRulesAreOfNoPort}
 use Rattle.text_laws.specs.Widths.{Each}
 use Rattle.text_laws.proofs.Fields.{each_append}
-use Rattle.text_laws.proofs.Joined.{cons_is}
 use Rattle.text_laws.proofs.Portless.{right_rules_are_of_no_port}
-
--- ---- policies
-
-policy_is : {Fault : Type 0} (p q : Policy) → (let x : Result Policy Fault = Ok p in x) ≡ Ok q → p ≡ q
-policy_is p q e = cc
-
-same_read : (texts : List (List ℕ)) (ps qs : List Policy) → AreRead texts ps → AreRead texts qs → ps ≡ qs
-same_read [] [] [] are also = refl
-same_read [] [] (q ∷ qs) are also = absurd also
-same_read [] (p ∷ ps) qs are also = absurd are
-same_read (text ∷ texts) [] qs are also = absurd are
-same_read (text ∷ texts) (p ∷ ps) [] are also = absurd also
-same_read (text ∷ texts) (p ∷ ps) (q ∷ qs) are also = cons_is p q ps qs (policy_is p q (sym are.0 ∙ also.0)) (same_read texts ps qs are.1 also.1)
-
-abbrev policies : (List ℕ → Option Pid) → List Policy → List Policy → Policies
-policies named outbound inbound = record { named = named; outbound = outbound; inbound = inbound }
-
--- the policies of a state are the same, whoever reads them
-same_policies : (s : State) (ps qs : Policies) → ArePolicies s ps → ArePolicies s qs → ps ≡ qs
-same_policies s ps qs are also =
-    ap (λ f. policies f ps.outbound ps.inbound) (are.names ∙ sym also.names) ∙ ap (λ x. policies qs.named x ps.inbound) (same_read s.outbound ps.outbound qs.outbound are.outbound also.outbound)
-    ∙ ap (λ x. policies qs.named qs.outbound x) (same_read s.inbound ps.inbound qs.inbound are.inbound also.inbound)
 
 -- ---- tables
 
@@ -80,7 +57,7 @@ TableIsFree s = (pair : Pair) (rules : List Rule) → get s.table pair ≡ Some 
 pub sound_free : (s : State) (ps : Policies) → ArePolicies s ps → ArePassed s ps → IsSound s → TableIsFree s
 sound_free s ps are passed sound pair rules there =
     let known = sound.right.2 pair rules there in
-    right_rules_are_of_no_port s ps passed known.0 pair.port rules (subst (λ x. IsRight x known.0 pair.port rules) (same_policies s sound.right.0 ps sound.right.1 are) known.2)
+    right_rules_are_of_no_port s ps passed known.0 pair.port rules (subst (λ x. IsRight x known.0 pair.port rules) (policies_are_one sound.right.1 are) known.2)
 
 both : (a b : Bool) → T (a && b) → T a × T b
 both true b h = (tt, h)
@@ -200,19 +177,6 @@ module _ (s : State) (e : Event) (r : Reply) (here : TableIsFree s) (later : IsS
 
 -- ---- runs
 
--- a run with a further line
-one_more : (s : State) (es : List Event) (rs : List Reply) (e : Event) (r : Reply) → LegalFrom s es rs → Fits (state_from s es rs) e r → LegalFrom s (es ++ e ∷ []) (rs ++ r ∷ [])
-one_more s [] [] e r legal fits = (fits, tt)
-one_more s [] (q ∷ rs) e r legal fits = absurd legal
-one_more s (d ∷ es) [] e r legal fits = absurd legal
-one_more s (d ∷ es) (q ∷ rs) e r legal fits = (legal.0, one_more (next s d q) es rs e r legal.1 fits)
-
-state_then : (s : State) (es : List Event) (rs : List Reply) (e : Event) (r : Reply) → LegalFrom s es rs → state_from s (es ++ e ∷ []) (rs ++ r ∷ []) ≡ next (state_from s es rs) e r
-state_then s [] [] e r legal = refl
-state_then s [] (q ∷ rs) e r legal = absurd legal
-state_then s (d ∷ es) [] e r legal = absurd legal
-state_then s (d ∷ es) (q ∷ rs) e r legal = state_then (next s d q) es rs e r legal.1
-
 sound_run : (es : List Event) (rs : List Reply) → Legal es rs → IsSound (state_after es rs) → TableIsFree (state_after es rs)
 sound_run es rs legal sound = let ps = policies_have_passed es rs legal in sound_free (state_after es rs) ps.0 ps.1 ps.2 sound
 
@@ -222,8 +186,8 @@ from_free done said legal free es [] more = tt
 from_free done said legal free [] (r ∷ rs) more = absurd more
 from_free done said legal free (e ∷ es) (r ∷ rs) more =
     let s : State = state_after done said in
-    let longer : Legal (done ++ e ∷ []) (said ++ r ∷ []) = one_more first done said e r legal more.0 in
-    let there : next s e r ≡ state_after (done ++ e ∷ []) (said ++ r ∷ []) = sym (state_then first done said e r legal) in
+    let longer : Legal (done ++ e ∷ []) (said ++ r ∷ []) = legal_more first done said e r legal more.0 in
+    let there : next s e r ≡ state_after (done ++ e ∷ []) (said ++ r ∷ []) = sym (state_more first done said e r legal) in
     let sounds : IsSound (next s e r) → TableIsFree (next s e r) = subst (λ x. IsSound x → TableIsFree x) (sym there) (sound_run (done ++ e ∷ []) (said ++ r ∷ []) longer) in
     let step : StaysFree s e r = fitting s e r free sounds (refusal s e) more.0 in
     (step.0, from_free (done ++ e ∷ []) (said ++ r ∷ []) longer (subst TableIsFree there step.1) es rs (subst (λ x. LegalFrom x es rs) there more.1))

@@ -6,6 +6,7 @@ pub mod Rules
 pub mod Heads
 pub mod Lines
 pub mod Replies
+pub mod Atoms
 pub mod Portless
 pub mod LegalRules
 pub mod Read
@@ -14,5 +15,4 @@ pub mod Counts
 pub mod Details
 pub mod Determined
 pub mod LegalReplies
-pub mod Formed
 pub mod ReadEvents

@@ -1,6 +1,6 @@
 -- The lines of details are told by their texts: each kind begins otherwise, and a head begins with a digit.
 use Rattle.std.proofs.Common.{◌≡◌, ℕ, ◌<◌, Bool, true, false, cond, ◌||◌, nat_eq, List, [], ◌∷◌, ◌++◌, append_assoc, flat_map, codes, get_or, refl, sym, ap, ap₂, ◌∙◌, subst, lt_irrefl, arith}
-use Rattle.std.specs.Prelude.{Option, Some, None}
+use Rattle.std.specs.Prelude.{IfSome, Option, Some, None}
 use Rattle.std.proofs.lemmas.Bool.Decides.{nat_tests}
 use Rattle.std.proofs.lemmas.List.{append_cancel_left}
 use Rattle.events.specs.Text.{add_text, advert_text, drop_text, end_line, exchange_text, flow_text, frame_text, hex_text, rule_line, tag_text}
@@ -15,7 +15,7 @@ use Rattle.net_types.specs.declared.prefix.Prefix.{Prefix}
 use Rattle.net_types.specs.declared.rule.Pair.{Pair}
 use Rattle.net_types.specs.declared.rule.Rule.{Rule}
 use Rattle.text_laws.specs.Naming.{IsOfNoPort}
-use Rattle.text_laws.specs.Widths.{Each, IfThere, IsFlow, IsFrame, IsNumber, IsPair, IsTagChange}
+use Rattle.text_laws.specs.Widths.{Each, IsFlow, IsFrame, IsNumber, IsPair, IsTagChange}
 use Rattle.text_laws.proofs.Alike.{Alike, Anything, behind, closed, decimals, gives, is_hex, next, starts}
 use Rattle.text_laws.proofs.Joined.{cons_is}
 use Rattle.text_laws.proofs.Numbers.{octets, pairs, prefixes}
@@ -80,7 +80,7 @@ tag_begins t s = by t.prefix t.tag
     by p (Some x) = refl
     by p None = refl
 
-tag_lines : (p q : Prefix) (a b : Option Tag) → IfThere (λ (x : Tag). IsNumber x.0) a
+tag_lines : (p q : Prefix) (a b : Option Tag) → IfSome a (λ (x : Tag). IsNumber x.0)
     → Alike Anything ((p ≡ q) × (a ≡ b)) (tag_text (record { prefix = p; tag = a })) (tag_text (record { prefix = q; tag = b }))
 tag_lines p q None None one = gives (λ is. (is, refl)) (closed end_line (λ s. refl) (behind (codes "  untag ") (prefixes p q)))
 tag_lines p q (Some a) (Some b) one =

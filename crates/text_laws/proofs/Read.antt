@@ -9,10 +9,12 @@ use Rattle.grammar.specs.Texts.{at_end, finish, read_whole}
 use Rattle.grammar.specs.TokenReading.{digits_from, read_number, read_parens, read_sign, read_spaces, read_too_deep}
 use Rattle.grammar.specs.Tokens.{is_digit}
 use Rattle.net_types.specs.Headers.{no_change}
-use Rattle.net_types.specs.Policies.{Test, Inport, Src, Dst, Proto, Sport, Dport, Pred, Yes, Is, Not, And, Or, Policy, Drop, Pass, Block, Fwd, Match, Set, Both, Then}
+use Rattle.net_types.specs.Policies.{Test, Src, Dst, Proto, Sport, Dport, Pred, Yes, Is, Not, And, Or, Policy, Drop, Pass, Block, Fwd, Match, Set, Both, Then}
 use Rattle.net_types.specs.PolicyGrammar.{inport_is, span, with_field}
 use Rattle.net_types.specs.PolicyReading.{policy_of_text, read_and, read_ands, read_assign_spaces, read_atom, read_atom_from, read_chain, read_conj, read_end, read_field, read_fwd, read_is, read_keyword, read_lead, read_lit, read_m, read_match, read_modify, read_not, read_or, read_ors, read_plus, read_pluses, read_policy, read_policy_group, read_pred, read_pred_group, read_prim, read_sets, read_start, read_target, read_test, read_then, read_thens, read_true}
 use Rattle.net_types.specs.PrefixReading.{read_prefix}
+use Rattle.net_types.specs.declared.address.PortNo.{PortNo}
+use Rattle.text_laws.proofs.Atoms.{OfPolicy, OfPred, OfTest}
 
 -- ---- readers
 
@@ -103,33 +105,27 @@ number_read low high nine = record { has = by }
 
 -- ---- tests
 
+-- a port, and numbers of eight and of sixteen bits
+abbrev pub PortFits : PortNo → Type 0
+PortFits port = port.0 < 2 ^ 16
+
+abbrev pub OctetFits : ℕ → Type 0
+OctetFits n = n < 2 ^ 8
+
+abbrev pub WordFits : ℕ → Type 0
+WordFits n = n < 2 ^ 16
+
 -- the number of a test is in the range of its field
 abbrev pub TestFits : Test → Type 0
-TestFits (Inport port) = port.0 < 2 ^ 16
-TestFits (Src prefix) = Unit {0}
-TestFits (Dst prefix) = Unit {0}
-TestFits (Proto proto) = proto < 2 ^ 8
-TestFits (Sport port) = port < 2 ^ 16
-TestFits (Dport port) = port < 2 ^ 16
+TestFits = OfTest PortFits OctetFits WordFits WordFits
 
 -- so are those of a predicate
 abbrev pub PredFits : Pred → Type 0
-PredFits Yes = Unit {0}
-PredFits (Is test span) = TestFits test
-PredFits (Not p) = PredFits p
-PredFits (And p q) = PredFits p × PredFits q
-PredFits (Or p q) = PredFits p × PredFits q
+PredFits = OfPred PortFits OctetFits WordFits WordFits
 
 -- and those of a policy
 abbrev pub PolicyFits : Policy → Type 0
-PolicyFits Drop = Unit {0}
-PolicyFits Pass = Unit {0}
-PolicyFits Block = Unit {0}
-PolicyFits (Fwd target span) = Unit {0}
-PolicyFits (Match p) = PredFits p
-PolicyFits (Set set span) = Unit {0}
-PolicyFits (Both p q) = PolicyFits p × PolicyFits q
-PolicyFits (Then p q) = PolicyFits p × PolicyFits q
+PolicyFits = OfPolicy PortFits OctetFits WordFits WordFits
 
 field_read : {X Y : Type 0} (P : X → Type 0) (Q : Y → Type 0) (w : List ℕ) (value : Reader X) (make : X → Y) → Gives P value → ((x : X) → P x → Q (make x)) → Gives Q (read_field w value make)
 unfolding read_field

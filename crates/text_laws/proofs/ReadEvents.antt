@@ -6,7 +6,7 @@ use Rattle.events.specs.Lines.{Numbered, bare_events, event_of, event_of_line, e
 use Rattle.events.specs.declared.Event.{Event}
 use Rattle.events.specs.declared.Event.TheVariants.{Bad}
 use Rattle.net_types.specs.Sets.{Member}
-use Rattle.text_laws.proofs.Formed.{line_formed}
+use Rattle.replay_text.proofs.Formed.{line_formed}
 use Rattle.text_laws.specs.Naming.{OutputsNameReplies, ReadEventsAreWellFormed}
 use Rattle.text_laws.proofs.LegalReplies.{texts_name_replies}
 

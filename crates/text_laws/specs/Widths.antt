@@ -1,5 +1,5 @@
 -- Which numbers replies have (this exchange's own rule).
-use Rattle.std.specs.Prelude.{ℕ, ◌^◌, ◌<◌, List, [], ◌∷◌, Option, Some, None}
+use Rattle.std.specs.Prelude.{ℕ, ◌^◌, ◌<◌, List, [], ◌∷◌, IfSome}
 use Rattle.net_types.specs.declared.address.Ip.{Ip}
 use Rattle.net_types.specs.declared.address.Tag.{Tag}
 use Rattle.net_types.specs.declared.actions.Action.{Action}
@@ -20,11 +20,6 @@ abbrev pub Each : {X : Type 0} → (X → Type 0) → List X → Type 0
 Each P [] = Unit {0}
 Each P (x ∷ xs) = P x × Each P xs
 
--- where it is there it has it
-abbrev pub IfThere : {X : Type 0} → (X → Type 0) → Option X → Type 0
-IfThere P None = Unit {0}
-IfThere P (Some x) = P x
-
 -- A number of at most 63 digits. Of one with more than 64 the last 64 alone are written, as of one that has 64.
 abbrev pub IsNumber : ℕ → Type 0
 IsNumber n = n < 10 ^ 63
@@ -41,16 +36,16 @@ pub record IsPair (q : Pair) : Type 0 where
 -- an assignment's addresses and ports
 pub record IsAction (a : Action) : Type 0 where
   pub port : IsNumber a.port.0
-  pub src : IfThere IsAddress a.set.src
-  pub dst : IfThere IsAddress a.set.dst
-  pub sport : IfThere IsNumber a.set.sport
-  pub dport : IfThere IsNumber a.set.dport
+  pub src : IfSome a.set.src IsAddress
+  pub dst : IfSome a.set.dst IsAddress
+  pub sport : IfSome a.set.sport IsNumber
+  pub dport : IfSome a.set.dport IsNumber
 
 -- the numbers of a cube; its prefixes have their own bounds
 pub record IsCube (c : Cube) : Type 0 where
-  pub proto : IfThere IsNumber c.proto
-  pub sport : IfThere IsNumber c.sport
-  pub dport : IfThere IsNumber c.dport
+  pub proto : IfSome c.proto IsNumber
+  pub sport : IfSome c.sport IsNumber
+  pub dport : IfSome c.dport IsNumber
 
 -- a rule's cube and actions
 pub record IsRule (r : Rule) : Type 0 where
@@ -62,7 +57,7 @@ pub record IsFlow (f : Flow) : Type 0 where
   pub rule : IsRule f.rule
 
 pub record IsTagChange (t : TagChange) : Type 0 where
-  pub tag : IfThere (λ (x : Tag). IsNumber x.0) t.tag
+  pub tag : IfSome t.tag (λ (x : Tag). IsNumber x.0)
 
 pub record IsFrame (f : Frame) : Type 0 where
   pub port : IsNumber f.port.0

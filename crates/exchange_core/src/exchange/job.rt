@@ -5,7 +5,7 @@ ghost use Rattle.std.specs.FinMap.{keys};
 ghost use Rattle.events.specs.State.{State};
 ghost use Rattle.job_end.specs.Ends.{IsEnd};
 ghost use Rattle.job_laws.specs.Jobs.{IsSteadyInJob, without_job};
-ghost use Rattle.job_upkeep.specs.Upkeep.{setting_of};
+ghost use Rattle.recompile.specs.Setting.{setting_of};
 ghost use Rattle.recompile.specs.Working.{IsSwap};
 ghost use Rattle.exchange_core.specs.Jobs.{EndsJob};
 ghost use Rattle.exchange_core.specs.Placed.{is_declared};

@@ -1,8 +1,6 @@
 use Rattle.std.proofs.Common.{sym, ap, ◌∙◌}
-use Rattle.std.specs.Prelude.{is_some}
 use Rattle.std.specs.Map.Iter.{deref_pair}
 use Rattle.std.specs.Option.{option_map}
-use Rattle.prefix_classes.proofs.GroupingLemmas.{is_some-copied}
 use Rattle.prefix_classes.proofs.LeastLemmas.{next_is_least, one_is_next}
 use Rattle.prefix_classes.proofs.grouping.least_from.Goals as goal
 

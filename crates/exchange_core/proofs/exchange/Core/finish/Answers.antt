@@ -9,7 +9,7 @@ use Rattle.exchange_core.specs.Placed.{is_declared}
 use Rattle.exchange_core.specs.View.{state_of}
 use Rattle.exchange_core.proofs.Ended.{Shows, committed, end_of, ended_kept, ended_present, ends_job, parts, reached, says_end, shown_by, shown_still, steady_with}
 use Rattle.job_laws.specs.Jobs.{IsSteadyInJob, without_job}
-use Rattle.job_upkeep.specs.Upkeep.{setting_of}
+use Rattle.recompile.specs.Setting.{setting_of}
 use Rattle.recompile.specs.Working.{IsSwap}
 use Rattle.exchange_core.proofs.exchange.Core.finish.Goals as goal
 

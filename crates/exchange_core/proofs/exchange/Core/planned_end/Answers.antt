@@ -1,7 +1,7 @@
 use Rattle.std.proofs.Common.{ap, subst, sym, refl, ◌∙◌}
 use Rattle.std.specs.FinMap.{keys}
 use Rattle.events.specs.State.{State}
-use Rattle.job_upkeep.specs.Upkeep.{setting_of}
+use Rattle.recompile.specs.Setting.{setting_of}
 use Rattle.recompile.specs.Working.{IsSwap}
 use Rattle.exchange_core.specs.View.{state_of}
 use Rattle.exchange_core.proofs.Ended.{Shows, ending, shown_by, steady_with}

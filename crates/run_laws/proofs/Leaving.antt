@@ -11,22 +11,9 @@ use Rattle.events.specs.declared.Head.{Head}
 use Rattle.events.specs.declared.Head.TheVariants.{Fine, Working, Finished, Unrouted, Unresolved, Silent, Refused}
 use Rattle.events.specs.declared.Refusal.{Refusal}
 use Rattle.events.specs.declared.Reply.{Reply}
-use Rattle.run_laws.specs.Promises.{IsRefused, RefusalsChangeNothing}
-use Rattle.refusal_laws.specs.Refusing.{AreRefusedRight, IsRefusedInOrder, IsRefusedRight, RefusalsAreInOrder, accepted_events, accepted_replies, unless_refused}
-
--- ---- one line more
-
-legal_more : (s : State) (es : List Event) (rs : List Reply) (e : Event) (r : Reply) → LegalFrom s es rs → Fits (state_from s es rs) e r → LegalFrom s (es ++ e ∷ []) (rs ++ r ∷ [])
-legal_more s [] [] e r h f = (f, tt)
-legal_more s [] (q ∷ rs) e r h f = absurd h
-legal_more s (d ∷ es) [] e r h f = absurd h
-legal_more s (d ∷ es) (q ∷ rs) e r h f = (h.0, legal_more (next s d q) es rs e r h.1 f)
-
-state_more : (s : State) (es : List Event) (rs : List Reply) (e : Event) (r : Reply) → LegalFrom s es rs → state_from s (es ++ e ∷ []) (rs ++ r ∷ []) ≡ next (state_from s es rs) e r
-state_more s [] [] e r h = refl
-state_more s [] (q ∷ rs) e r h = absurd h
-state_more s (d ∷ es) [] e r h = absurd h
-state_more s (d ∷ es) (q ∷ rs) e r h = state_more (next s d q) es rs e r h.1
+use Rattle.run_laws.proofs.OneMore.{legal_more, state_more}
+use Rattle.run_laws.proofs.Refusing.{refusals_change_nothing}
+use Rattle.run_laws.specs.Refusing.{AreRefusedRight, IsRefusedRight, RefusalsAreInOrder, accepted_events, accepted_replies, unless_refused}
 
 -- ---- each refusal
 
@@ -34,15 +21,15 @@ named : (s : State) (e : Event) (r : Reply) → Fits s e r → (why : Refusal) �
 named s e r fits why is = subst (λ o. FitsBy o s e r) is fits
 
 -- behind the first lines of a legal run each line is refused right
-right_behind : RefusalsChangeNothing → (es fs : List Event) (rs qs : List Reply) → Legal es rs → LegalFrom (state_after es rs) fs qs → AreRefusedRight (state_after es rs) fs qs
-right_behind law es [] rs qs legal behind = tt
-right_behind law es (e ∷ fs) rs [] legal behind = tt
-right_behind law es (e ∷ fs) rs (r ∷ qs) legal behind =
+right_behind : (es fs : List Event) (rs qs : List Reply) → Legal es rs → LegalFrom (state_after es rs) fs qs → AreRefusedRight (state_after es rs) fs qs
+right_behind es [] rs qs legal behind = tt
+right_behind es (e ∷ fs) rs [] legal behind = tt
+right_behind es (e ∷ fs) rs (r ∷ qs) legal behind =
     let s : State = state_after es rs in
     let more : state_after (es ++ e ∷ []) (rs ++ r ∷ []) ≡ next s e r = state_more first es rs e r legal in (
-      record { named = named s e r behind.0; ordered = λ why is. law es rs legal e r why behind.0 is },
+      record { named = named s e r behind.0; ordered = λ why is. refusals_change_nothing es rs legal e r why behind.0 is },
       subst (λ t. AreRefusedRight t fs qs) more
-          (right_behind law (es ++ e ∷ []) fs (rs ++ r ∷ []) qs (legal_more first es rs e r legal behind.0) (subst (λ t. LegalFrom t fs qs) (sym more) behind.1)),
+          (right_behind (es ++ e ∷ []) fs (rs ++ r ∷ []) qs (legal_more first es rs e r legal behind.0) (subst (λ t. LegalFrom t fs qs) (sym more) behind.1)),
     )
 
 -- ---- without refused lines
@@ -79,8 +66,8 @@ left_out s (e ∷ es) [] legal right = absurd legal
 left_out s (e ∷ es) (r ∷ rs) legal right =
     by_head s e es (accepted_events es rs) r rs (accepted_replies rs) legal.0 (left_out (next s e r) es rs legal.1 right.1) r.head refl right.0
 
-pub refusals_are_in_order : RefusalsChangeNothing → RefusalsAreInOrder
-refusals_are_in_order law es rs legal =
-    let right : AreRefusedRight first es rs = right_behind law [] es [] rs tt legal in
+pub refusals_are_in_order : RefusalsAreInOrder
+refusals_are_in_order es rs legal =
+    let right : AreRefusedRight first es rs = right_behind [] es [] rs tt legal in
     let out : IsLeftOut first es rs (accepted_events es rs) (accepted_replies rs) = left_out first es rs legal right in
     record { right = right; legal = out.legal; same = out.same }
