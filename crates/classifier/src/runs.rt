@@ -12,11 +12,7 @@ use std::alloc::Global;
 const LENGTH: usize = 64;
 
 /// The rules in runs of that length, of which the last may be shorter.
-pub fn runs_by<'a>(
-    alloc: Global,
-    lines: &'a [Line],
-    length: usize,
-) -> Result<Vec<Run<'a>>, Memory>
+pub fn runs_by<'a>(alloc: Global, lines: &'a [Line], length: usize) -> Result<Vec<Run<'a>>, Memory>
     requires { 0 < length }
     ensures { IfOk result (λ v. lines_in v.items ≡ lines.now) }
 {
