@@ -8,6 +8,8 @@ pub mod PolicyRight
 pub mod ViewLemmas
 pub mod BoundLemmas
 pub mod ExitLemmas
+pub mod GroupLemmas
+pub mod PastLemmas
 pub mod PortLemmas
 pub mod InportLemmas
 pub mod TightLemmas

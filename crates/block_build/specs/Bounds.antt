@@ -1,7 +1,7 @@
 -- Lists of rules that may have stopped at a limit.
-use Rattle.std.specs.Prelude.{◌≡◌, ℕ, ◌≤◌, Bool, true, false, List, [], ◌∷◌, ◌++◌, length, take, if◌then◌else◌}
+use Rattle.std.specs.Prelude.{◌≡◌, ℕ, ◌≤◌, Bool, true, false, Option, Some, None, List, [], ◌∷◌, ◌++◌, length, take, if◌then◌else◌}
 use Rattle.classifier.specs.Items.{Item}
-use Rattle.classifier.specs.Lines.{add_lines, product}
+use Rattle.classifier.specs.Lines.{add_lines, is_shadowed, line, product}
 use Rattle.classifier.specs.Meaning.{HasDistinctCubes}
 use Rattle.classifier.specs.declared.join.Join.TheVariants.{Union}
 use Rattle.classifier.specs.declared.line.Line.{Line}
@@ -58,3 +58,8 @@ pub record IsReached (left : Bool) (best : Pid) (items : List Item) (rs front : 
   pub all : (xs : List Line) → spread left best items xs front ≡ spread left best items xs rs
   pub theirs : (r : Receiver) → Member r front → Member r rs
   pub last : (others : List Receiver) (r : Receiver) → front ≡ others ++ r ∷ [] → goes_to left best items r.who ≡ true
+
+-- behind the rules one with this cube is never the first with its headers, where there is a cube
+abbrev pub IsPast : Option Cube → List Line → Type 0
+IsPast None xs = Unit {0}
+IsPast (Some c) xs = is_shadowed xs (line [] c) ≡ true

@@ -3,6 +3,7 @@ pub mod Right
 pub mod Views
 pub mod Lent
 pub mod Offers
+pub mod Groups
 pub mod Receivers
 pub mod Spreads
 pub mod Given

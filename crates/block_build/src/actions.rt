@@ -21,7 +21,7 @@ fn push_action(actions: &mut Vec<Action>, set: Assign, loc: Loc) -> Result<(), M
 fn actions_in(alloc: Global, items: &[(Assign, Loc)]) -> Result<Vec<Action>, Memory>
     ensures { IfOk result (λ v. v.items ≡ actions_in items.now) }
 {
-    let mut actions = Vec::new(alloc);
+    let mut actions = Vec::with_capacity(alloc, items.len())?;
     for pair in items {
         push_action(&mut actions, pair.0, pair.1)?;
     }

@@ -1,39 +1,43 @@
 //! The rules of a receiver, as ports to leave by.
 
-ghost use Rattle.std.specs.Prelude.{◌≡◌, ◌∷◌, [], IfOk, OnOk, if◌then◌else◌, Some, None};
+ghost use Rattle.std.specs.Prelude.{◌≡◌, ◌∷◌, [], IsTrue, IfOk, OnOk, if◌then◌else◌, Some, None};
 ghost use Rattle.classifier.specs.Items.{add_all};
 ghost use Rattle.classifier.specs.Lines.{add_line, add_lines, line, row};
 ghost use Rattle.classifier.specs.Runs.{lines_in};
 ghost use Rattle.classifier.specs.Seen.{Agrees};
 ghost use Rattle.classifier.specs.declared.join.Join.TheVariants.{Union};
+ghost use Rattle.block_build.specs.Bounds.{IsPast};
+ghost use Rattle.block_build.specs.Groups.{lines_within};
 ghost use Rattle.block_build.specs.Receivers.{discarding, received_items, received_lines, receiver};
 ghost use Rattle.block_build.specs.Views.{inbound_of};
 
+use crate::group::Group;
+use crate::groups::groups_of;
 use crate::receive::received_beside;
 use crate::view::View;
-use classifier::{Line, Run, is_hidden, push_line, push_reached, runs_of};
+use classifier::{Line, Run, is_hidden, push_line, push_reached};
 use net_types::{Cube, Memory, Offer, Pid, PortNo, TryCopy};
 use std::alloc::Global;
 use std::collections::HashSet;
 use std::marker::Model;
 
-/// A participant in the offers, with its rules in runs and the port of its NEXT_HOP, none where its route is a hole.
+/// A participant in the offers, with its rules in groups of runs and the port of its NEXT_HOP, none where its route is a hole.
 /// Contracts see its rules as ports to leave by; none of them is made before it is needed.
 #[derive(Drop)]
 pub struct Exits<'v> {
     who: Pid,
     hop: Option<PortNo>,
-    runs: Vec<Run<'v>>,
+    groups: Vec<Group<'v>>,
 }
 
 impl<'v> Model for Exits<'v> {
-    ghost use Rattle.classifier.specs.Runs.{lines_in};
+    ghost use Rattle.block_build.specs.Groups.{lines_within};
     ghost use Rattle.block_build.specs.Receivers.{receiver_by};
     ghost use Rattle.block_build.specs.declared.receive.Receiver.{Receiver};
 
     ghost Value = { Receiver };
 
-    ghost view = { λ e. receiver_by e.who e.hop (lines_in e.runs.items) };
+    ghost view = { λ e. receiver_by e.who e.hop (lines_within e.groups.items) };
 }
 
 /// Puts the rule of a cube that joins a rule with one of a receiver last, where it can be reached.
@@ -57,7 +61,19 @@ fn push_joined(
     Ok(())
 }
 
-/// Adds a rule joined with one of a receiver, where the two have headers in common.
+/// Whether this is the cube that was met last.
+fn is_last(last: Option<Cube>, cube: &Cube) -> bool
+    ensures { IsTrue result → last ≡ Some cube.now }
+{
+    match last {
+        Some(earlier) => earlier == *cube,
+        None => false,
+    }
+}
+
+/// Adds a rule joined with one of a receiver, where the two have headers in common. Often these are the headers that it had in
+/// common with the rule met last, which is less work to see than to look for their cube. It answers the cube that is now the
+/// one met last.
 fn push_met(
     alloc: Global,
     lines: &mut Vec<Line>,
@@ -65,15 +81,21 @@ fn push_met(
     x: &Line,
     hop: PortNo,
     y: &Line,
-) -> Result<(), Memory>
-    requires { Agrees lines.old.items seen.old }
+    last: Option<Cube>,
+) -> Result<Option<Cube>, Memory>
+    requires agrees { Agrees lines.old.items seen.old }
+    requires past { IsPast last lines.old.items }
     ensures lines { OnOk result (lines.new.items ≡ add_lines lines.old.items (row Union x.now (received_lines hop (y.now ∷ [])))) }
     ensures agrees { OnOk result (Agrees lines.new.items seen.new) }
+    ensures past { IfOk result (λ met. IsPast met lines.new.items) }
 {
-    match cube::meet(&x.cube, &y.cube) {
-        Some(cube) => push_joined(alloc, lines, seen, cube, x, hop, y),
-        None => Ok(()),
+    let Some(cube) = cube::meet(&x.cube, &y.cube) else {
+        return Ok(last);
+    };
+    if !is_last(last, &cube) {
+        push_joined(alloc, lines, seen, cube, x, hop, y)?;
     }
+    Ok(Some(cube))
 }
 
 /// Adds a rule joined with each of a run.
@@ -89,8 +111,9 @@ fn push_each(
     ensures lines { OnOk result (lines.new.items ≡ add_lines lines.old.items (row Union x.now (received_lines hop ys.now))) }
     ensures agrees { OnOk result (Agrees lines.new.items seen.new) }
 {
+    let mut last = None;
     for y in ys {
-        push_met(alloc, lines, seen, x, hop, y)?;
+        last = push_met(alloc, lines, seen, x, hop, y, last)?;
     }
     Ok(())
 }
@@ -133,6 +156,44 @@ fn push_runs(
     Ok(())
 }
 
+/// The same of a group.
+fn push_group(
+    alloc: Global,
+    lines: &mut Vec<Line>,
+    seen: &mut HashSet<Cube>,
+    x: &Line,
+    hop: PortNo,
+    group: &Group<'_>,
+) -> Result<(), Memory>
+    requires { Agrees lines.old.items seen.old }
+    ensures lines { OnOk result (lines.new.items ≡ add_lines lines.old.items (row Union x.now (received_lines hop (lines_in group.now.runs.items)))) }
+    ensures agrees { OnOk result (Agrees lines.new.items seen.new) }
+{
+    match cube::meet(&x.cube, &group.hull) {
+        Some(_) => push_runs(alloc, lines, seen, x, hop, group.runs.as_slice()),
+        None => Ok(()),
+    }
+}
+
+/// Adds a rule joined with each of the groups.
+fn push_groups(
+    alloc: Global,
+    lines: &mut Vec<Line>,
+    seen: &mut HashSet<Cube>,
+    x: &Line,
+    hop: PortNo,
+    groups: &[Group<'_>],
+) -> Result<(), Memory>
+    requires { Agrees lines.old.items seen.old }
+    ensures lines { OnOk result (lines.new.items ≡ add_lines lines.old.items (row Union x.now (received_lines hop (lines_within groups.now)))) }
+    ensures agrees { OnOk result (Agrees lines.new.items seen.new) }
+{
+    for group in groups {
+        push_group(alloc, lines, seen, x, hop, group)?;
+    }
+    Ok(())
+}
+
 /// Adds a rule as a hole leaves it: with what leaves by others alone.
 fn push_discarding(lines: &mut Vec<Line>, seen: &mut HashSet<Cube>, x: &Line) -> Result<(), Memory>
     requires { Agrees lines.old.items seen.old }
@@ -163,7 +224,7 @@ impl<'v> Exits<'v> {
         Ok(Exits {
             who: offer.exporter,
             hop: hop_of(offer),
-            runs: runs_of(alloc, view.inbound(offer.exporter))?,
+            groups: groups_of(alloc, view.inbound(offer.exporter))?,
         })
     }
 
@@ -187,7 +248,7 @@ impl<'v> Exits<'v> {
         ensures agrees { OnOk result (Agrees lines.new.items seen.new) }
     {
         match self.hop {
-            Some(hop) => push_runs(alloc, lines, seen, x, hop, &self.runs),
+            Some(hop) => push_groups(alloc, lines, seen, x, hop, &self.groups),
             None => push_discarding(lines, seen, x),
         }
     }

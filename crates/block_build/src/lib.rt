@@ -6,6 +6,8 @@ mod block;
 mod blocks;
 mod building;
 mod exits;
+mod group;
+mod groups;
 mod laws;
 mod offers;
 mod receive;

@@ -43,7 +43,7 @@ fn push_exit(results: &mut Results, set: Assign, exit: Option<PortNo>) -> Result
 fn exits_of(alloc: Global, hop: PortNo, results: &Results) -> Result<Results, Memory>
     ensures { IfOk result (λ r. r ≡ add_exits hop [] results.now) }
 {
-    let mut exits = Results::new(alloc);
+    let mut exits = Results::with_room(alloc, results.items().len())?;
     for pair in results.items() {
         push_exit(&mut exits, pair.0, exit_of(hop, pair.1))?;
     }
@@ -54,7 +54,7 @@ fn exits_of(alloc: Global, hop: PortNo, results: &Results) -> Result<Results, Me
 fn unchanged(alloc: Global, hop: PortNo) -> Result<Results, Memory>
     ensures { IfOk result (λ r. r ≡ (no_change, Out hop) ∷ []) }
 {
-    let mut exits = Results::new(alloc);
+    let mut exits = Results::with_room(alloc, 1)?;
     exits.push((Assign::none(), Loc::Out(hop)))?;
     Ok(exits)
 }

@@ -23,6 +23,6 @@ pub use ops::{choose, negate, parallel, sequence, single, test, tighten};
 pub use product::product_within;
 pub use results::Results;
 pub use run::Run;
-pub use runs::runs_of;
+pub use runs::{runs_by, runs_of};
 pub use seen::{is_hidden, push_line, push_lines, push_reached};
 pub use sum::parallel_all;

@@ -27,11 +27,11 @@ impl Model for Results {
     ghost invariant = { λ r. HasNoRepeats r.pairs.items };
 }
 
-/// Whether two pairs are equal.
+/// Whether two pairs are equal. Locations differ more often than assignments, so they are compared first.
 fn is_equal(a: &(Assign, Loc), b: &(Assign, Loc)) -> bool
     ensures { IsTrue result ↔ (a.now ≡ b.now) }
 {
-    a.0 == b.0 && a.1 == b.1
+    a.1 == b.1 && a.0 == b.0
 }
 
 /// Whether two pairs are equal, by the test of the definitions.
@@ -49,6 +49,15 @@ impl Results {
         Results {
             pairs: Vec::new(alloc),
         }
+    }
+
+    /// No results, with room for so many.
+    pub fn with_room(alloc: Global, room: usize) -> Result<Results, Memory>
+        ensures { IfOk result (λ r. r ≡ []) }
+    {
+        Ok(Results {
+            pairs: Vec::with_capacity(alloc, room)?,
+        })
     }
 
     /// Puts a pair last, unless it is there. After want of memory the results are unchanged.
@@ -87,6 +96,7 @@ impl Results {
     pub fn push_all(&mut self, others: &Results) -> Result<(), Memory>
         ensures ok { OnOk result (self.new ≡ add_all self.old others.now) }
     {
+        self.pairs.reserve_exact(others.pairs.len())?;
         for pair in others.items() {
             self.push(*pair)?;
         }

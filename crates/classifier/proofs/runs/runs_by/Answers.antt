@@ -3,7 +3,7 @@ use Rattle.classifier.specs.Runs.{lines_in}
 use Rattle.classifier.specs.declared.line.Line.{Line}
 use Rattle.classifier.specs.declared.run.Run.{Run}
 use Rattle.classifier.proofs.RunLemmas.{lines_in-push}
-use Rattle.classifier.proofs.runs.runs_of.Goals as goal
+use Rattle.classifier.proofs.runs.runs_by.Goals as goal
 
 pub loop-left-preserved : goal.loop-left-preserved
 loop-left-preserved c =

@@ -1,6 +1,6 @@
 use Rattle.std.proofs.Common.{◌≡◌, ◌++◌, length}
 use Rattle.classifier.specs.Runs.{lines_in}
-use Rattle.classifier.proofs.runs.runs_of.Given as goal
+use Rattle.classifier.proofs.runs.runs_by.Given as goal
 
 -- what is left makes the whole
 abbrev pub invariant-loop-left : goal.invariant-loop-left
