@@ -1,5 +1,5 @@
 -- A map with changes made: what stands at each prefix, and what one change more makes of it.
-use Rattle.std.proofs.Common.{◌≡◌, Bool, true, false, cond, List, [], ◌∷◌, ◌++◌, sym, ap, ◌∙◌, refl}
+use Rattle.std.proofs.Common.{◌≡◌, Bool, true, false, cond, List, [], ◌∷◌, ◌++◌, ◌+◌, ◌≤◌, length, sym, ap, ◌∙◌, refl, arith}
 use Rattle.std.specs.Prelude.{Option, Some, None, unwrap_or}
 use Rattle.std.specs.Ordering.{eq_by_cmp}
 use Rattle.std.specs.FinMap.{FinMap, get, get-insert, get-remove, same_map}
@@ -17,8 +17,8 @@ use Rattle.net_types.specs.Attributes.{same_attrs, same_option}
 use Rattle.net_types.specs.Keys.{prefix_cmp}
 use Rattle.net_types.specs.declared.prefix.Prefix.{Prefix}
 use Rattle.ordered_map.specs.Entries.{without}
-use Rattle.advert_queue.proofs.RisingEntries.{find_below, find_without}
-use Rattle.advert_queue.specs.Changes.{AreNews, Change, changed}
+use Rattle.advert_queue.proofs.RisingEntries.{fewer_without, find_below, find_without, length_put}
+use Rattle.advert_queue.specs.Changes.{AreNews, Change, changed, noted}
 
 -- what was told, or is present
 abbrev pub Told : Type 0
@@ -38,17 +38,6 @@ entry_itself e = and_from (same_tag e.tag e.tag) (same_attrs e.attrs e.attrs) (n
 
 pub entry_test : IsEqualityTest (same_option same_entry)
 entry_test = option_test same_entry (from_itself same_entry entries_equal entry_itself)
-
--- what the test answers of two entries that are seen as these
-module _ (a b x y : Option Entry) (answer : Bool) (left : a ≡ x) (right : b ≡ y) (is : answer ≡ same_option same_entry a b) where
-  pub same_as : answer ≡ true → x ≡ y
-  same_as e = (entry_test x y).0 ((λ i. same_option same_entry (sym left i) (sym right i)) ∙ sym is ∙ e)
-
-  pub differs_from : answer ≡ false → x ≡ y → ⊥
-  differs_from e same =
-      let alike : same_option same_entry x y ≡ true = (entry_test x y).1 same in
-      let both : true ≡ false = sym alike ∙ (λ i. same_option same_entry (sym left i) (sym right i)) ∙ sym is ∙ e in
-      cc
 
 -- ---- one change
 
@@ -121,6 +110,32 @@ module _ (told : Told) (cs : List Change) (k : Prefix) (entry : Option Entry) (s
       by : (b : Bool) → cond b None (find prefix_cmp p cs) ≡ Some now → ¬ get told p ≡ now
       by true at = absurd (cc)
       by false at = news p now at
+
+  pub noted_present : changed told (noted (get told k) k entry cs) ≡ with_news (changed told cs) k entry
+  noted_present = by (same_option same_entry (get told k) entry) refl
+    where
+      by : (b : Bool) → same_option same_entry (get told k) entry ≡ b → changed told (cond b (without prefix_cmp k cs) (put prefix_cmp k entry cs)) ≡ with_news (changed told cs) k entry
+      by true same = changed_without ((entry_test (get told k) entry).0 same)
+      by false apart = changed_put
+
+  pub noted_news : AreNews told cs → AreNews told (noted (get told k) k entry cs)
+  noted_news news = by (same_option same_entry (get told k) entry) refl
+    where
+      by : (b : Bool) → same_option same_entry (get told k) entry ≡ b → AreNews told (cond b (without prefix_cmp k cs) (put prefix_cmp k entry cs))
+      by true same = news_without news
+      by false apart = news_put news (λ is. (let both : true ≡ false = sym ((entry_test (get told k) entry).1 is) ∙ apart in cc))
+
+  pub noted_few : length (noted (get told k) k entry cs) ≤ length cs + 1
+  noted_few = by (same_option same_entry (get told k) entry)
+    where
+      by : (b : Bool) → length (cond b (without prefix_cmp k cs) (put prefix_cmp k entry cs)) ≤ length cs + 1
+      by true = let fewer = fewer_without prefix_cmp prefixes_total k cs sorted in omega (arith, fewer)
+      by false = length_put prefix_cmp prefixes_total k entry cs sorted
+
+-- what is noted, by the answer of the test
+pub noted_at : (k : Prefix) (cs : List Change) (was now seen : Option Entry) (answer : Bool) → seen ≡ now → answer ≡ same_option same_entry was seen → (b : Bool) → answer ≡ b
+    → noted was k now cs ≡ cond b (without prefix_cmp k cs) (put prefix_cmp k now cs)
+noted_at k cs was now seen answer is said b at = ap (λ c. cond c (without prefix_cmp k cs) (put prefix_cmp k now cs)) (ap (same_option same_entry was) (sym is) ∙ sym said ∙ at)
 
 -- ---- the first one, told
 

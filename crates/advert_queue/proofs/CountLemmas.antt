@@ -1,28 +1,35 @@
 -- How the numbers of entries that have each tag change with one entry.
-use Rattle.std.proofs.Common.{◌≡◌, ℕ, ◌+◌, ◌-◌, ◌≤◌, ◌<◌, Bool, true, false, cond, ◌||◌, not, T, List, [], ◌∷◌, map, length, sym, ap, subst, ◌∙◌, refl, arith}
-use Rattle.std.specs.Prelude.{Option, Some, None, is_some, unwrap_or}
+use Rattle.std.proofs.Common.{◌≡◌, ℕ, ◌+◌, ◌≤◌, ◌<◌, ◌^◌, Bool, true, false, cond, ◌||◌, not, T, List, [], ◌∷◌, map, length, sym, ap, subst, ◌∙◌, refl, arith}
+use Rattle.std.specs.Prelude.{Option, Some, None, is_none, is_some, nat_eq}
+use Rattle.std.specs.Option.{option_map}
 use Rattle.std.specs.List.{list_any}
 use Rattle.std.specs.Ordering.{eq_by_cmp, is_eq, is_lt}
-use Rattle.std.specs.Cmp.{IsTotalOrder}
+use Rattle.std.specs.Cmp.{IsTotalOrder, alike_right, eq_by_cmp_equiv}
 use Rattle.std.specs.declared.cmp.Ordering.{Ordering}
 use Rattle.std.specs.declared.cmp.Ordering.TheVariants.{Less, Equal, Greater}
 use Rattle.std.specs.FinMap.{FinMap, get, remove, empty, entries, entries_sorted, from_sorted, entries-from_sorted, same_entries_map, get-entries, entries-insert}
 use Rattle.std.specs.FinMap.Entries.{find, find-put, put, is_sorted, below_all, by_order}
-use Rattle.std.proofs.lemmas.Bool.{and_parts}
+use Rattle.std.proofs.lemmas.Bool.{and_parts, eq-eqb, eqb-true, false_from_ne_true}
 use Rattle.events.specs.Pending.{with_news}
 use Rattle.events.specs.Tags.{same_tag, tells}
 use Rattle.events.specs.declared.Entry.{Entry}
 use Rattle.net_types.proofs.OrderLemmas.{prefixes_total, tags_total}
 use Rattle.net_types.proofs.PlaceLemmas.{entries_of_sorted, remove_sorted, without_sorted}
-use Rattle.net_types.proofs.TieLemmas.{nat_ties, prefix_cmp-IsAntisymmetric, same_from_tie, tag_cmp-IsAntisymmetric}
+use Rattle.net_types.proofs.TieLemmas.{nat_ties, prefix_cmp-IsAntisymmetric, same_from_tie, tag_cmp-IsAntisymmetric, tie_Equal, ties_itself}
 use Rattle.net_types.proofs.ValueLemmas.{no_entries}
 use Rattle.net_types.specs.Keys.{prefix_cmp, tag_cmp}
 use Rattle.net_types.specs.declared.address.Tag.{Tag}
 use Rattle.net_types.specs.declared.prefix.Prefix.{Prefix}
+use Rattle.ordered_map.specs.Changes.{changed_at}
 use Rattle.ordered_map.specs.Entries.{without}
 use Rattle.advert_queue.proofs.RisingEntries.{find_without, without_first}
 use Rattle.advert_queue.specs.Changes.{Change, changed, tag_in}
-use Rattle.advert_queue.specs.Counts.{AreCounts, AreUsed, IsRecounted, counted, has_tag, is_tag, is_tag_of, total, uses}
+use Rattle.advert_queue.specs.Counts.{AreCounts, AreUsed, IsRecounted, by_side, counted, has_tag, is_tag, is_tag_of, new_places, number, other, total, uses, uses_in}
+use Rattle.advert_queue.specs.Recounted.{one_use, recounted}
+use Rattle.advert_queue.specs.declared.counts.Recount.TheVariants.{More, Less}
+use Rattle.advert_queue.specs.declared.counts.Side.{Side}
+use Rattle.advert_queue.specs.declared.counts.Side.TheVariants.{Told, Present}
+use Rattle.advert_queue.specs.declared.counts.Uses.{Uses}
 
 shown : (b : Bool) → T b → b ≡ true
 shown true h = refl
@@ -165,7 +172,7 @@ told_uses m t is = any_total t (entries m) true is
 pub untold_uses : (m : FinMap prefix_cmp Entry) (t : Tag) → tells m t ≡ false → uses m t ≡ 0
 untold_uses m t is = any_total t (entries m) false is
 
--- ---- the number that is kept for each tag
+-- ---- the numbers that are kept for each tag
 
 tag_same : (t u : Tag) → eq_by_cmp tag_cmp t u ≡ true → t ≡ u
 tag_same = same_from_tie tag_cmp tag_cmp-IsAntisymmetric
@@ -173,122 +180,310 @@ tag_same = same_from_tie tag_cmp tag_cmp-IsAntisymmetric
 pub is_tag_ties : (t u : Tag) → is_tag t u ≡ cond (eq_by_cmp tag_cmp t u) 1 0
 is_tag_ties t u = ap (λ b. let n : ℕ = cond b 1 0 in n) (sym (nat_ties t.0 u.0))
 
-pub counts_put : (cs : List (Tag × ℕ)) (tag : Tag) (n : ℕ) (t : Tag) → counted (put tag_cmp tag n cs) t ≡ cond (eq_by_cmp tag_cmp t tag) n (counted cs t)
-counts_put cs tag n t = ap (λ o. unwrap_or o 0) (find-put tag_cmp tags_total t tag n cs) ∙ by (eq_by_cmp tag_cmp t tag)
-  where
-    by : (b : Bool) → unwrap_or (cond b (Some n) (find tag_cmp t cs)) 0 ≡ cond b n (counted cs t)
-    by true = refl
-    by false = refl
+pub is_tag-itself : (t : Tag) → is_tag t t ≡ 1
+is_tag-itself t = is_tag_ties t t ∙ ap (λ b. let n : ℕ = cond b 1 0 in n) (ties_itself tags_total t)
 
-counts_without : (cs : List (Tag × ℕ)) (tag t : Tag) → counted (without tag_cmp tag cs) t ≡ cond (eq_by_cmp tag_cmp t tag) 0 (counted cs t)
-counts_without cs tag t = ap (λ o. unwrap_or o 0) (find_without tag_cmp tags_total t tag cs) ∙ by (eq_by_cmp tag_cmp t tag)
-  where
-    by : (b : Bool) → unwrap_or (cond b None (find tag_cmp t cs)) 0 ≡ cond b 0 (counted cs t)
-    by true = refl
-    by false = refl
+is_tag-apart : (u t : Tag) → eq_by_cmp tag_cmp u t ≡ false → is_tag u t ≡ 0
+is_tag-apart u t apart = is_tag_ties u t ∙ ap (λ b. let n : ℕ = cond b 1 0 in n) apart
 
-used_put : (cs : List (Tag × ℕ)) (tag : Tag) (n : ℕ) → AreUsed cs → 0 < n → AreUsed (put tag_cmp tag n cs)
-used_put cs tag n used some t k is = by (eq_by_cmp tag_cmp t tag) (sym (find-put tag_cmp tags_total t tag n cs) ∙ is)
-  where
-    by : (b : Bool) → cond b (Some n) (find tag_cmp t cs) ≡ Some k → 0 < k
-    by true at = let same : n ≡ k = cc in omega arith
-    by false at = used t k at
+here_or_not : (b : Bool) (f : Uses → Uses) (u : Uses) → ◌≡◌ {A = Option Uses} (Some (cond b (f u) u)) (cond b (Some (f u)) (Some u))
+here_or_not true f u = refl
+here_or_not false f u = refl
 
-used_without : (cs : List (Tag × ℕ)) (tag : Tag) → AreUsed cs → AreUsed (without tag_cmp tag cs)
-used_without cs tag used t k is = by (eq_by_cmp tag_cmp t tag) (sym (find_without tag_cmp tags_total t tag cs) ∙ is)
-  where
-    by : (b : Bool) → cond b None (find tag_cmp t cs) ≡ Some k → 0 < k
-    by true at = absurd (cc)
-    by false at = used t k at
+find-changed : (t : Tag) (f : Uses → Uses) (u : Tag) (cs : List (Tag × Uses)) → find tag_cmp u (changed_at tag_cmp t f cs) ≡ cond (eq_by_cmp tag_cmp u t) (option_map f (find tag_cmp u cs)) (find tag_cmp u cs)
+find-changed t f u [] = elim (eq_by_cmp tag_cmp u t) as (λ b. ◌≡◌ {A = Option Uses} None (cond b None None)) [ true ↦ refl | false ↦ refl ]
+find-changed t f u (c ∷ cs) =
+    elim (eq_by_cmp tag_cmp u c.0) as (λ b. eq_by_cmp tag_cmp u c.0 ≡ b → cond b (Some (cond (eq_by_cmp tag_cmp t c.0) (f c.1) c.1)) (find tag_cmp u (changed_at tag_cmp t f cs)) ≡ cond (eq_by_cmp tag_cmp u t) (option_map f (cond b (Some c.1) (find tag_cmp u cs))) (cond b (Some c.1) (find tag_cmp u cs))) [
+      | true ↦ λ tie.
+          let same : eq_by_cmp tag_cmp t c.0 ≡ eq_by_cmp tag_cmp u t = ap is_eq (sym (alike_right tags_total u c.0 t (tie_Equal _ tie))) ∙ (eq_by_cmp_equiv tags_total).symm t u in
+          ap (λ b. Some (cond b (f c.1) c.1)) same ∙ here_or_not (eq_by_cmp tag_cmp u t) f c.1
+      | false ↦ λ apart. find-changed t f u cs
+    ] refl
 
--- one use more
-pub raised : (cs ds : List (Tag × ℕ)) (tag : Tag) (n : ℕ) → AreUsed cs → is_sorted tag_cmp ds ≡ true → n ≡ counted cs tag → ds ≡ put tag_cmp tag (n + 1) cs → IsRecounted cs ds None (Some tag)
-raised cs ds tag n used rising is put_is = record {
-  rising = rising;
-  used = subst AreUsed (sym put_is) (used_put cs tag (n + 1) used (omega arith));
-  counts = λ t. by t (eq_by_cmp tag_cmp t tag) refl (ap (λ es. counted es t) put_is ∙ counts_put cs tag (n + 1) t) (is_tag_ties t tag);
-}
-  where
-    by : (t : Tag) (b : Bool) → eq_by_cmp tag_cmp t tag ≡ b → counted ds t ≡ cond b (n + 1) (counted cs t) → is_tag t tag ≡ cond b 1 0 → counted ds t + 0 ≡ counted cs t + is_tag t tag
-    by t true tie at one = let same = ap (counted cs) (tag_same t tag tie) in omega (arith, same)
-    by t false tie at one = omega arith
+-- ---- a tag whose numbers are these now, or that has none
 
--- one use less, and some are left
-pub lowered : (cs ds : List (Tag × ℕ)) (tag : Tag) (n : ℕ) → AreUsed cs → is_sorted tag_cmp ds ≡ true → n ≡ counted cs tag → 1 < n → ds ≡ put tag_cmp tag (n - 1) cs → IsRecounted cs ds (Some tag) None
-lowered cs ds tag n used rising is more put_is = record {
-  rising = rising;
-  used = subst AreUsed (sym put_is) (used_put cs tag (n - 1) used (omega arith));
-  counts = λ t. by t (eq_by_cmp tag_cmp t tag) refl (ap (λ es. counted es t) put_is ∙ counts_put cs tag (n - 1) t) (is_tag_ties t tag);
-}
-  where
-    by : (t : Tag) (b : Bool) → eq_by_cmp tag_cmp t tag ≡ b → counted ds t ≡ cond b (n - 1) (counted cs t) → is_tag t tag ≡ cond b 1 0 → counted ds t + is_tag t tag ≡ counted cs t + 0
-    by t true tie at one = let same = ap (counted cs) (tag_same t tag tie) in omega (arith, same)
-    by t false tie at one = omega arith
+abbrev HasNow : Tag → Option Uses → List (Tag × Uses) → List (Tag × Uses) → Type 0
+HasNow t now cs ds = (u : Tag) → find tag_cmp u ds ≡ cond (eq_by_cmp tag_cmp u t) now (find tag_cmp u cs)
 
--- the last use less
-pub dropped : (cs ds : List (Tag × ℕ)) (tag : Tag) → AreUsed cs → is_sorted tag_cmp ds ≡ true → counted cs tag ≡ 1 → ds ≡ without tag_cmp tag cs → IsRecounted cs ds (Some tag) None
-dropped cs ds tag used rising is without_is = record {
-  rising = rising;
-  used = subst AreUsed (sym without_is) (used_without cs tag used);
-  counts = λ t. by t (eq_by_cmp tag_cmp t tag) refl (ap (λ es. counted es t) without_is ∙ counts_without cs tag t) (is_tag_ties t tag);
-}
-  where
-    by : (t : Tag) (b : Bool) → eq_by_cmp tag_cmp t tag ≡ b → counted ds t ≡ cond b 0 (counted cs t) → is_tag t tag ≡ cond b 1 0 → counted ds t + is_tag t tag ≡ counted cs t + 0
-    by t true tie at one = let same = ap (counted cs) (tag_same t tag tie) in omega (arith, same)
-    by t false tie at one = omega arith
+now_changed : (t : Tag) (f : Uses → Uses) (cs ds : List (Tag × Uses)) → ds ≡ changed_at tag_cmp t f cs → HasNow t (option_map f (find tag_cmp t cs)) cs ds
+now_changed t f cs ds is u =
+    ap (find tag_cmp u) is ∙ find-changed t f u cs
+    ∙ elim (eq_by_cmp tag_cmp u t) as (λ b. eq_by_cmp tag_cmp u t ≡ b → cond b (option_map f (find tag_cmp u cs)) (find tag_cmp u cs) ≡ cond b (option_map f (find tag_cmp t cs)) (find tag_cmp u cs)) [
+      | true ↦ λ tie. ap (λ v. option_map f (find tag_cmp v cs)) (tag_same u t tie)
+      | false ↦ λ apart. refl
+    ] refl
+
+now_put : (t : Tag) (now : Option Uses) (v : Uses) (cs ds es : List (Tag × Uses)) → HasNow t now cs ds → es ≡ put tag_cmp t v ds → HasNow t (Some v) cs es
+now_put t now v cs ds es before is u =
+    ap (find tag_cmp u) is ∙ find-put tag_cmp tags_total u t v ds
+    ∙ elim (eq_by_cmp tag_cmp u t) as (λ b. find tag_cmp u ds ≡ cond b now (find tag_cmp u cs) → cond b (Some v) (find tag_cmp u ds) ≡ cond b (Some v) (find tag_cmp u cs)) [
+      | true ↦ λ at. refl
+      | false ↦ λ at. at
+    ] (before u)
+
+now_without : (t : Tag) (now : Option Uses) (cs ds es : List (Tag × Uses)) → HasNow t now cs ds → es ≡ without tag_cmp t ds → HasNow t None cs es
+now_without t now cs ds es before is u =
+    ap (find tag_cmp u) is ∙ find_without tag_cmp tags_total u t ds
+    ∙ elim (eq_by_cmp tag_cmp u t) as (λ b. find tag_cmp u ds ≡ cond b now (find tag_cmp u cs) → cond b None (find tag_cmp u ds) ≡ cond b None (find tag_cmp u cs)) [
+      | true ↦ λ at. refl
+      | false ↦ λ at. at
+    ] (before u)
+
+module _ (side : Side) (t : Tag) (now : Option Uses) (cs ds : List (Tag × Uses)) (before after : Option Tag) (rising : is_sorted tag_cmp ds ≡ true) (used : AreUsed cs) (found : HasNow t now cs ds) where
+  moved : ((v : Uses) → now ≡ Some v → 0 < v.told + v.present)
+      → number side (uses_in now) + has_tag t before ≡ counted side cs t + has_tag t after → number (other side) (uses_in now) ≡ counted (other side) cs t
+      → ((u : Tag) → eq_by_cmp tag_cmp u t ≡ false → has_tag u before ≡ has_tag u after)
+      → IsRecounted side cs ds before after
+  moved used_now here beside apart = record {
+    rising = rising;
+    used = λ u v is. kept u v (eq_by_cmp tag_cmp u t) (sym (found u) ∙ is);
+    counts = λ u. counts_at u (eq_by_cmp tag_cmp u t) refl (found u);
+    others = λ u. others_at u (eq_by_cmp tag_cmp u t) refl (found u);
+  }
+    where
+      kept : (u : Tag) (v : Uses) (b : Bool) → cond b now (find tag_cmp u cs) ≡ Some v → 0 < v.told + v.present
+      kept u v true at = used_now v at
+      kept u v false at = used u v at
+
+      counts_at : (u : Tag) (b : Bool) → eq_by_cmp tag_cmp u t ≡ b → find tag_cmp u ds ≡ cond b now (find tag_cmp u cs) → counted side ds u + has_tag u before ≡ counted side cs u + has_tag u after
+      counts_at u true tie at =
+          let same = tag_same u t tie in
+          (λ i. number side (uses_in (at i)) + has_tag (same i) before) ∙ here ∙ sym (λ i. counted side cs (same i) + has_tag (same i) after)
+      counts_at u false tie at = λ i. number side (uses_in (at i)) + apart u tie i
+
+      others_at : (u : Tag) (b : Bool) → eq_by_cmp tag_cmp u t ≡ b → find tag_cmp u ds ≡ cond b now (find tag_cmp u cs) → counted (other side) ds u ≡ counted (other side) cs u
+      others_at u true tie at = ap (λ o. number (other side) (uses_in o)) at ∙ beside ∙ sym (ap (counted (other side) cs) (tag_same u t tie))
+      others_at u false tie at = ap (λ o. number (other side) (uses_in o)) at
+
+-- ---- one use more or less
+
+more_number : (side : Side) (u : Uses) → number side u + 1 < 2 ^ 64 → number side (recounted (More side) u) ≡ number side u + 1
+more_number Told u small = omega (arith, small)
+more_number Present u small = omega (arith, small)
+
+more_other : (side : Side) (u : Uses) → number (other side) (recounted (More side) u) ≡ number (other side) u
+more_other Told u = refl
+more_other Present u = refl
+
+less_number : (side : Side) (u : Uses) → 0 < number side u → number side (recounted (Less side) u) + 1 ≡ number side u
+less_number Told u some = omega (arith, some)
+less_number Present u some = omega (arith, some)
+
+less_other : (side : Side) (u : Uses) → number (other side) (recounted (Less side) u) ≡ number (other side) u
+less_other Told u = refl
+less_other Present u = refl
+
+one_number : (side : Side) → number side (one_use side) ≡ 1
+one_number Told = refl
+one_number Present = refl
+
+one_other : (side : Side) → number (other side) (one_use side) ≡ 0
+one_other Told = refl
+one_other Present = refl
+
+no_number : (side : Side) → number side (uses_in None) ≡ 0
+no_number Told = refl
+no_number Present = refl
+
+number-le : (side : Side) (u : Uses) → number side u ≤ u.told + u.present
+number-le Told u = omega arith
+number-le Present u = omega arith
+
+unused_number : (side : Side) (u : Uses) → u.told ≡ 0 → u.present ≡ 0 → number side u ≡ 0
+unused_number Told u told present = told
+unused_number Present u told present = present
+
+same_some : (u v : Uses) → Some u ≡ Some v → u ≡ v
+same_some u v e = ap uses_in e
+
+is_used_number : (side : Side) (u v : Uses) → Some u ≡ Some v → 0 < number side u → 0 < v.told + v.present
+is_used_number side u v e some = let most = number-le side v in let same = ap (number side) (same_some u v e) in omega (arith, most, same, some)
+
+module _ (side : Side) (tag : Tag) (cs ds : List (Tag × Uses)) (used : AreUsed cs) where
+  -- a tag that has numbers
+  pub raised : is_sorted tag_cmp ds ≡ true → is_none (option_map (recounted (More side)) (find tag_cmp tag cs)) ≡ false → counted side cs tag + 1 < 2 ^ 64
+      → ds ≡ changed_at tag_cmp tag (recounted (More side)) cs → IsRecounted side cs ds None (Some tag)
+  raised rising there small is = by (find tag_cmp tag cs) refl there
+    where
+      by : (o : Option Uses) → find tag_cmp tag cs ≡ o → is_none (option_map (recounted (More side)) o) ≡ false → IsRecounted side cs ds None (Some tag)
+      by None was some = absurd (cc)
+      by (Some u) was some =
+          let old : counted side cs tag ≡ number side u = ap (λ o. number side (uses_in o)) was in
+          let beside : counted (other side) cs tag ≡ number (other side) u = ap (λ o. number (other side) (uses_in o)) was in
+          let more = more_number side u (omega (arith, old, small)) in
+          let itself = is_tag-itself tag in
+          moved side tag (Some (recounted (More side) u)) cs ds None (Some tag) rising used
+          (λ v. now_changed tag (recounted (More side)) cs ds is v ∙ ap (λ o. cond (eq_by_cmp tag_cmp v tag) (option_map (recounted (More side)) o) (find tag_cmp v cs)) was)
+          (λ v e. is_used_number side _ v e (omega (arith, more)))
+          (omega (arith, old, more, itself)) (more_other side u ∙ sym beside)
+          (λ v apart. sym (is_tag-apart v tag apart))
+
+  -- a tag that had none
+  pub raised_new : (es : List (Tag × Uses)) → is_sorted tag_cmp es ≡ true → is_none (option_map (recounted (More side)) (find tag_cmp tag cs)) ≡ true
+      → ds ≡ changed_at tag_cmp tag (recounted (More side)) cs → es ≡ put tag_cmp tag (one_use side) ds → IsRecounted side cs es None (Some tag)
+  raised_new es rising absent is put_is = by (find tag_cmp tag cs) refl absent
+    where
+      by : (o : Option Uses) → find tag_cmp tag cs ≡ o → is_none (option_map (recounted (More side)) o) ≡ true → IsRecounted side cs es None (Some tag)
+      by (Some u) was none = absurd (cc)
+      by None was none =
+          let old : counted side cs tag ≡ 0 = ap (λ o. number side (uses_in o)) was ∙ no_number side in
+          let beside : counted (other side) cs tag ≡ 0 = ap (λ o. number (other side) (uses_in o)) was ∙ no_number (other side) in
+          let one = one_number side in
+          let itself = is_tag-itself tag in
+          moved side tag (Some (one_use side)) cs es None (Some tag) rising used
+          (now_put tag _ (one_use side) cs ds es (now_changed tag (recounted (More side)) cs ds is) put_is)
+          (λ v e. is_used_number side _ v e (omega (arith, one)))
+          (omega (arith, old, one, itself)) (one_other side ∙ sym beside)
+          (λ v apart. sym (is_tag-apart v tag apart))
+
+  -- a tag that is in use still
+  pub lowered : (v : Uses) → is_sorted tag_cmp ds ≡ true → option_map (recounted (Less side)) (find tag_cmp tag cs) ≡ Some v → 0 < v.told + v.present → 0 < counted side cs tag
+      → ds ≡ changed_at tag_cmp tag (recounted (Less side)) cs → IsRecounted side cs ds (Some tag) None
+  lowered v rising now left some is = by (find tag_cmp tag cs) refl now
+    where
+      by : (o : Option Uses) → find tag_cmp tag cs ≡ o → option_map (recounted (Less side)) o ≡ Some v → IsRecounted side cs ds (Some tag) None
+      by None was at = absurd (cc)
+      by (Some u) was at =
+          let old : counted side cs tag ≡ number side u = ap (λ o. number side (uses_in o)) was in
+          let beside : counted (other side) cs tag ≡ number (other side) u = ap (λ o. number (other side) (uses_in o)) was in
+          let less = less_number side u (omega (arith, old, some)) in
+          let itself = is_tag-itself tag in
+          moved side tag (Some (recounted (Less side) u)) cs ds (Some tag) None rising used
+          (λ w. now_changed tag (recounted (Less side)) cs ds is w ∙ ap (λ o. cond (eq_by_cmp tag_cmp w tag) (option_map (recounted (Less side)) o) (find tag_cmp w cs)) was)
+          (λ w e. subst (λ x. 0 < x.told + x.present) (sym (same_some _ v at) ∙ same_some _ w e) left)
+          (omega (arith, old, less, itself)) (less_other side u ∙ sym beside)
+          (λ w apart. is_tag-apart w tag apart)
+
+  -- a tag that isn't in use any more
+  pub dropped : (v : Uses) (es : List (Tag × Uses)) → is_sorted tag_cmp es ≡ true → option_map (recounted (Less side)) (find tag_cmp tag cs) ≡ Some v → v.told ≡ 0 → v.present ≡ 0 → 0 < counted side cs tag
+      → ds ≡ changed_at tag_cmp tag (recounted (Less side)) cs → es ≡ without tag_cmp tag ds → IsRecounted side cs es (Some tag) None
+  dropped v es rising now no_told no_present some is without_is = by (find tag_cmp tag cs) refl now
+    where
+      by : (o : Option Uses) → find tag_cmp tag cs ≡ o → option_map (recounted (Less side)) o ≡ Some v → IsRecounted side cs es (Some tag) None
+      by None was at = absurd (cc)
+      by (Some u) was at =
+          let old : counted side cs tag ≡ number side u = ap (λ o. number side (uses_in o)) was in
+          let beside : counted (other side) cs tag ≡ number (other side) u = ap (λ o. number (other side) (uses_in o)) was in
+          let less = less_number side u (omega (arith, old, some)) in
+          let rest = ap (number side) (same_some _ v at) in
+          let rest_other = ap (number (other side)) (same_some _ v at) in
+          let none = unused_number side v no_told no_present in
+          let none_other = unused_number (other side) v no_told no_present in
+          let same_other = less_other side u in
+          let itself = is_tag-itself tag in
+          let nothing = no_number side in
+          let nothing_other = no_number (other side) in
+          moved side tag None cs es (Some tag) None rising used
+          (now_without tag _ cs ds es (now_changed tag (recounted (Less side)) cs ds is) without_is)
+          (λ w e. absurd (cc))
+          (omega (arith, old, less, itself, rest, none, nothing)) (omega (arith, beside, rest_other, none_other, same_other, nothing_other))
+          (λ w apart. is_tag-apart w tag apart)
 
 -- a tag with a number is kept
-pub kept_some : (cs : List (Tag × ℕ)) (tag : Tag) → 0 < counted cs tag → find tag_cmp tag cs ≡ None → ⊥
-kept_some cs tag some none = let zero : counted cs tag ≡ 0 = ap (λ o. unwrap_or o 0) none in omega (arith, zero)
+pub kept_some : (side : Side) (cs : List (Tag × Uses)) (tag : Tag) → 0 < counted side cs tag → find tag_cmp tag cs ≡ None → ⊥
+kept_some side cs tag some none =
+    let zero : counted side cs tag ≡ 0 = ap (λ o. number side (uses_in o)) none ∙ no_number side in
+    omega (arith, zero, some)
 
-pub kept_found : (cs : List (Tag × ℕ)) (tag : Tag) → 0 < counted cs tag → is_some (find tag_cmp tag cs) ≡ true
-kept_found cs tag some = by (find tag_cmp tag cs) refl
+pub kept_found : (side : Side) (cs : List (Tag × Uses)) (tag : Tag) → 0 < counted side cs tag → is_some (find tag_cmp tag cs) ≡ true
+kept_found side cs tag some = by (find tag_cmp tag cs) refl
   where
-    by : (o : Option ℕ) → find tag_cmp tag cs ≡ o → is_some o ≡ true
-    by None is = absurd (kept_some cs tag some is)
-    by (Some n) is = refl
+    by : (o : Option Uses) → find tag_cmp tag cs ≡ o → is_some o ≡ true
+    by None is = absurd (kept_some side cs tag some is)
+    by (Some u) is = refl
 
--- first a use less, and then one more
-pub both_steps : (cs ds es : List (Tag × ℕ)) (before after : Option Tag) → IsRecounted cs ds before None → IsRecounted ds es None after → IsRecounted cs es before after
-both_steps cs ds es before after one two = record {
+-- the places that a tag takes
+pub new_places-le : (cs : List (Tag × Uses)) (o : Option Tag) → new_places cs o ≤ 1
+new_places-le cs None = omega arith
+new_places-le cs (Some t) = elim (is_some (find tag_cmp t cs)) as (λ b. cond b 0 1 ≤ 1) [ true ↦ omega arith | false ↦ omega arith ]
+
+pub no_place : (cs : List (Tag × Uses)) (t : Tag) → is_some (find tag_cmp t cs) ≡ true → new_places cs (Some t) ≡ 0
+no_place cs t there = ap (λ b. let n : ℕ = cond b 0 1 in n) there
+
+pub one_place : (cs : List (Tag × Uses)) (f : Uses → Uses) (t : Tag) → is_none (option_map f (find tag_cmp t cs)) ≡ true → new_places cs (Some t) ≡ 1
+one_place cs f t absent = by (find tag_cmp t cs) refl absent
+  where
+    by : (o : Option Uses) → find tag_cmp t cs ≡ o → is_none (option_map f o) ≡ true → new_places cs (Some t) ≡ 1
+    by None is none = ap (λ o. let n : ℕ = cond (is_some o) 0 1 in n) is
+    by (Some u) is none = absurd (cc)
+
+-- first a use more, and then one less
+pub both_steps : (side : Side) (cs ds es : List (Tag × Uses)) (before after : Option Tag) → IsRecounted side cs ds None after → IsRecounted side ds es before None → IsRecounted side cs es before after
+both_steps side cs ds es before after one two = record {
   rising = two.rising;
   used = two.used;
   counts = λ t. (let a = one.counts t in let b = two.counts t in omega (arith, a, b));
+  others = λ t. two.others t ∙ one.others t;
 }
 
-pub no_step : (cs : List (Tag × ℕ)) → is_sorted tag_cmp cs ≡ true → AreUsed cs → IsRecounted cs cs None None
-no_step cs rising used = record { rising = rising; used = used; counts = λ t. refl }
+pub no_step : (side : Side) (cs : List (Tag × Uses)) → is_sorted tag_cmp cs ≡ true → AreUsed cs → IsRecounted side cs cs None None
+no_step side cs rising used = record { rising = rising; used = used; counts = λ t. refl; others = λ t. refl }
+
+-- what holds of a side and of the other one holds of both
+both_sides : (P : Side → Type 0) (side : Side) → P side → P (other side) → (s : Side) → P s
+both_sides P Told here beside Told = here
+both_sides P Told here beside Present = beside
+both_sides P Present here beside Told = beside
+both_sides P Present here beside Present = here
 
 -- right numbers stay right
-pub recounted : (cs ds : List (Tag × ℕ)) (before after : Option Tag) (old new : Tag → ℕ) → AreCounts cs old → IsRecounted cs ds before after → ((t : Tag) → new t + has_tag t before ≡ old t + has_tag t after) → AreCounts ds new
-recounted cs ds before after old new right step same = record {
+pub still_right : (side : Side) (cs ds : List (Tag × Uses)) (before after : Option Tag) (old new : Side → Tag → ℕ) → AreCounts cs old → IsRecounted side cs ds before after
+    → ((t : Tag) → new side t + has_tag t before ≡ old side t + has_tag t after) → ((t : Tag) → new (other side) t ≡ old (other side) t) → AreCounts ds new
+still_right side cs ds before after old new right step same beside = record {
   rising = step.rising;
   used = step.used;
-  counts = λ t. (let a = right.counts t in let b = step.counts t in let e = same t in omega (arith, a, b, e));
+  counts = λ s t. both_sides (λ s. counted s ds t ≡ new s t) side
+      (let a = right.counts side t in let b = step.counts t in let e = same t in omega (arith, a, b, e))
+      (step.others t ∙ right.counts (other side) t ∙ sym (beside t)) s;
 }
 
--- a tag has a number exactly where it is told
-pub found_told : (cs : List (Tag × ℕ)) (m : FinMap prefix_cmp Entry) (t : Tag) → AreCounts cs (uses m) → is_some (find tag_cmp t cs) ≡ tells m t
-found_told cs m t right = by (find tag_cmp t cs) (tells m t) refl refl
-  where
-    by : (o : Option ℕ) (b : Bool) → find tag_cmp t cs ≡ o → tells m t ≡ b → is_some o ≡ b
-    by None false is told = refl
-    by (Some n) true is told = refl
-    by None true is told =
-        let none : counted cs t ≡ 0 = ap (λ o. unwrap_or o 0) is in
-        let some = told_uses m t told in
-        let same = right.counts t in
-        absurd (omega (arith, none, some, same))
-    by (Some n) false is told =
-        let some = right.used t n is in
-        let number : counted cs t ≡ n = ap (λ o. unwrap_or o 0) is in
-        let none = untold_uses m t told in
-        let same = right.counts t in
-        absurd (omega (arith, some, number, none, same))
+-- ---- a tag has a number where it is told
 
-pub none_counted : (cs : List (Tag × ℕ)) (m : FinMap prefix_cmp Entry) → cs ≡ [] → m ≡ empty → AreCounts cs (uses m)
-none_counted cs m none nothing = subst (λ es. AreCounts es (uses m)) (sym none) (record {
+pub told_number : (cs : List (Tag × Uses)) (side : Side) (m : FinMap prefix_cmp Entry) (t : Tag) → counted side cs t ≡ uses m t → not (nat_eq (counted side cs t) 0) ≡ tells m t
+told_number cs side m t right = by (tells m t) refl
+  where
+    by : (b : Bool) → tells m t ≡ b → not (nat_eq (counted side cs t) 0) ≡ b
+    by true told = let some = told_uses m t told in ap not (false_from_ne_true (nat_eq (counted side cs t) 0) (λ e. let none = eqb-true (counted side cs t) 0 e in omega (arith, right, some, none)))
+    by false told = ap not (eq-eqb (counted side cs t) 0 (right ∙ untold_uses m t told))
+
+-- a tag has numbers exactly where it was told or is present
+pub found_either : (cs : List (Tag × Uses)) (m n : FinMap prefix_cmp Entry) (t : Tag) → AreCounts cs (by_side (uses m) (uses n)) → is_some (find tag_cmp t cs) ≡ (tells m t || tells n t)
+found_either cs m n t right = by (find tag_cmp t cs) (tells m t) (tells n t) refl refl refl
+  where
+    number_is : (side : Side) (o : Option Uses) → find tag_cmp t cs ≡ o → counted side cs t ≡ number side (uses_in o)
+    number_is side o is = ap (λ o. number side (uses_in o)) is
+
+    by : (o : Option Uses) (a b : Bool) → find tag_cmp t cs ≡ o → tells m t ≡ a → tells n t ≡ b → is_some o ≡ (a || b)
+    by None true b is told present =
+        let none : counted Told cs t ≡ 0 = number_is Told None is in
+        let some = told_uses m t told in
+        let same : counted Told cs t ≡ uses m t = right.counts Told t in
+        absurd (omega (arith, none, some, same))
+    by None false true is told present =
+        let none : counted Present cs t ≡ 0 = number_is Present None is in
+        let some = told_uses n t present in
+        let same : counted Present cs t ≡ uses n t = right.counts Present t in
+        absurd (omega (arith, none, some, same))
+    by None false false is told present = refl
+    by (Some u) true b is told present = refl
+    by (Some u) false true is told present = refl
+    by (Some u) false false is told present =
+        let some : 0 < u.told + u.present = right.used t u is in
+        let a : counted Told cs t ≡ u.told = number_is Told (Some u) is in
+        let b : counted Present cs t ≡ u.present = number_is Present (Some u) is in
+        let c : counted Told cs t ≡ uses m t = right.counts Told t in
+        let d : counted Present cs t ≡ uses n t = right.counts Present t in
+        let e = untold_uses m t told in
+        let f = untold_uses n t present in
+        absurd (omega (arith, some, a, b, c, d, e, f))
+
+pub none_counted : (cs : List (Tag × Uses)) (m n : FinMap prefix_cmp Entry) → cs ≡ [] → m ≡ empty → n ≡ empty → AreCounts cs (by_side (uses m) (uses n))
+none_counted cs m n none nothing no_present = subst (λ es. AreCounts es (by_side (uses m) (uses n))) (sym none) (record {
   rising = refl;
-  used = λ t n is. absurd (cc);
-  counts = λ t. sym (ap (λ n. uses n t) nothing ∙ uses_empty t);
+  used = λ t u is. absurd (cc);
+  counts = λ side t. by t side;
 })
+  where
+    by : (t : Tag) (side : Side) → number side (uses_in None) ≡ by_side (uses m) (uses n) side t
+    by t Told = sym (ap (λ n. uses n t) nothing ∙ uses_empty t)
+    by t Present = sym (ap (λ n. uses n t) no_present ∙ uses_empty t)

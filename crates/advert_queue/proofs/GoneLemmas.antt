@@ -1,6 +1,6 @@
 -- The tags that go with what is told anew are those that the changed prefixes were told and that are in use nowhere else.
 use Rattle.std.proofs.Common.{◌≡◌, ℕ, zero, suc, ◌+◌, ◌≤◌, ◌<◌, ◌^◌, Bool, true, false, cond, ◌&&◌, ◌||◌, not, List, [], ◌∷◌, ◌++◌, map, filter, take, drop, length, sym, ap, subst, ◌∙◌, refl, arith, inl, inr}
-use Rattle.std.specs.Prelude.{Option, Some, None, is_some, unwrap_or, nat_eq}
+use Rattle.std.specs.Prelude.{Option, Some, None, is_some, nat_eq}
 use Rattle.std.specs.FinMap.{get}
 use Rattle.std.specs.FinMap.Entries.{find, is_sorted, is_some-find, below_all}
 use Rattle.std.specs.List.{list_any}
@@ -19,15 +19,18 @@ use Rattle.net_types.specs.Sets.{Member}
 use Rattle.net_types.specs.declared.address.Tag.{Tag}
 use Rattle.net_types.specs.declared.prefix.Prefix.{Prefix}
 use Rattle.advert_queue.proofs.ChangedMaps.{Told, get_with}
-use Rattle.advert_queue.proofs.CountLemmas.{found_told, told_uses, untold_uses, uses_one, uses_with, has_tag-le, recounted}
+use Rattle.advert_queue.proofs.CountLemmas.{has_tag-le, kept_found, still_right, told_number, told_uses, untold_uses, uses_one, uses_with}
 use Rattle.advert_queue.proofs.EntryLists.{found_itself, map-filter}
 use Rattle.advert_queue.proofs.Fronts.{front_all, front_more}
 use Rattle.advert_queue.proofs.PendingLemmas.{told_among}
-use Rattle.advert_queue.proofs.RisingEntries.{find_below, keys_rise, rising_alike, rising_by_any}
+use Rattle.advert_queue.proofs.RisingEntries.{find_below, keys_rise, rising_alike}
 use Rattle.advert_queue.proofs.TakenLemmas.{at_change, taken_member}
 use Rattle.advert_queue.specs.Changes.{AreNews, Change, changed, tag_in}
-use Rattle.advert_queue.specs.Counts.{AreCounts, IsRecounted, counted, entry_tag, has_tag, uses}
-use Rattle.advert_queue.specs.Leaving.{is_gone, left}
+use Rattle.advert_queue.specs.Counts.{AreCounts, IsRecounted, by_side, counted, entry_tag, has_tag, is_told_tag, number, uses, uses_in}
+use Rattle.advert_queue.specs.declared.counts.Side.{Side}
+use Rattle.advert_queue.specs.declared.counts.Side.TheVariants as sides
+use Rattle.advert_queue.specs.declared.counts.Uses.{Uses}
+use Rattle.advert_queue.specs.Leaving.{is_gone, left, none_present}
 use Rattle.advert_queue.specs.Advertised.{is_told}
 use Rattle.advert_queue.specs.Taken.{gone_tags, untold}
 use Rattle.advert_queue.specs.Telling.{tags_of}
@@ -37,15 +40,44 @@ tag_same = same_from_tie tag_cmp tag_cmp-IsAntisymmetric
 
 -- ---- the tags that are told
 
-tag_found : (cs : List (Tag × ℕ)) (t : Tag) → is_some (find tag_cmp t cs) ≡ list_any (eq_by_cmp tag_cmp t) (map entry_tag cs)
+tag_found : (cs : List (Tag × Uses)) (t : Tag) → is_some (find tag_cmp t cs) ≡ list_any (eq_by_cmp tag_cmp t) (map entry_tag cs)
 tag_found cs t = is_some-find tag_cmp t cs
 
--- the tags that have numbers are those that were told
-pub counted_tags : (cs : List (Tag × ℕ)) (m : Told) → AreCounts cs (uses m) → map entry_tag cs ≡ tags_of m
-counted_tags cs m right =
-    rising_by_any tag_cmp tags_total tag_same (map entry_tag cs) (tags_of m)
-    (keys_rise tag_cmp tags_total cs right.rising) (ordered_rises tag_cmp tags_total tag_same _)
-    (λ t. sym (tag_found cs t) ∙ found_told cs m t right ∙ sym (told_among m t))
+numbered : (side : Side) (cs : List (Tag × Uses)) (t : Tag) → 0 < counted side cs t → Member t (map entry_tag cs)
+numbered side cs t some = any_member tag_cmp tags_total tag_same t (map entry_tag cs) (sym (tag_found cs t) ∙ kept_found side cs t some)
+
+told_member : (m : Told) (t : Tag) → tells m t ≡ true → Member t (tags_of m)
+told_member m t told = any_member tag_cmp tags_total tag_same t (tags_of m) (told_among m t ∙ told)
+
+member_told : (m : Told) (t : Tag) → Member t (tags_of m) → tells m t ≡ true
+member_told m t at = sym (told_among m t) ∙ member_any tag_cmp tags_total tag_same t (tags_of m) at
+
+-- the tags with a number of what was told are those that were told
+module _ (cs : List (Tag × Uses)) (m n : Told) (right : AreCounts cs (by_side (uses m) (uses n))) where
+  abbrev is_counted : Tag → Bool
+  is_counted t = not (nat_eq (counted sides.Told cs t) 0)
+
+  counted_as : (t : Tag) → is_counted t ≡ tells m t
+  counted_as t = told_number cs sides.Told m t (right.counts sides.Told t)
+
+  counted_list : map entry_tag (filter is_told_tag cs) ≡ filter is_counted (map entry_tag cs)
+  counted_list = map-filter entry_tag is_told_tag is_counted cs (λ e at.
+      ap (λ o. not (nat_eq (number sides.Told (uses_in o)) 0)) (sym (found_itself tag_cmp tags_total cs e right.rising at)))
+
+  onto_told : (t : Tag) → Member t (filter is_counted (map entry_tag cs)) → Member t (tags_of m)
+  onto_told t at = told_member m t (sym (counted_as t) ∙ (filter-Member is_counted (map entry_tag cs) t at).passes)
+
+  back_told : (t : Tag) → Member t (tags_of m) → Member t (filter is_counted (map entry_tag cs))
+  back_told t at =
+      let told = member_told m t at in
+      let some = told_uses m t told in
+      let same : counted sides.Told cs t ≡ uses m t = right.counts sides.Told t in
+      Member-filter is_counted (map entry_tag cs) t (numbered sides.Told cs t (omega (arith, some, same))) (counted_as t ∙ told)
+
+  pub counted_tags : map entry_tag (filter is_told_tag cs) ≡ tags_of m
+  counted_tags = counted_list ∙ rising_alike tag_cmp tags_total tag_same (filter is_counted (map entry_tag cs)) (tags_of m)
+      (filter-IsRising (before tag_cmp) is_counted (map entry_tag cs) (keys_rise tag_cmp tags_total cs right.rising)) (ordered_rises tag_cmp tags_total tag_same _)
+      (record { onto = onto_told; back = back_told })
 
 -- ---- the uses that go and that come
 
@@ -108,8 +140,8 @@ front_sorted (suc n) (c ∷ cs) sorted =
 
 -- ---- the tags that go
 
-module _ (told : Told) (cs : List Change) (sorted : is_sorted prefix_cmp cs ≡ true) (news : AreNews told cs) (count : ℕ) (ls ts ps : List (Tag × ℕ))
-    (leaving : AreCounts ls (left told (take count cs))) (in_told : AreCounts ts (uses told)) (in_present : AreCounts ps (uses (changed told cs))) where
+module _ (told : Told) (cs : List Change) (sorted : is_sorted prefix_cmp cs ≡ true) (news : AreNews told cs) (count : ℕ) (ls ts : List (Tag × Uses))
+    (leaving : AreCounts ls (by_side (left told (take count cs)) none_present)) (all : AreCounts ts (by_side (uses told) (uses (changed told cs)))) where
   abbrev present : Told
   present = changed told cs
 
@@ -125,16 +157,16 @@ module _ (told : Told) (cs : List Change) (sorted : is_sorted prefix_cmp cs ≡ 
 
   then_uses : (t : Tag) → uses present t ≡ 0 → uses then t + left told (take count cs) t ≡ uses told t
   then_uses t none =
-      let all = uses_changed told (take count cs) t (front_sorted count cs sorted) in
+      let sum = uses_changed told (take count cs) t (front_sorted count cs sorted) in
       let comes = none_comes t none in
-      omega (arith, all, comes)
+      omega (arith, sum, comes)
 
   abbrev goes : Tag → Bool
-  goes t = nat_eq (counted ts t) (counted ls t) && nat_eq (counted ps t) 0
+  goes t = nat_eq (counted sides.Told ts t) (counted sides.Told ls t) && nat_eq (counted sides.Present ts t) 0
 
-  listed : map entry_tag (filter (is_gone ts ps) ls) ≡ filter goes (map entry_tag ls)
-  listed = map-filter entry_tag (is_gone ts ps) goes ls (λ e m.
-      ap (λ o. nat_eq (counted ts e.0) (unwrap_or o 0) && nat_eq (counted ps e.0) 0) (sym (found_itself tag_cmp tags_total ls e leaving.rising m)))
+  listed : map entry_tag (filter (is_gone ts) ls) ≡ filter goes (map entry_tag ls)
+  listed = map-filter entry_tag (is_gone ts) goes ls (λ e m.
+      ap (λ o. nat_eq (counted sides.Told ts e.0) (number sides.Told (uses_in o)) && nat_eq (counted sides.Present ts e.0) 0) (sym (found_itself tag_cmp tags_total ls e leaving.rising m)))
 
   abbrev not_told : List Told → Tag → Bool
   not_told ms t = not (is_told ms t)
@@ -153,43 +185,42 @@ module _ (told : Told) (cs : List Change) (sorted : is_sorted prefix_cmp cs ≡ 
       either true is at = absurd (cc)
       either false is at = untold_uses m t is
 
-  has_number : (es : List (Tag × ℕ)) (number : Tag → ℕ) (t : Tag) → AreCounts es number → Member t (map entry_tag es) → 0 < number t
-  has_number es number t right m = either (find tag_cmp t es) refl (tag_found es t ∙ member_any tag_cmp tags_total tag_same t (map entry_tag es) m)
+  leaves : (t : Tag) → Member t (map entry_tag ls) → 0 < left told (take count cs) t
+  leaves t m = either (find tag_cmp t ls) refl (tag_found ls t ∙ member_any tag_cmp tags_total tag_same t (map entry_tag ls) m)
     where
-      either : (o : Option ℕ) → find tag_cmp t es ≡ o → is_some (find tag_cmp t es) ≡ true → 0 < number t
+      either : (o : Option Uses) → find tag_cmp t ls ≡ o → is_some (find tag_cmp t ls) ≡ true → 0 < left told (take count cs) t
       either None none some = let both : false ≡ true = sym (ap is_some none) ∙ some in absurd (cc)
-      either (Some n) is some =
-          let used = right.used t n is in
-          let same : counted es t ≡ n = ap (λ o. unwrap_or o 0) is in
-          let right = right.counts t in
-          omega (arith, used, same, right)
+      either (Some u) is some =
+          let used : 0 < u.told + u.present = leaving.used t u is in
+          let a : counted sides.Told ls t ≡ u.told = ap (λ o. number sides.Told (uses_in o)) is in
+          let b : counted sides.Present ls t ≡ u.present = ap (λ o. number sides.Present (uses_in o)) is in
+          let c : counted sides.Told ls t ≡ left told (take count cs) t = leaving.counts sides.Told t in
+          let d : counted sides.Present ls t ≡ 0 = leaving.counts sides.Present t in
+          omega (arith, used, a, b, c, d)
 
-  numbered : (es : List (Tag × ℕ)) (number : Tag → ℕ) (t : Tag) → AreCounts es number → 0 < number t → Member t (map entry_tag es)
-  numbered es number t right some = any_member tag_cmp tags_total tag_same t (map entry_tag es) (sym (tag_found es t) ∙ either (find tag_cmp t es) refl)
+  is_told_where : (t : Tag) → 0 < uses told t → tells told t ≡ true
+  is_told_where t some = either (tells told t) refl
     where
-      either : (o : Option ℕ) → find tag_cmp t es ≡ o → is_some o ≡ true
-      either None none =
-          let zero : counted es t ≡ 0 = ap (λ o. unwrap_or o 0) none in
-          let right = right.counts t in
-          absurd (omega (arith, zero, right, some))
-      either (Some n) is = refl
+      either : (b : Bool) → tells told t ≡ b → b ≡ true
+      either true is = refl
+      either false is = let none = untold_uses told t is in absurd (omega (arith, none, some))
 
   onto : (t : Tag) → Member t (filter goes (map entry_tag ls)) → Member t (gone_tags told then present)
   onto t m =
       let kept = filter-Member goes (map entry_tag ls) t m in
-      let parts = and_parts (nat_eq (counted ts t) (counted ls t)) (nat_eq (counted ps t) 0) kept.passes in
-      let same = eqb-true (counted ts t) (counted ls t) parts.0 in
-      let none = eqb-true (counted ps t) 0 parts.1 in
-      let some = has_number ls (left told (take count cs)) t leaving kept.stands in
-      let a = leaving.counts t in
-      let b = in_told.counts t in
-      let c = in_present.counts t in
+      let parts = and_parts (nat_eq (counted sides.Told ts t) (counted sides.Told ls t)) (nat_eq (counted sides.Present ts t) 0) kept.passes in
+      let same = eqb-true (counted sides.Told ts t) (counted sides.Told ls t) parts.0 in
+      let none = eqb-true (counted sides.Present ts t) 0 parts.1 in
+      let some = leaves t kept.stands in
+      let a : counted sides.Told ls t ≡ left told (take count cs) t = leaving.counts sides.Told t in
+      let b : counted sides.Told ts t ≡ uses told t = all.counts sides.Told t in
+      let c : counted sides.Present ts t ≡ uses present t = all.counts sides.Present t in
       let absent : uses present t ≡ 0 = omega (arith, none, c) in
-      let all = then_uses t absent in
-      let gone : uses then t ≡ 0 = omega (arith, all, same, a, b) in
+      let sum = then_uses t absent in
+      let gone : uses then t ≡ 0 = omega (arith, sum, same, a, b) in
       let told_some : 0 < uses told t = omega (arith, some, same, a, b) in
       Member-filter (not_told (then ∷ [])) (untold (present ∷ []) (tags_of told)) t
-      (Member-filter (not_told (present ∷ [])) (tags_of told) t (subst (Member t) (counted_tags ts told in_told) (numbered ts (uses told) t in_told told_some)) (not_there present t absent))
+      (Member-filter (not_told (present ∷ [])) (tags_of told) t (told_member told t (is_told_where t told_some)) (not_there present t absent))
       (not_there then t gone)
 
   back : (t : Tag) → Member t (gone_tags told then present) → Member t (filter goes (map entry_tag ls))
@@ -198,18 +229,18 @@ module _ (told : Told) (cs : List Change) (sorted : is_sorted prefix_cmp cs ≡ 
       let inner = filter-Member (not_told (present ∷ [])) (tags_of told) t outer.stands in
       let gone = no_use then t outer.passes in
       let absent = no_use present t inner.passes in
-      let some = has_number ts (uses told) t in_told (subst (Member t) (sym (counted_tags ts told in_told)) inner.stands) in
-      let all = then_uses t absent in
-      let a = leaving.counts t in
-      let b = in_told.counts t in
-      let c = in_present.counts t in
-      let number : 0 < left told (take count cs) t = omega (arith, all, gone, some) in
-      let same : counted ts t ≡ counted ls t = omega (arith, all, gone, a, b) in
-      let none : counted ps t ≡ 0 = omega (arith, absent, c) in
-      Member-filter goes (map entry_tag ls) t (numbered ls (left told (take count cs)) t leaving number)
-      (and_from (nat_eq (counted ts t) (counted ls t)) (nat_eq (counted ps t) 0) (eq-eqb (counted ts t) (counted ls t) same) (eq-eqb (counted ps t) 0 none))
+      let some = told_uses told t (member_told told t inner.stands) in
+      let sum = then_uses t absent in
+      let a : counted sides.Told ls t ≡ left told (take count cs) t = leaving.counts sides.Told t in
+      let b : counted sides.Told ts t ≡ uses told t = all.counts sides.Told t in
+      let c : counted sides.Present ts t ≡ uses present t = all.counts sides.Present t in
+      let number : 0 < counted sides.Told ls t = omega (arith, sum, gone, some, a) in
+      let same : counted sides.Told ts t ≡ counted sides.Told ls t = omega (arith, sum, gone, a, b) in
+      let none : counted sides.Present ts t ≡ 0 = omega (arith, absent, c) in
+      Member-filter goes (map entry_tag ls) t (numbered sides.Told ls t number)
+      (and_from (nat_eq (counted sides.Told ts t) (counted sides.Told ls t)) (nat_eq (counted sides.Present ts t) 0) (eq-eqb (counted sides.Told ts t) (counted sides.Told ls t) same) (eq-eqb (counted sides.Present ts t) 0 none))
 
-  pub gone_are : map entry_tag (filter (is_gone ts ps) ls) ≡ gone_tags told then present
+  pub gone_are : map entry_tag (filter (is_gone ts) ls) ≡ gone_tags told then present
   gone_are = listed ∙ rising_alike tag_cmp tags_total tag_same (filter goes (map entry_tag ls)) (gone_tags told then present)
       (filter-IsRising (before tag_cmp) goes (map entry_tag ls) (keys_rise tag_cmp tags_total ls leaving.rising))
       (filter-IsRising (before tag_cmp) (not_told (then ∷ [])) (untold (present ∷ []) (tags_of told))
@@ -223,30 +254,36 @@ left_last m [] c t = omega arith
 left_last m (d ∷ ds) c t = let rest = left_last m ds c t in omega (arith, rest)
 
 -- one prefix more
-pub leaving_next : (m : Told) (all later : List Change) (c : Change) (n : ℕ) (cs ds : List (Tag × ℕ)) → AreCounts cs (left m (take n all)) → c ∷ later ≡ drop n all → IsRecounted cs ds None (tag_in (get m c.0)) → AreCounts ds (left m (take (n + 1) all))
+pub leaving_next : (m : Told) (all later : List Change) (c : Change) (n : ℕ) (cs ds : List (Tag × Uses)) → AreCounts cs (by_side (left m (take n all)) none_present) → c ∷ later ≡ drop n all → IsRecounted sides.Told cs ds None (tag_in (get m c.0))
+    → AreCounts ds (by_side (left m (take (n + 1) all)) none_present)
 leaving_next m all later c n cs ds right here step =
-    recounted cs ds None (tag_in (get m c.0)) (left m (take n all)) (left m (take (n + 1) all)) right step (λ t.
+    still_right sides.Told cs ds None (tag_in (get m c.0)) (by_side (left m (take n all)) none_present) (by_side (left m (take (n + 1) all)) none_present) right step (λ t.
     let more = ap (λ es. left m es t) (front_more n all later c here) in
     let last = left_last m (take n all) c t in
-    omega (arith, more, last))
+    omega (arith, more, last)) (λ t. refl)
 
 left-le : (m : Told) (cs : List Change) (t : Tag) → left m cs t ≤ length cs
 left-le m [] t = omega arith
 left-le m (c ∷ cs) t = let one = has_tag-le t (tag_in (get m c.0)) in let rest = left-le m cs t in omega (arith, one, rest)
 
 -- a tag more can be counted
-pub leaving_small : (m : Told) (all : List Change) (n : ℕ) (cs : List (Tag × ℕ)) → AreCounts cs (left m (take n all)) → n + 1 < 2 ^ 64 → (t : Tag) → counted cs t + 1 < 2 ^ 64
+pub leaving_small : (m : Told) (all : List Change) (n : ℕ) (cs : List (Tag × Uses)) → AreCounts cs (by_side (left m (take n all)) none_present) → n + 1 < 2 ^ 64 → (t : Tag) → counted sides.Told cs t + 1 < 2 ^ 64
 leaving_small m all n cs right few t =
-    let number = right.counts t in
+    let number : counted sides.Told cs t ≡ left m (take n all) t = right.counts sides.Told t in
     let most = left-le m (take n all) t in
     let front = length-take n all in
     omega (arith, number, most, front, few)
 
-pub leaving_first : (m : Told) (all : List Change) (cs : List (Tag × ℕ)) → cs ≡ [] → AreCounts cs (left m (take 0 all))
-leaving_first m all cs none = subst (λ es. AreCounts es (left m (take 0 all))) (sym none) (record { rising = refl; used = λ t n is. absurd (cc); counts = λ t. refl })
+pub leaving_first : (m : Told) (all : List Change) (cs : List (Tag × Uses)) → cs ≡ [] → AreCounts cs (by_side (left m (take 0 all)) none_present)
+leaving_first m all cs none = subst (λ es. AreCounts es (by_side (left m (take 0 all)) none_present)) (sym none) (record { rising = refl; used = λ t u is. absurd (cc); counts = λ side t. by t side })
+  where
+    by : (t : Tag) (side : Side) → number side (uses_in None) ≡ by_side (left m []) none_present side t
+    by t sides.Told = refl
+    by t sides.Present = refl
 
 -- no prefix is left, or enough were seen
-pub leaving_all : (m : Told) (all rest : List Change) (n count : ℕ) (cs : List (Tag × ℕ)) → AreCounts cs (left m (take n all)) → rest ≡ drop n all → rest ≡ [] → n ≤ count → AreCounts cs (left m (take count all))
+pub leaving_all : (m : Told) (all rest : List Change) (n count : ℕ) (cs : List (Tag × Uses)) → AreCounts cs (by_side (left m (take n all)) none_present) → rest ≡ drop n all → rest ≡ [] → n ≤ count
+    → AreCounts cs (by_side (left m (take count all)) none_present)
 leaving_all m all rest n count cs right is none few =
     let long = front_all n all (sym none ∙ is) in
-    subst (λ es. AreCounts cs (left m es)) (take_all n all long ∙ sym (take_all count all (omega (arith, long, few)))) right
+    subst (λ es. AreCounts cs (by_side (left m es) none_present)) (take_all n all long ∙ sym (take_all count all (omega (arith, long, few)))) right

@@ -10,7 +10,8 @@ use Rattle.ordered_map.specs.Held.{Held}
 use Rattle.prefix_map.specs.Held as prefixes
 use Rattle.advert_queue.specs.Advertised.{Advertised}
 use Rattle.advert_queue.specs.Changes.{AreNews, changed}
-use Rattle.advert_queue.specs.Counts.{AreCounts, uses}
+use Rattle.advert_queue.specs.Counts.{AreCounts, by_side, uses}
+use Rattle.advert_queue.specs.declared.counts.Uses.{Uses}
 
 -- what a participant was told, what is present for it, and for how many offers there is room
 pub record Queued : Type 0 where
@@ -22,19 +23,17 @@ pub record Queued : Type 0 where
 abbrev pub advertised_by : List Queued → Advertised
 advertised_by qs = record { told = map (λ (q : Queued). q.told) qs; present = map (λ (q : Queued). q.present) qs; room = map (λ (q : Queued). q.room) qs }
 
--- The news are in order and are news, the tags of what was told are counted, and there is room to tell all that is pending
--- and as many prefixes more.
-pub record IsTellable (told : prefixes.Held Entry) (news : Held Prefix (Option Entry)) (told_tags : Held Tag ℕ) (more : ℕ) : Type 0 where
+-- The news are in order and are news, the tags of what was told and of what is present are counted, and there is room to
+-- tell all that is pending and as many prefixes more.
+pub record IsTellable (told : prefixes.Held Entry) (news : Held Prefix (Option Entry)) (tags : Held Tag Uses) (more : ℕ) : Type 0 where
   pub rising : IsTrue (is_sorted prefix_cmp news.items)
   pub differ : AreNews told.map news.items
-  pub counts : AreCounts told_tags.items (uses told.map)
+  pub counts : AreCounts tags.items (by_side (uses told.map) (uses (changed told.map news.items)))
   pub told_room : more + length news.items ≤ told.room
-  pub tags_room : more + length news.items ≤ told_tags.room
   pub fits : length (entries told.map) + length news.items + more < 2 ^ 64
 
--- And the tags of what is present are counted, and there is room for so many offers.
-pub record IsKept (told : prefixes.Held Entry) (news : Held Prefix (Option Entry)) (told_tags present_tags : Held Tag ℕ) (room : ℕ) : Type 0 where
-  pub tellable : IsTellable told news told_tags room
-  pub counts : AreCounts present_tags.items (uses (changed told.map news.items))
+-- And there is room for so many offers.
+pub record IsKept (told : prefixes.Held Entry) (news : Held Prefix (Option Entry)) (tags : Held Tag Uses) (room : ℕ) : Type 0 where
+  pub tellable : IsTellable told news tags room
   pub news_room : room ≤ news.room
-  pub tags_room : room ≤ present_tags.room
+  pub counts_room : room ≤ tags.room

@@ -2,16 +2,16 @@
 
 ghost use Rattle.std.specs.Prelude.{◌≡◌, ℕ, ◌≤◌, ◌<◌, ◌+◌, IfOk, IfSome, IsTrue, length, take, drop, map, option_copied};
 ghost use Rattle.std.specs.FinMap.{get};
-ghost use Rattle.std.specs.FinMap.Entries.{is_sorted};
+ghost use Rattle.std.specs.FinMap.Entries.{find, is_sorted};
 ghost use Rattle.std.specs.Option.{option_map};
 ghost use Rattle.events.specs.Pending.{same_entry, with_news};
 ghost use Rattle.events.specs.declared.Entry.{Entry as AnyEntry};
 ghost use Rattle.net_types.specs.Attributes.{same_option};
 ghost use Rattle.net_types.specs.Keys.{prefix_cmp};
-ghost use Rattle.advert_queue.specs.Changes.{AreNews, AreSmall, changed, limited, message_of, tag_in};
+ghost use Rattle.advert_queue.specs.Changes.{AreNews, AreSmall, changed, limited, message_of, noted, tag_in};
 ghost use Rattle.advert_queue.specs.Kept.{IsTellable};
 
-use crate::counts::{Counts, recount};
+use crate::counts::{Counts, Side, move_use};
 use crate::queue::advert;
 use events::{Entry, Messages};
 use net_types::{Ip, Items, Memory, Prefix, Tag, TryCopy, same_attrs};
@@ -60,14 +60,6 @@ pub(crate) fn present_entry<'a>(
     }
 }
 
-/// The tag of the entry that is present at a prefix, where there is one.
-pub(crate) fn present_tag(told: &PrefixMap<Entry>, news: &News, prefix: Prefix) -> Option<Tag>
-    requires rising { IsTrue (is_sorted prefix_cmp news.now.items) }
-    ensures { result ≡ tag_in (get (changed told.now.map news.now.items) prefix) }
-{
-    tag_of(present_entry(told, news, prefix))
-}
-
 /// Whether both are absent, or both are there with the same tag and the same attributes.
 fn is_same(one: Option<&Entry>, other: Option<&Entry>) -> bool
     ensures { result ≡ same_option same_entry (option_copied one.entry) (option_copied other.entry) }
@@ -82,21 +74,48 @@ fn is_same(one: Option<&Entry>, other: Option<&Entry>) -> bool
     }
 }
 
-/// Makes an entry present at a prefix, or none: it is news unless it is what was told.
-pub(crate) fn note(told: &PrefixMap<Entry>, news: &mut News, prefix: Prefix, entry: Option<Entry>)
+/// Puts an entry among the news, or takes the prefix out where it is what was told. It answers what was news there.
+fn put_news(
+    told: Option<&Entry>,
+    news: &mut News,
+    prefix: Prefix,
+    entry: Option<Entry>,
+) -> Option<Option<Entry>>
+    requires room { 0 < news.old.room }
+    ensures value { result ≡ find prefix_cmp prefix news.old.items }
+    ensures rising { IsTrue (is_sorted prefix_cmp news.new.items) }
+    ensures items { news.new.items ≡ noted (option_copied told.entry) prefix entry news.old.items }
+    ensures room { news.old.room ≤ news.new.room + 1 }
+{
+    if is_same(told, entry.as_ref()) {
+        news.remove(&prefix)
+    } else {
+        news.put(prefix, entry)
+    }
+}
+
+/// Makes an entry present at a prefix, or none: it is news unless it is what was told. It answers the tag of the entry that
+/// was present before.
+pub(crate) fn note(
+    told: &PrefixMap<Entry>,
+    news: &mut News,
+    prefix: Prefix,
+    entry: Option<Entry>,
+) -> Option<Tag>
     requires rising { IsTrue (is_sorted prefix_cmp news.old.items) }
     requires differ { AreNews told.now.map news.old.items }
     requires room { 0 < news.old.room }
+    ensures before { result ≡ tag_in (get (changed told.now.map news.old.items) prefix) }
     ensures rising { IsTrue (is_sorted prefix_cmp news.new.items) }
     ensures differ { AreNews told.now.map news.new.items }
     ensures present { changed told.now.map news.new.items ≡ with_news (changed told.now.map news.old.items) prefix entry }
     ensures few { length news.new.items ≤ length news.old.items + 1 }
     ensures room { news.old.room ≤ news.new.room + 1 }
 {
-    if is_same(told.get(prefix), entry.as_ref()) {
-        news.remove(&prefix);
-    } else {
-        news.put(prefix, entry);
+    let told = told.get(prefix);
+    match put_news(told, news, prefix, entry) {
+        Some(before) => tag_of(before.as_ref()),
+        None => tag_of(told),
     }
 }
 
@@ -120,18 +139,16 @@ fn tell_first(told: &mut PrefixMap<Entry>, news: &mut News, counts: &mut Counts)
     ensures told { told.new.map ≡ changed told.old.map (take 1 news.old.items) }
     ensures news { news.new.items ≡ drop 1 news.old.items }
     ensures room { news.old.room ≤ news.new.room }
+    ensures counts_room { counts.old.room ≤ counts.new.room }
+    ensures present { changed told.new.map news.new.items ≡ changed told.old.map news.old.items }
     ensures kept { (more : ℕ) → IsTellable told.old news.old counts.old more → IsTellable told.new news.new counts.new more }
 {
-    let Some((prefix, _)) = news.first() else {
-        return;
-    };
-    let prefix = *prefix;
-    let Some(entry) = news.remove(&prefix) else {
+    let Some((prefix, entry)) = news.take_first() else {
         return;
     };
     let after = tag_of(entry.as_ref());
     let before = tell_one(told, prefix, entry);
-    recount(counts, tag_of(before.as_ref()), after);
+    move_use(counts, Side::Told, tag_of(before.as_ref()), after);
 }
 
 /// Tells the first of what is news, so many.
@@ -141,6 +158,8 @@ pub(crate) fn tell(told: &mut PrefixMap<Entry>, news: &mut News, counts: &mut Co
     ensures told { told.new.map ≡ changed told.old.map (take count news.old.items) }
     ensures news { news.new.items ≡ drop count news.old.items }
     ensures room { news.old.room ≤ news.new.room }
+    ensures counts_room { counts.old.room ≤ counts.new.room }
+    ensures present { changed told.new.map news.new.items ≡ changed told.old.map news.old.items }
     ensures kept { (more : ℕ) → IsTellable told.old news.old counts.old more → IsTellable told.new news.new counts.new more }
 {
     for _done in 0..count {

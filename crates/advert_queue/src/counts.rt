@@ -1,25 +1,63 @@
 //! How many entries have each tag.
 
-ghost use Rattle.std.specs.Prelude.{◌≡◌, ◌≤◌, ◌<◌, ◌+◌, ◌^◌, None, Some, IfOk, IfSome, IsTrue, is_some, map};
+ghost use Rattle.std.specs.Prelude.{◌≡◌, ◌&&◌, nat_eq, ◌≤◌, ◌<◌, ◌+◌, ◌^◌, None, Some, IfOk, IfSome, IsTrue, is_some, if◌then◌else◌, map, filter};
 ghost use Rattle.std.specs.FinMap.Entries.{find, is_sorted};
 ghost use Rattle.net_types.specs.Keys.{tag_cmp};
 ghost use Rattle.net_types.specs.declared.address.Tag.{Tag as AnyTag};
-ghost use Rattle.advert_queue.specs.Counts.{AreUsed, IsRecounted, counted, entry_tag};
+ghost use Rattle.advert_queue.specs.Counts.{AreUsed, IsRecounted, counted, entry_tag, is_told_tag, new_places, uses_in};
+ghost use Rattle.advert_queue.specs.Recounted.{one_use, recounted};
 
 use net_types::{Memory, Tag};
-use ordered_map::OrderedMap;
+use ordered_map::{Change, OrderedMap};
 use std::alloc::Global;
 
+/// Which entries are counted: those that were told, or those that are present.
+#[derive(Clone, Copy)]
+pub(crate) enum Side {
+    Told,
+    Present,
+}
+
+/// How many entries that were told have a tag, and how many that are present.
+#[derive(Clone, Copy)]
+pub(crate) struct Uses {
+    pub(crate) told: usize,
+    pub(crate) present: usize,
+}
+
 /// The tags that are in use, and how often each is.
-pub(crate) type Counts = OrderedMap<Tag, usize>;
+pub(crate) type Counts = OrderedMap<Tag, Uses>;
+
+/// One entry more with a tag, or one less.
+#[derive(Clone, Copy)]
+pub(crate) enum Recount {
+    More(Side),
+    Less(Side),
+}
+
+impl Change<Uses> for Recount {
+    ghost changed = { recounted };
+
+    fn change(&self, value: &mut Uses) {
+        match self {
+            Recount::More(Side::Told) => value.told = value.told.saturating_add(1),
+            Recount::More(Side::Present) => value.present = value.present.saturating_add(1),
+            Recount::Less(Side::Told) => value.told = value.told.saturating_sub(1),
+            Recount::Less(Side::Present) => value.present = value.present.saturating_sub(1),
+        }
+    }
+}
 
 /// How often a tag is in use.
-pub(crate) fn count_of(counts: &Counts, tag: Tag) -> usize
-    ensures { result ≡ counted counts.now.items tag }
+pub(crate) fn uses_of(counts: &Counts, tag: Tag) -> Uses
+    ensures { result ≡ uses_in (find tag_cmp tag counts.now.items) }
 {
     match counts.get(&tag) {
-        Some(count) => *count,
-        None => 0,
+        Some(uses) => *uses,
+        None => Uses {
+            told: 0,
+            present: 0,
+        },
     }
 }
 
@@ -30,59 +68,83 @@ pub(crate) fn is_used(counts: &Counts, tag: Tag) -> bool
     counts.get(&tag).is_some()
 }
 
-/// Counts a use of a tag more.
-pub(crate) fn raise(counts: &mut Counts, tag: Tag)
-    requires used { AreUsed counts.old.items }
-    requires room { 0 < counts.old.room }
-    requires small { counted counts.old.items tag + 1 < 2 ^ 64 }
-    ensures counts { IsRecounted counts.old.items counts.new.items None (Some tag) }
-    ensures room { counts.old.room ≤ counts.new.room + 1 }
+/// One use alone.
+fn one_use(side: Side) -> Uses
+    ensures { result ≡ one_use side }
 {
-    let count = count_of(counts, tag);
-    counts.put(tag, count + 1);
+    match side {
+        Side::Told => Uses {
+            told: 1,
+            present: 0,
+        },
+        Side::Present => Uses {
+            told: 0,
+            present: 1,
+        },
+    }
 }
 
-/// Counts a use of a tag less.
-pub(crate) fn lower(counts: &mut Counts, tag: Tag)
-    requires rising { IsTrue (is_sorted tag_cmp counts.old.items) }
+/// Counts a use of a tag more. Only a tag that isn't in use yet takes a place of the room.
+pub(crate) fn raise(counts: &mut Counts, side: Side, tag: Tag)
     requires used { AreUsed counts.old.items }
-    requires some { 0 < counted counts.old.items tag }
-    ensures counts { IsRecounted counts.old.items counts.new.items (Some tag) None }
+    requires room { new_places counts.old.items (Some tag) ≤ counts.old.room }
+    requires small { counted side counts.old.items tag + 1 < 2 ^ 64 }
+    ensures counts { IsRecounted side counts.old.items counts.new.items None (Some tag) }
+    ensures room { counts.old.room ≤ counts.new.room + new_places counts.old.items (Some tag) }
+{
+    if counts.update(&tag, &Recount::More(side)).is_none() {
+        counts.put(tag, one_use(side));
+    }
+}
+
+/// Whether no entry is counted.
+fn is_unused(uses: Uses) -> bool
+    ensures { result ≡ (nat_eq uses.told 0 && nat_eq uses.present 0) }
+{
+    uses.told == 0 && uses.present == 0
+}
+
+/// Counts a use of a tag less. A tag that isn't in use any more gives its place back.
+pub(crate) fn lower(counts: &mut Counts, side: Side, tag: Tag)
+    requires used { AreUsed counts.old.items }
+    requires some { 0 < counted side counts.old.items tag }
+    ensures counts { IsRecounted side counts.old.items counts.new.items (Some tag) None }
     ensures room { counts.old.room ≤ counts.new.room }
 {
-    let count = count_of(counts, tag);
-    if count > 1 {
-        counts.put(tag, count - 1);
-    } else {
-        counts.remove(&tag);
+    if let Some(uses) = counts.update(&tag, &Recount::Less(side)) {
+        if is_unused(uses) {
+            counts.remove(&tag);
+        }
     }
 }
 
 /// Counts what had one tag, or none, as what has another one, or none.
-pub(crate) fn recount(counts: &mut Counts, before: Option<Tag>, after: Option<Tag>)
+pub(crate) fn move_use(counts: &mut Counts, side: Side, before: Option<Tag>, after: Option<Tag>)
     requires rising { IsTrue (is_sorted tag_cmp counts.old.items) }
     requires used { AreUsed counts.old.items }
-    requires some { IfSome before (λ (tag : AnyTag). 0 < counted counts.old.items tag) }
-    requires room { 0 < counts.old.room }
-    requires small { IfSome after (λ (tag : AnyTag). counted counts.old.items tag + 1 < 2 ^ 64) }
-    ensures counts { IsRecounted counts.old.items counts.new.items before after }
-    ensures room { counts.old.room ≤ counts.new.room + 1 }
+    requires some { IfSome before (λ (tag : AnyTag). 0 < counted side counts.old.items tag) }
+    requires room { new_places counts.old.items after ≤ counts.old.room }
+    requires small { IfSome after (λ (tag : AnyTag). counted side counts.old.items tag + 1 < 2 ^ 64) }
+    ensures counts { IsRecounted side counts.old.items counts.new.items before after }
+    ensures room { counts.old.room ≤ counts.new.room + new_places counts.old.items after }
 {
-    if let Some(tag) = before {
-        lower(counts, tag);
-    }
     if let Some(tag) = after {
-        raise(counts, tag);
+        raise(counts, side, tag);
+    }
+    if let Some(tag) = before {
+        lower(counts, side, tag);
     }
 }
 
-/// The tags that are in use, ascending.
-pub(crate) fn used_tags(alloc: Global, counts: &Counts) -> Result<Vec<Tag>, Memory>
-    ensures { IfOk result (λ tags. tags.items ≡ map entry_tag counts.now.items) }
+/// The tags of entries that were told, ascending.
+pub(crate) fn told_tags(alloc: Global, counts: &Counts) -> Result<Vec<Tag>, Memory>
+    ensures { IfOk result (λ tags. tags.items ≡ map entry_tag (filter is_told_tag counts.now.items)) }
 {
     let mut tags = Vec::with_capacity(alloc, counts.len())?;
-    for (tag, _) in counts.iter() {
-        tags.push(*tag)?;
+    for (tag, uses) in counts.iter() {
+        if uses.told != 0 {
+            tags.push(*tag)?;
+        }
     }
     Ok(tags)
 }

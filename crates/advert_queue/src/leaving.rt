@@ -6,11 +6,12 @@ ghost use Rattle.std.specs.FinMap.Entries.{is_sorted};
 ghost use Rattle.net_types.specs.Keys.{tag_cmp};
 ghost use Rattle.net_types.specs.declared.address.Tag.{Tag as AnyTag};
 ghost use Rattle.advert_queue.specs.Changes.{tag_in};
-ghost use Rattle.advert_queue.specs.Counts.{AreCounts, AreUsed, IsRecounted, counted, entry_tag};
-ghost use Rattle.advert_queue.specs.Leaving.{is_gone, left};
+ghost use Rattle.advert_queue.specs.Counts.{AreCounts, AreUsed, IsRecounted, by_side, counted, entry_tag};
+ghost use Rattle.advert_queue.specs.declared.counts.Side.TheVariants.{Told};
+ghost use Rattle.advert_queue.specs.Leaving.{is_gone, left, none_present};
 
 use crate::changes::News;
-use crate::counts::{Counts, count_of, raise};
+use crate::counts::{Counts, Side, Uses, raise, uses_of};
 use events::Entry;
 use net_types::{Memory, Prefix, Tag};
 use prefix_map::PrefixMap;
@@ -20,14 +21,14 @@ use std::alloc::Global;
 fn count_told(counts: &mut Counts, told: &PrefixMap<Entry>, prefix: Prefix) -> Result<(), Memory>
     requires rising { IsTrue (is_sorted tag_cmp counts.old.items) }
     requires used { AreUsed counts.old.items }
-    requires small { (tag : AnyTag) → counted counts.old.items tag + 1 < 2 ^ 64 }
-    ensures { OnOk result (IsRecounted counts.old.items counts.new.items None (tag_in (get told.now.map prefix))) }
+    requires small { (tag : AnyTag) → counted Told counts.old.items tag + 1 < 2 ^ 64 }
+    ensures { OnOk result (IsRecounted Told counts.old.items counts.new.items None (tag_in (get told.now.map prefix))) }
 {
     let Some(entry) = told.get(prefix) else {
         return Ok(());
     };
     counts.reserve(1)?;
-    raise(counts, entry.tag);
+    raise(counts, Side::Told, entry.tag);
     Ok(())
 }
 
@@ -38,7 +39,7 @@ pub(crate) fn leaving(
     news: &News,
     count: usize,
 ) -> Result<Counts, Memory>
-    ensures { IfOk result (λ counts. AreCounts counts.items (left told.now.map (take count news.now.items))) }
+    ensures { IfOk result (λ counts. AreCounts counts.items (by_side (left told.now.map (take count news.now.items)) none_present)) }
 {
     let mut counts = Counts::new(alloc);
     let mut seen = 0;
@@ -53,26 +54,20 @@ pub(crate) fn leaving(
 }
 
 /// Whether a tag that leaves so often is in use nowhere else.
-fn is_gone(told: &Counts, present: &Counts, tag: Tag, count: usize) -> bool
-    ensures { result ≡ is_gone told.now.items present.now.items (tag, count) }
+fn is_gone(counts: &Counts, tag: Tag, leaving: Uses) -> bool
+    ensures { result ≡ is_gone counts.now.items (tag, leaving) }
 {
-    let in_told = count_of(told, tag);
-    let in_present = count_of(present, tag);
-    in_told == count && in_present == 0
+    let all = uses_of(counts, tag);
+    all.told == leaving.told && all.present == 0
 }
 
 /// Those of the tags that are in use nowhere else.
-pub(crate) fn gone(
-    alloc: Global,
-    leaving: &Counts,
-    told: &Counts,
-    present: &Counts,
-) -> Result<Vec<Tag>, Memory>
-    ensures { IfOk result (λ tags. tags.items ≡ map entry_tag (filter (is_gone told.now.items present.now.items) leaving.now.items)) }
+pub(crate) fn gone(alloc: Global, leaving: &Counts, counts: &Counts) -> Result<Vec<Tag>, Memory>
+    ensures { IfOk result (λ tags. tags.items ≡ map entry_tag (filter (is_gone counts.now.items) leaving.now.items)) }
 {
     let mut tags = Vec::new(alloc);
-    for (tag, count) in leaving.iter() {
-        if is_gone(told, present, *tag, *count) {
+    for (tag, uses) in leaving.iter() {
+        if is_gone(counts, *tag, *uses) {
             tags.push(*tag)?;
         }
     }

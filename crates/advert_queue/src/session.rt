@@ -12,10 +12,9 @@ ghost use Rattle.advert_queue.specs.Taken.{gone_tags, news_of, told_then};
 ghost use Rattle.advert_queue.specs.Telling.{adverts, tags_of};
 
 use crate::changes::{
-    Entries, News, first_entries, first_messages, limited, note, present_entry, present_tag,
-    tag_of, tell,
+    Entries, News, first_entries, first_messages, limited, note, present_entry, tag_of, tell,
 };
-use crate::counts::{Counts, is_used, recount, used_tags};
+use crate::counts::{Counts, Side, is_used, move_use, told_tags, uses_of};
 use crate::leaving::{gone, leaving};
 use events::{Entry, Messages};
 use net_types::{Ip, Memory, Prefix, Tag};
@@ -30,8 +29,7 @@ pub(crate) struct Session {
     told: PrefixMap<Entry>,
     news: News,
     // how many entries that were told have each tag, and how many of those that are present
-    told_tags: Counts,
-    present_tags: Counts,
+    counts: Counts,
     // for how many offers there is room
     room: usize,
 }
@@ -48,7 +46,7 @@ impl Model for Session {
 
     ghost view = { λ a. record { told = a.told.map; present = changed a.told.map a.news.items; room = a.room } };
 
-    ghost invariant = { λ a. IsKept a.told a.news a.told_tags a.present_tags a.room };
+    ghost invariant = { λ a. IsKept a.told a.news a.counts a.room };
 }
 
 impl Session {
@@ -61,8 +59,7 @@ impl Session {
         Session {
             told: PrefixMap::new(alloc),
             news: News::new(alloc),
-            told_tags: Counts::new(alloc),
-            present_tags: Counts::new(alloc),
+            counts: Counts::new(alloc),
             room: 0,
         }
     }
@@ -82,9 +79,8 @@ impl Session {
             return Err(Memory);
         }
         self.told.reserve(entries + pending)?;
-        self.told_tags.reserve(entries + pending)?;
         self.news.reserve(entries)?;
-        self.present_tags.reserve(entries)?;
+        self.counts.reserve(entries)?;
         self.room = entries;
         Ok(())
     }
@@ -96,10 +92,9 @@ impl Session {
         ensures present { self.new.present ≡ with_news self.old.present prefix entry }
         ensures room { self.old.room ≡ self.new.room + 1 }
     {
-        let before = present_tag(&self.told, &self.news, prefix);
         let after = tag_of(entry.as_ref());
-        note(&self.told, &mut self.news, prefix, entry);
-        recount(&mut self.present_tags, before, after);
+        let before = note(&self.told, &mut self.news, prefix, entry);
+        move_use(&mut self.counts, Side::Present, before, after);
         self.room -= 1;
     }
 
@@ -132,7 +127,7 @@ impl Session {
     {
         let count = limited(limit, self.news.len());
         let leaving = leaving(alloc, &self.told, &self.news, count)?;
-        gone(alloc, &leaving, &self.told_tags, &self.present_tags)
+        gone(alloc, &leaving, &self.counts)
     }
 
     /// Tells the first of what is pending, so many at most, or all.
@@ -142,22 +137,21 @@ impl Session {
         ensures room { self.new.room ≡ self.old.room }
     {
         let count = limited(limit, self.news.len());
-        tell(&mut self.told, &mut self.news, &mut self.told_tags, count);
+        tell(&mut self.told, &mut self.news, &mut self.counts, count);
     }
 
     /// Whether some entry that was told, or that is present, has the tag.
     pub(crate) fn holds(&self, tag: Tag) -> bool
         ensures { result ≡ (tells self.now.told tag || tells self.now.present tag) }
     {
-        let present = is_used(&self.present_tags, tag);
-        is_used(&self.told_tags, tag) || present
+        is_used(&self.counts, tag)
     }
 
     /// Whether some entry that was told has the tag.
     pub(crate) fn tells(&self, tag: Tag) -> bool
         ensures { result ≡ tells self.now.told tag }
     {
-        is_used(&self.told_tags, tag)
+        uses_of(&self.counts, tag).told != 0
     }
 
     /// What was told of a prefix, if anything.
@@ -186,6 +180,6 @@ impl Session {
     pub(crate) fn told_tags(&self, alloc: Global) -> Result<Vec<Tag>, Memory>
         ensures { IfOk result (λ tags. tags.items ≡ tags_of self.now.told) }
     {
-        used_tags(alloc, &self.told_tags)
+        told_tags(alloc, &self.counts)
     }
 }

@@ -33,3 +33,32 @@ fn values_change_in_their_place(rt: HostRuntime) -> Result<(), Fail> {
     assert!(rt; map.iter_after(&50).next().is_none());
     Ok(())
 }
+
+#[test]
+fn a_changed_value_is_answered(rt: HostRuntime) -> Result<(), Fail> {
+    let mut map: OrderedMap<u32, u8> = OrderedMap::new(rt.alloc());
+    for key in [50, 20, 40] {
+        map.insert(key, 1)?;
+    }
+    assert_eq!(rt; map.update(&40, &Add(5)), Some(6));
+    assert_eq!(rt; map.update(&45, &Add(7)), None);
+    assert!(rt;
+        map.iter()
+            .map(|entry| (*entry.0, *entry.1))
+            .eq([(20, 1), (40, 6), (50, 1)])
+    );
+    Ok(())
+}
+
+#[test]
+fn the_first_entries_are_taken(rt: HostRuntime) -> Result<(), Fail> {
+    let mut map: OrderedMap<u32, u8> = OrderedMap::new(rt.alloc());
+    for key in [50, 20, 40, 10, 30] {
+        map.insert(key, 1)?;
+    }
+    assert_eq!(rt; map.take_first(), Some((10, 1)));
+    assert_eq!(rt; map.take_first(), Some((20, 1)));
+    assert!(rt; map.iter().map(|entry| *entry.0).eq([30, 40, 50]));
+    assert_eq!(rt; map.len(), 3);
+    Ok(())
+}

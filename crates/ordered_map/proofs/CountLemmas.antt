@@ -1,11 +1,12 @@
 -- What holds of a map's parts after a key was put in or taken out.
-use Rattle.std.proofs.Common.{◌≡◌, ℕ, ◌+◌, ◌-◌, ◌≤◌, Bool, true, false, cond, not, List, length, sym, ap, ◌∙◌, refl, arith}
+use Rattle.std.proofs.Common.{◌≡◌, ℕ, ◌+◌, ◌-◌, ◌≤◌, ◌<◌, drop, Bool, true, false, cond, not, List, [], ◌∷◌, length, sym, ap, ◌∙◌, refl, arith}
 use Rattle.std.specs.Prelude.{T, is_some}
 use Rattle.std.specs.Cmp.{IsTotalOrder}
 use Rattle.std.specs.Ordering.{eq_by_cmp}
 use Rattle.std.specs.declared.cmp.Ordering.{Ordering}
-use Rattle.std.specs.FinMap.Entries.{find, put, is_sorted, is_sorted-put, is_sorted-where_key, length-put, length_without}
-use Rattle.ordered_map.specs.Entries.{without}
+use Rattle.std.specs.FinMap.Entries.{find, put, is_sorted, below_all, is_sorted-put, is_sorted-where_key, length-put, length_without}
+use Rattle.std.proofs.lemmas.Bool.{and_parts}
+use Rattle.ordered_map.specs.Entries.{head_of, without}
 use Rattle.ordered_map.specs.Kept.{IsKept}
 
 holds : (b : Bool) → b ≡ true → T b
@@ -42,3 +43,36 @@ module _ {K V : Type 0} (R : K → K → Ordering) (o : IsTotalOrder R) where
   took_none es fs k spare left count kept is none room =
       let size : 0 + length fs ≡ length es = ap (λ ds. 0 + length ds) is ∙ ap (λ b. cond b 1 0 + length (without R k es)) (sym none) ∙ length_without R o k es (holds _ kept.rising) in
       record { rising = without_rises es fs k kept.rising is; counted = omega (arith, size, kept.counted); fits = omega (arith, room, kept.fits) }
+
+-- ---- the first one taken out
+
+module _ {K V : Type 0} (R : K → K → Ordering) where
+  rest_rises : (es : List (K × V)) → is_sorted R es ≡ true → is_sorted R (drop 1 es) ≡ true
+  rest_rises [] rising = refl
+  rest_rises (e ∷ es) rising = (and_parts (below_all R e.0 es) (is_sorted R es) rising).1
+
+  pub first_rises : (es fs : List (K × V)) → is_sorted R es ≡ true → fs ≡ drop 1 es → is_sorted R fs ≡ true
+  first_rises es fs rising is = ap (is_sorted R) is ∙ rest_rises es rising
+
+  one_less : (es : List (K × V)) → is_some (head_of es) ≡ true → length es ≡ length (drop 1 es) + 1
+  one_less [] some = cc
+  one_less (e ∷ es) some = omega arith
+
+  none_less : (es : List (K × V)) → is_some (head_of es) ≡ false → length (drop 1 es) ≡ length es
+  none_less [] none = refl
+  none_less (e ∷ es) none = cc
+
+  pub some_first : (es : List (K × V)) → is_some (head_of es) ≡ true → 0 < length es
+  some_first es some = let size = one_less es some in omega (arith, size)
+
+  pub first_took : (es fs : List (K × V)) (spare left count : ℕ) → IsKept R es spare count → fs ≡ drop 1 es → is_some (head_of es) ≡ true → left ≤ spare + 1 → IsKept R fs left (count - 1)
+  first_took es fs spare left count kept is some room =
+      let size = one_less es some in
+      let same = ap length is in
+      record { rising = first_rises es fs kept.rising is; counted = omega (arith, size, same, kept.counted); fits = omega (arith, room, size, kept.counted, kept.fits) }
+
+  pub first_none : (es fs : List (K × V)) (spare left count : ℕ) → IsKept R es spare count → fs ≡ drop 1 es → is_some (head_of es) ≡ false → left ≤ spare + 0 → IsKept R fs left count
+  first_none es fs spare left count kept is none room =
+      let size = none_less es none in
+      let same = ap length is in
+      record { rising = first_rises es fs kept.rising is; counted = omega (arith, size, same, kept.counted); fits = omega (arith, room, kept.fits) }

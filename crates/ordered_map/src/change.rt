@@ -1,9 +1,9 @@
 //! How entries come into a tree and leave it.
 
-ghost use Rattle.std.specs.Prelude.{◌≡◌, ◌≤◌, ◌<◌, ◌+◌, ◌++◌, [], None, IsTrue, IfSome, IfNone, is_some, if◌then◌else◌};
+ghost use Rattle.std.specs.Prelude.{◌≡◌, ◌≤◌, ◌<◌, ◌+◌, ◌++◌, [], None, IsTrue, IfSome, IfNone, is_some, drop, if◌then◌else◌};
 ghost use Rattle.std.specs.Vec.{vec_len};
 ghost use Rattle.std.specs.FinMap.Entries.{find, is_sorted};
-ghost use Rattle.ordered_map.specs.Entries.{entries_of, own_entry, is_full, put_given, without, root_value, beside_root};
+ghost use Rattle.ordered_map.specs.Entries.{entries_of, own_entry, is_full, put_given, without, root_value, beside_root, head_of};
 
 use crate::balance::{Height, between, height_of, height_since, level, rebalance};
 use crate::spare::{give_back, lone};
@@ -183,6 +183,7 @@ fn take_first<K: Drop, V: Drop>(tree: &mut Tree<K, V>) -> Option<Box<Node<K, V>>
     ensures first { IfSome result (λ first. entries_of tree.old ≡ own_entry first.value ++ entries_of tree.new) }
     ensures full { IfSome result (λ first. IsTrue (is_full first.value)) }
     ensures none { IfNone result (entries_of tree.old ≡ []) }
+    ensures left { IfNone result (entries_of tree.new ≡ []) }
 {
     let mut node = match mem::replace(tree, Tree::Empty) {
         Tree::Empty => return None,
@@ -210,6 +211,32 @@ fn take_first<K: Drop, V: Drop>(tree: &mut Tree<K, V>) -> Option<Box<Node<K, V>>
                     Some(first)
                 }
             }
+        }
+    }
+}
+
+/// Takes the first entry out. Its box waits for another entry, or is freed.
+pub(crate) fn take_least<K: Drop, V: Drop>(
+    tree: &mut Tree<K, V>,
+    spare: &mut Vec<Box<Node<K, V>>>,
+) -> Option<(K, V)>
+    ensures first { result ≡ head_of (entries_of tree.old) }
+    ensures entries { entries_of tree.new ≡ drop 1 (entries_of tree.old) }
+    ensures room { vec_len spare.old ≤ vec_len spare.new }
+    ensures one { vec_len spare.new ≤ vec_len spare.old + (if is_some result then 1 else 0) }
+{
+    let mut node = take_first(tree)?;
+    match mem::replace(&mut *node, Node::Blank) {
+        Node::Blank => unreachable!(),
+        Node::Full {
+            left: _,
+            key,
+            value,
+            height: _,
+            right: _,
+        } => {
+            give_back(spare, node);
+            Some((key, value))
         }
     }
 }

@@ -1,17 +1,17 @@
 //! The map: a tree of entries, and boxes that wait for more.
 
-ghost use Rattle.std.specs.Prelude.{◌≡◌, ◌≤◌, ◌<◌, ◌+◌, [], None, IsTrue, IsOk, OnOk, OnErr, IfOk, option_copied, is_some, length, if◌then◌else◌};
+ghost use Rattle.std.specs.Prelude.{◌≡◌, ◌≤◌, ◌<◌, ◌+◌, [], None, IsTrue, IsOk, OnOk, OnErr, IfOk, option_copied, is_some, length, drop, if◌then◌else◌};
 ghost use Rattle.std.specs.Option.{option_map};
 ghost use Rattle.std.specs.Map.Iter.{deref_pair};
 ghost use Rattle.std.specs.FinMap.Entries.{find, put, is_sorted};
 ghost use Rattle.ordered_map.specs.Changes.{changed_all, changed_at};
 ghost use Rattle.ordered_map.specs.Entries.{without, above, head_of};
 
-use crate::change::{put_in, take_from};
+use crate::change::{put_in, take_from, take_least};
 use crate::iter::Iter;
 use crate::spare::fill;
 use crate::tree::{Node, Tree, first, next_after, value_of};
-use crate::values::{Change, change_all, change_at};
+use crate::values::{Change, change_all, change_at, update_at};
 use std::alloc::{AllocError, Global};
 use std::marker::Model;
 
@@ -116,6 +116,18 @@ impl<K: Ord, V> OrderedMap<K, V> {
     }
 }
 
+impl<K: Ord, V: Copy> OrderedMap<K, V> {
+    /// Changes the value of a key in its place, and answers what it is then, where it has one.
+    pub fn update<C: Change<V>>(&mut self, key: &K, change: &C) -> Option<V>
+        ensures value { result ≡ option_map (C.changed change.now) (find K.cmp key.now self.old.items) }
+        ensures items { self.new.items ≡ changed_at K.cmp key.now (C.changed change.now) self.old.items }
+        ensures rising { IsTrue (is_sorted K.cmp self.new.items) }
+        ensures room { self.new.room ≡ self.old.room }
+    {
+        update_at(&mut self.tree, key, change)
+    }
+}
+
 impl<K: Ord + Drop, V: Drop> OrderedMap<K, V> {
     /// Makes room for so many new keys. It takes memory only where there is less.
     pub fn reserve(&mut self, keys: usize) -> Result<(), AllocError>
@@ -176,5 +188,19 @@ impl<K: Ord + Drop, V: Drop> OrderedMap<K, V> {
             self.count -= 1;
         }
         before
+    }
+
+    /// Takes the entry with the least key out. It takes no memory.
+    pub fn take_first(&mut self) -> Option<(K, V)>
+        ensures first { result ≡ head_of self.old.items }
+        ensures items { self.new.items ≡ drop 1 self.old.items }
+        ensures rising { IsTrue (is_sorted K.cmp self.new.items) }
+        ensures room { self.old.room ≤ self.new.room }
+    {
+        let first = take_least(&mut self.tree, &mut self.spare);
+        if first.is_some() {
+            self.count -= 1;
+        }
+        first
     }
 }

@@ -1,7 +1,8 @@
 //! Values that change where they stand.
 
 ghost use Rattle.std.specs.Prelude.{◌≡◌, IsTrue};
-ghost use Rattle.std.specs.FinMap.Entries.{is_sorted};
+ghost use Rattle.std.specs.FinMap.Entries.{find, is_sorted};
+ghost use Rattle.std.specs.Option.{option_map};
 ghost use Rattle.ordered_map.specs.Changes.{changed_all, changed_at};
 ghost use Rattle.ordered_map.specs.Entries.{entries_of};
 
@@ -37,6 +38,38 @@ pub(crate) fn change_at<K: Ord, V, C: Change<V>>(tree: &mut Tree<K, V>, key: &K,
                 Ordering::Less => change_at(left, key, change),
                 Ordering::Equal => change.change(value),
                 Ordering::Greater => change_at(right, key, change),
+            },
+        },
+    }
+}
+
+/// Changes the value of a key, and answers what it is then, where it has one.
+pub(crate) fn update_at<K: Ord, V: Copy, C: Change<V>>(
+    tree: &mut Tree<K, V>,
+    key: &K,
+    change: &C,
+) -> Option<V>
+    requires rising { IsTrue (is_sorted K.cmp (entries_of tree.old)) }
+    ensures value { result ≡ option_map (C.changed change.now) (find K.cmp key.now (entries_of tree.old)) }
+    ensures entries { entries_of tree.new ≡ changed_at K.cmp key.now (C.changed change.now) (entries_of tree.old) }
+{
+    match tree {
+        Tree::Empty => None,
+        Tree::Fork(node) => match &mut **node {
+            Node::Blank => None,
+            Node::Full {
+                left,
+                key: held,
+                value,
+                height: _,
+                right,
+            } => match key.cmp(held) {
+                Ordering::Less => update_at(left, key, change),
+                Ordering::Equal => {
+                    change.change(value);
+                    Some(*value)
+                }
+                Ordering::Greater => update_at(right, key, change),
             },
         },
     }

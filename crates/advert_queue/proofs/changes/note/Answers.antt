@@ -1,42 +1,65 @@
 use Rattle.std.proofs.Common.{◌≡◌, length, sym, ap, subst, ◌∙◌, arith}
+use Rattle.std.specs.Prelude.{Some, None, unwrap_or}
 use Rattle.std.specs.FinMap.{get}
-use Rattle.net_types.proofs.OrderLemmas.{prefixes_total}
+use Rattle.std.specs.FinMap.Entries.{find}
 use Rattle.net_types.specs.Keys.{prefix_cmp}
-use Rattle.advert_queue.proofs.ChangedMaps.{changed_put, changed_without, differs_from, news_put, news_without, same_as}
-use Rattle.advert_queue.proofs.RisingEntries.{fewer_without, length_put}
-use Rattle.advert_queue.specs.Changes.{AreNews, changed}
+use Rattle.advert_queue.proofs.ChangedMaps.{get_change, get_changed, noted_few, noted_news, noted_present}
+use Rattle.advert_queue.specs.Changes.{AreNews, changed, noted, tag_in}
 use Rattle.advert_queue.proofs.changes.note.Goals as goal
 
-pub returns-then-is_same-clause-differ : goal.returns-then-is_same-clause-differ
-returns-then-is_same-clause-differ c =
+pub returns-in-Some-clause-before : goal.returns-in-Some-clause-before
+returns-in-Some-clause-before c =
+    let there : find prefix_cmp c.args.prefix c.args.news.now.items ≡ Some c.in-Some.before = sym c.put_news.ensures.value ∙ c.in-Some.is in
+    c.tag_of.ensures ∙ ap tag_in (c.as_ref.ensures.value ∙ sym (get_change c.args.told.now.map c.args.news.now.items c.args.prefix c.in-Some.before c.requires.rising there))
+
+pub returns-in-Some-clause-differ : goal.returns-in-Some-clause-differ
+returns-in-Some-clause-differ c =
     let told = c.args.told.now.map in
-    subst (AreNews told) (sym c.remove.ensures.items) (news_without told c.args.news.now.items c.args.prefix c.args.entry c.requires.rising c.requires.differ)
+    let cs = c.args.news.now.items in
+    let items : c.put_news.new.news.items ≡ noted (get told c.args.prefix) c.args.prefix c.args.entry cs = c.put_news.ensures.items ∙ ap (λ was. noted was c.args.prefix c.args.entry cs) c.get-told.ensures in
+    subst (AreNews told) (sym items) (noted_news told cs c.args.prefix c.args.entry c.requires.rising c.requires.differ)
 
-pub returns-then-is_same-clause-present : goal.returns-then-is_same-clause-present
-returns-then-is_same-clause-present c =
+pub returns-in-Some-clause-present : goal.returns-in-Some-clause-present
+returns-in-Some-clause-present c =
     let told = c.args.told.now.map in
-    let same : get told c.args.prefix ≡ c.args.entry = same_as _ _ _ _ c.is_same.result c.get.ensures c.as_ref.ensures.value c.is_same.ensures c.if-is_same.true in
-    ap (changed told) c.remove.ensures.items ∙ changed_without told c.args.news.now.items c.args.prefix c.args.entry c.requires.rising same
+    let cs = c.args.news.now.items in
+    let items : c.put_news.new.news.items ≡ noted (get told c.args.prefix) c.args.prefix c.args.entry cs = c.put_news.ensures.items ∙ ap (λ was. noted was c.args.prefix c.args.entry cs) c.get-told.ensures in
+    ap (changed told) items ∙ noted_present told cs c.args.prefix c.args.entry c.requires.rising
 
-pub returns-then-is_same-clause-few : goal.returns-then-is_same-clause-few
-returns-then-is_same-clause-few c =
-    let fewer = fewer_without prefix_cmp prefixes_total c.args.prefix c.args.news.now.items c.requires.rising in
-    let len = ap length c.remove.ensures.items in
-    omega (arith, fewer, len)
-
-pub returns-else-is_same-clause-differ : goal.returns-else-is_same-clause-differ
-returns-else-is_same-clause-differ c =
+pub returns-in-Some-clause-few : goal.returns-in-Some-clause-few
+returns-in-Some-clause-few c =
     let told = c.args.told.now.map in
-    let other : get told c.args.prefix ≡ c.args.entry → ⊥ = differs_from _ _ _ _ c.is_same.result c.get.ensures c.as_ref.ensures.value c.is_same.ensures c.if-is_same.false in
-    subst (AreNews told) (sym c.put.ensures.items) (news_put told c.args.news.now.items c.args.prefix c.args.entry c.requires.rising c.requires.differ other)
+    let cs = c.args.news.now.items in
+    let items : c.put_news.new.news.items ≡ noted (get told c.args.prefix) c.args.prefix c.args.entry cs = c.put_news.ensures.items ∙ ap (λ was. noted was c.args.prefix c.args.entry cs) c.get-told.ensures in
+    let few = noted_few told cs c.args.prefix c.args.entry c.requires.rising in
+    let len = ap length items in
+    omega (arith, few, len)
 
-pub returns-else-is_same-clause-present : goal.returns-else-is_same-clause-present
-returns-else-is_same-clause-present c =
+pub returns-in-None-clause-before : goal.returns-in-None-clause-before
+returns-in-None-clause-before c =
+    let absent : find prefix_cmp c.args.prefix c.args.news.now.items ≡ None = sym c.put_news.ensures.value ∙ c.in-None.is in
+    c.tag_of-in-None.ensures
+    ∙ ap tag_in (c.get-told.ensures ∙ sym (ap (λ o. unwrap_or o (get c.args.told.now.map c.args.prefix)) absent) ∙ sym (get_changed c.args.told.now.map c.args.news.now.items c.args.prefix c.requires.rising))
+
+pub returns-in-None-clause-differ : goal.returns-in-None-clause-differ
+returns-in-None-clause-differ c =
     let told = c.args.told.now.map in
-    ap (changed told) c.put.ensures.items ∙ changed_put told c.args.news.now.items c.args.prefix c.args.entry c.requires.rising
+    let cs = c.args.news.now.items in
+    let items : c.put_news.new.news.items ≡ noted (get told c.args.prefix) c.args.prefix c.args.entry cs = c.put_news.ensures.items ∙ ap (λ was. noted was c.args.prefix c.args.entry cs) c.get-told.ensures in
+    subst (AreNews told) (sym items) (noted_news told cs c.args.prefix c.args.entry c.requires.rising c.requires.differ)
 
-pub returns-else-is_same-clause-few : goal.returns-else-is_same-clause-few
-returns-else-is_same-clause-few c =
-    let longer = length_put prefix_cmp prefixes_total c.args.prefix c.args.entry c.args.news.now.items c.requires.rising in
-    let len = ap length c.put.ensures.items in
-    omega (arith, longer, len)
+pub returns-in-None-clause-present : goal.returns-in-None-clause-present
+returns-in-None-clause-present c =
+    let told = c.args.told.now.map in
+    let cs = c.args.news.now.items in
+    let items : c.put_news.new.news.items ≡ noted (get told c.args.prefix) c.args.prefix c.args.entry cs = c.put_news.ensures.items ∙ ap (λ was. noted was c.args.prefix c.args.entry cs) c.get-told.ensures in
+    ap (changed told) items ∙ noted_present told cs c.args.prefix c.args.entry c.requires.rising
+
+pub returns-in-None-clause-few : goal.returns-in-None-clause-few
+returns-in-None-clause-few c =
+    let told = c.args.told.now.map in
+    let cs = c.args.news.now.items in
+    let items : c.put_news.new.news.items ≡ noted (get told c.args.prefix) c.args.prefix c.args.entry cs = c.put_news.ensures.items ∙ ap (λ was. noted was c.args.prefix c.args.entry cs) c.get-told.ensures in
+    let few = noted_few told cs c.args.prefix c.args.entry c.requires.rising in
+    let len = ap length items in
+    omega (arith, few, len)

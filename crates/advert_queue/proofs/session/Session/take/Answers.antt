@@ -12,15 +12,14 @@ tell-requires c =
     let most = limited-le c.args.limit c.len.result in
     record {
       enough = (let count = c.limited-count.ensures in let len = c.len.ensures in omega (arith, most, count, len));
-      kept = none_more a.told a.news a.told_tags a.room c.self.invariant.tellable;
+      kept = none_more a.told a.news a.counts a.room c.self.invariant.tellable;
     }
 
 pub invariant_of-self : goal.invariant_of-self
 invariant_of-self c =
     let a = c.self.inside in
     let all = c.tell.ensures in
-    (taken_kept a.told c.tell.new.told a.news c.tell.new.news a.told_tags c.tell.new.counts a.present_tags a.room c.limited-count.result c.self.invariant
-    (all.kept a.room c.self.invariant.tellable) all.told all.news (let old = c.self.invariant.news_room in omega (arith, old, all.room))).1
+    taken_kept a.told c.tell.new.told a.news c.tell.new.news a.counts c.tell.new.counts a.room c.self.invariant (all.kept a.room c.self.invariant.tellable) all.room all.counts_room
 
 pub returns-clause-told : goal.returns-clause-told
 returns-clause-told c =
@@ -31,9 +30,4 @@ returns-clause-told c =
     ∙ ap (λ (q : Queued). told_then c.args.limit q.told q.present) c.self.view_is
 
 pub returns-clause-present : goal.returns-clause-present
-returns-clause-present c =
-    let a = c.self.inside in
-    let all = c.tell.ensures in
-    (taken_kept a.told c.tell.new.told a.news c.tell.new.news a.told_tags c.tell.new.counts a.present_tags a.room c.limited-count.result c.self.invariant
-    (all.kept a.room c.self.invariant.tellable) all.told all.news (let old = c.self.invariant.news_room in omega (arith, old, all.room))).0
-    ∙ ap (λ (q : Queued). q.present) c.self.view_is
+returns-clause-present c = c.tell.ensures.present ∙ ap (λ (q : Queued). q.present) c.self.view_is

@@ -1,0 +1,7 @@
+-- Those so far and those of what is left are all.
+use Rattle.std.proofs.Common.{◌≡◌, ◌++◌, map, filter}
+use Rattle.advert_queue.specs.Counts.{entry_tag, is_told_tag}
+use Rattle.advert_queue.proofs.counts.told_tags.Given as goal
+
+abbrev pub invariant-loop-tag : goal.invariant-loop-tag
+invariant-loop-tag l = l.tags.items ++ map entry_tag (filter is_told_tag l.tag-iterator) ≡ map entry_tag (filter is_told_tag l.counts.items)
