@@ -24,7 +24,8 @@ returns-in-Ok-clause-ok g c s octets w before h =
     )
 
 pub returns-in-Err-clause-err : goal.returns-in-Err-clause-err
-returns-in-Err-clause-err g c s octets w before h =
-    let r = c.in-Err.ensures.err in
-    let p = c.args.progress.now in
-    (r.0, r.1, λ others. stop_of_part s octets w p.line p.number p.refused c.args.sdx.now before c.args.steps.now c.run_ended.new.steps r.0 c.args.part.now others c.requires.open r.2 c.in-Err.ensures.steps h)
+returns-in-Err-clause-err g c =
+    let p = c.args.progress.now in (
+      c.in-Err.ensures.err,
+      λ s octets w before h others. stop_of_part s octets w p.line p.number p.refused c.args.sdx.now before c.args.steps.now c.run_ended.new.steps c.args.part.now others c.requires.open c.in-Err.ensures.steps h,
+    )
