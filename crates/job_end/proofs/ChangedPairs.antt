@@ -12,7 +12,7 @@ use Rattle.exchange_laws.specs.Steady.{IsSteady}
 use Rattle.fast_path.proofs.PortsAndTags.{tie}
 use Rattle.fast_path.specs.Pairs.{dropped_pairs, is_among}
 use Rattle.job_end.specs.Ends.{is_other}
-use Rattle.job_end.specs.Rebuilt.{Rules, changed_pairs, has_others}
+use Rattle.job_end.specs.Rebuilt.{changed_pairs, has_others}
 use Rattle.job_laws.proofs.EndedJobs.{there}
 use Rattle.job_laws.proofs.MergedStates.{pair_was_live}
 use Rattle.job_laws.specs.Jobs.{without_job}
@@ -23,13 +23,14 @@ use Rattle.net_types.proofs.SetLemmas.{Member-append_cases, Member-append_left, 
 use Rattle.net_types.specs.Keys.{pair_cmp}
 use Rattle.net_types.specs.Sets.{Member}
 use Rattle.net_types.specs.declared.rule.Pair.{Pair}
+use Rattle.recompile.specs.Underway.{BuiltPairs}
 
 -- what is so by the second of two tests, where the first is met
 pub second : (a b : Bool) → a ≡ true → (not a || b) ≡ true → b ≡ true
 second true b is e = e
 second false b is e = absurd (cc)
 
-module _ (s : State) (steady : IsSteady (without_job s)) (built : Rules) (gone : List Pair) (are : AreLiveOnly s (merged s) gone) where
+module _ (s : State) (steady : IsSteady (without_job s)) (built : BuiltPairs) (gone : List Pair) (are : AreLiveOnly s (merged s) gone) where
   abbrev s1 : State
   s1 = merged s
 

@@ -22,7 +22,7 @@ use Rattle.fast_path.specs.Committing.{AreTaken, AreUnused, kept_without, marked
 use Rattle.fast_path.specs.LiveOnly.{has_prefix}
 use Rattle.fast_path.specs.Offers.{AreTo, HaveRoom, offered_all}
 use Rattle.fast_path.specs.Planned.{IsPoolOf}
-use Rattle.job_end.proofs.EndedTables.{changed_live, live_at_end, pairs_at_end, same_comes, same_goes, swapped, tightened}
+use Rattle.job_end.proofs.EndedTables.{changed_at, pairs_at_end, same_comes, same_goes, swapped, tightened}
 use Rattle.job_end.proofs.MergedTags.{tags_merged}
 use Rattle.job_end.specs.Committing.{CanEnd}
 use Rattle.job_end.specs.Ends.{IsEnd, ended}
@@ -44,6 +44,7 @@ use Rattle.prefix_classes.proofs.MemberLemmas.{no_members}
 use Rattle.prefix_classes.specs.Classes.{Classes}
 use Rattle.prefix_classes.specs.Merging.{IsMergeOf, moved}
 use Rattle.recompile.specs.Setting.{setting_of}
+use Rattle.recompile.specs.Underway.{others_of}
 use Rattle.recompile.specs.Working.{IsSwap}
 use Rattle.recompile.specs.declared.swap.Swap.{Swap}
 use Rattle.std.specs.List.{list_any}
@@ -162,7 +163,7 @@ module _ (s : State) (swap : Swap) (end : End) (steady : IsSteadyInJob s) (is_sw
   })
 
   abbrev rules_then : Pair → List Rule
-  rules_then pair = unwrap_or (get swap.built pair) []
+  rules_then pair = unwrap_or (others_of swap.built pair) []
 
   those_come : AreThose (comes s s2 (has_other_rules s s2)) end.changed
   those_come = record {
@@ -172,10 +173,7 @@ module _ (s : State) (swap : Swap) (end : End) (steady : IsSteadyInJob s) (is_sw
   }
 
   rules_are : (pair : Pair) → Member pair end.changed → get s2.table pair ≡ Some (rules_then pair)
-  rules_are pair m =
-      let fewer = swapped s swap end steady is_swap is pair m in
-      let now = changed_live s swap end steady is_swap is pair m in
-      live_at_end s swap end steady is_swap is pair now ∙ fewer.is ∙ ap (λ o. Some (unwrap_or o [])) (sym fewer.is)
+  rules_are = changed_at s swap end steady is_swap is
 
   adds_told : added s s2 (has_other_rules s s2) ≡ end.adds
   adds_told =

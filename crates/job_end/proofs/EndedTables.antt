@@ -23,7 +23,7 @@ use Rattle.fast_path.specs.Committing.{Block}
 use Rattle.fast_path.specs.Plans.{pair_of}
 use Rattle.job_end.proofs.ChangedPairs.{second}
 use Rattle.job_end.specs.Ends.{IsEnd, ended, is_other}
-use Rattle.job_end.specs.Rebuilt.{IsFewer, blocks_of}
+use Rattle.job_end.specs.Rebuilt.{IsFewer, are_others, blocks_of}
 use Rattle.job_end.specs.declared.ended.End.{End}
 use Rattle.job_laws.proofs.MergedStates.{pair_was_live, right_rules_stay}
 use Rattle.job_laws.proofs.SameRules.{rules_test}
@@ -41,17 +41,38 @@ use Rattle.net_types.specs.Sets.{IsRising, Member}
 use Rattle.net_types.specs.declared.rule.Pair.{Pair}
 use Rattle.net_types.specs.declared.rule.Rule.{Rule}
 use Rattle.recompile.specs.Setting.{setting_of}
+use Rattle.recompile.specs.Underway.{BuiltPairs, others_of}
 use Rattle.recompile.specs.Working.{IsSwap}
 use Rattle.recompile.specs.declared.swap.Swap.{Swap}
 
 -- the blocks of pairs are theirs
-pub block_pairs : (built : TableOf) (pairs : List Pair) → map pair_of (blocks_of built pairs) ≡ pairs
+pub block_pairs : (built : BuiltPairs) (pairs : List Pair) → map pair_of (blocks_of built pairs) ≡ pairs
 block_pairs built [] = refl
 block_pairs built (pair ∷ pairs) = ap (λ ps. pair ∷ ps) (block_pairs built pairs)
 
 turned : (b : Bool) → not b ≡ false → b ≡ true
 turned true e = refl
 turned false e = absurd (cc)
+
+-- rules that are made in the place of others are there
+other_made : (made : Option (List Rule)) (old : List Rule) → are_others (Some old) made ≡ true → (rules : List Rule) × (made ≡ Some rules)
+other_made None old others = absurd (cc)
+other_made (Some rules) old others = (rules, refl)
+
+-- and are those that come
+made_is : (made : Option (List Rule)) (old : List Rule) → are_others (Some old) made ≡ true → Some (unwrap_or made []) ≡ Some (unwrap_or made old)
+made_is None old others = absurd (cc)
+made_is (Some rules) old others = refl
+
+-- others are none, or the same
+made_same : (made : Option (List Rule)) (old : List Rule) → are_others (Some old) made ≡ false → Some old ≡ Some (unwrap_or made old)
+made_same None old same = refl
+made_same (Some rules) old same = (option_test (pointwise same_rule) rules_test (Some old) (Some rules)).0 (turned (same_option (pointwise same_rule) (Some old) (Some rules)) same)
+
+-- so they tell whether the rules that come are others
+others_tell : (made : Option (List Rule)) (old : List Rule) → not (same_option (pointwise same_rule) (Some old) (Some (unwrap_or made old))) ≡ are_others (Some old) made
+others_tell None old = ap not ((option_test (pointwise same_rule) rules_test (Some old) (Some old)).1 refl)
+others_tell (Some rules) old = refl
 
 module _ (s : State) (swap : Swap) (end : End) (steady : IsSteadyInJob s) (is_swap : IsSwap (setting_of s) swap) (is : IsEnd s swap end) where
   abbrev s1 : State
@@ -80,51 +101,59 @@ module _ (s : State) (swap : Swap) (end : End) (steady : IsSteadyInJob s) (is_sw
   pub record HasBuilt (pair : Pair) : Type 0 where
     pub old : List Rule
     pub had : get s.table pair ≡ Some old
-    pub rules : List Rule
-    pub built_is : get swap.built pair ≡ Some rules
-    pub tight : IsTightForm old rules
+    pub made : Option (List Rule)
+    pub built_is : get swap.built pair ≡ Some made
+    pub tight : IsTightForm old (unwrap_or made old)
 
   pub has_built : (pair : Pair) → is_live_pair s pair ≡ true → HasBuilt pair
   has_built pair live = by (get s.table pair) refl
     where
       by : (o : Option (List Rule)) → get s.table pair ≡ o → HasBuilt pair
-      by (Some old) had = let built = is_swap.built pair old had in record { old = old; had = had; rules = built.0; built_is = built.1; tight = built.2 }
+      by (Some old) had = let built = is_swap.built pair old had in record { old = old; had = had; made = built.0; built_is = built.1; tight = built.2 }
       by None had = absurd (clash (steady.steady.sound.pairs pair ∙ live) (ap is_some had))
 
   -- a pair that stays live isn't taken out
   pub left_at : (pair : Pair) → is_live_pair s1 pair ≡ true → get left pair ≡ get s.table pair
   left_at pair now = ap (λ t. get t pair) (without_is s.table end.gone) ∙ get_without_others pair_cmp pairs_total tie end.gone s.table pair (λ m. clash now (is.gone.each pair m).1)
 
-  changed_at : (pair : Pair) → Member pair end.changed → get table pair ≡ Some (unwrap_or (get swap.built pair) [])
+  pub changed_at : (pair : Pair) → Member pair end.changed → get table pair ≡ Some (unwrap_or (others_of swap.built pair) [])
   changed_at pair m =
-      let b : Block = (pair, unwrap_or (get swap.built pair) []) in
+      let b : Block = (pair, unwrap_or (others_of swap.built pair) []) in
       ap (λ t. get t pair) (with_is left blocks)
-      ∙ get_with_those pair_cmp pairs_total tie blocks left blocks_apart b (Member-map (λ q. let c : Block = (q, unwrap_or (get swap.built q) []) in c) end.changed pair m)
+      ∙ get_with_those pair_cmp pairs_total tie blocks left blocks_apart b (Member-map (λ q. let c : Block = (q, unwrap_or (others_of swap.built q) []) in c) end.changed pair m)
 
   unchanged_at : (pair : Pair) → (Member pair end.changed → ⊥) → get table pair ≡ get left pair
   unchanged_at pair none =
       ap (λ t. get t pair) (with_is left blocks)
       ∙ get_with_others pair_cmp pairs_total tie blocks left pair (λ b m at. none (subst (λ ps. Member pair ps) (block_pairs swap.built end.changed) (subst (λ q. Member q (map pair_of blocks)) at (Member-map pair_of blocks b m))))
 
-  -- a live pair has the rules that were built for it
-  pub live_at_end : (pair : Pair) → is_live_pair s1 pair ≡ true → get table pair ≡ get swap.built pair
-  live_at_end pair now = by (other pair) refl
+  -- the other rules of a live pair
+  others_at : (pair : Pair) (built : HasBuilt pair) → others_of swap.built pair ≡ built.made
+  others_at pair built = ap (λ o. unwrap_or o None) built.built_is
+
+  -- a live pair has the rules that were built for it, or those that it had
+  pub live_at_end : (pair : Pair) → is_live_pair s1 pair ≡ true → (built : HasBuilt pair) → get table pair ≡ Some (unwrap_or built.made built.old)
+  live_at_end pair now built = by (other pair) refl
     where
       live : is_live_pair s pair ≡ true
       live = pair_was_live s steady.steady pair now
 
-      built : HasBuilt pair
-      built = has_built pair live
+      other_is : other pair ≡ are_others (Some built.old) built.made
+      other_is = λ i. are_others (built.had i) (others_at pair built i)
 
       come : other pair ≡ true → comes s s1 other pair ≡ true
       come is_new_now = λ i. now i && (not (live i) || is_new_now i)
 
-      by : (b : Bool) → other pair ≡ b → get table pair ≡ get swap.built pair
-      by true others = changed_at pair (is.changed.all pair (come others)) ∙ ap (λ o. Some (unwrap_or o [])) built.built_is ∙ sym built.built_is
+      by : (b : Bool) → other pair ≡ b → get table pair ≡ Some (unwrap_or built.made built.old)
+      by true others =
+          changed_at pair (is.changed.all pair (come others))
+          ∙ ap (λ o. Some (unwrap_or o [])) (others_at pair built)
+          ∙ made_is built.made built.old (sym other_is ∙ others)
       by false same =
           unchanged_at pair (λ m. clash (second (is_live_pair s pair) (other pair) live (and_parts (is_live_pair s1 pair) (is_new s other pair) (is.changed.each pair m)).1) same)
           ∙ left_at pair now
-          ∙ (option_test (pointwise same_rule) rules_test (get s.table pair) (get swap.built pair)).0 (turned (same_option (pointwise same_rule) (get s.table pair) (get swap.built pair)) same)
+          ∙ built.had
+          ∙ made_same built.made built.old (sym other_is ∙ same)
 
   -- and any other pair has none
   pub dead_at_end : (pair : Pair) → is_live_pair s1 pair ≡ false → get table pair ≡ None
@@ -143,7 +172,7 @@ module _ (s : State) (swap : Swap) (end : End) (steady : IsSteadyInJob s) (is_sw
   pairs_at_end pair = by (is_live_pair s1 pair) refl
     where
       by : (b : Bool) → is_live_pair s1 pair ≡ b → is_some (get table pair) ≡ is_live_pair s1 pair
-      by true now = let built = has_built pair (pair_was_live s steady.steady pair now) in ap is_some (live_at_end pair now ∙ built.built_is) ∙ sym now
+      by true now = ap is_some (live_at_end pair now (has_built pair (pair_was_live s steady.steady pair now))) ∙ sym now
       by false gone = ap is_some (dead_at_end pair gone) ∙ sym gone
 
   -- the rules at the end are a tight form of those before
@@ -157,7 +186,7 @@ module _ (s : State) (swap : Swap) (end : End) (steady : IsSteadyInJob s) (is_sw
   rebuilt pair rules at =
       let now : is_live_pair s1 pair ≡ true = sym (pairs_at_end pair) ∙ is_some_of (get table pair) rules at in
       let built = has_built pair (pair_was_live s steady.steady pair now) in
-      let same : built.rules ≡ rules = some_of built.rules rules (sym built.built_is ∙ sym (live_at_end pair now) ∙ at) in
+      let same : unwrap_or built.made built.old ≡ rules = some_of (unwrap_or built.made built.old) rules (sym (live_at_end pair now built) ∙ at) in
       record { now = now; old = built.old; had = built.had; tight = subst (IsTightForm built.old) same built.tight }
 
   right_at_end : (ps : Policies) → ArePolicies s ps → (pair : Pair) (rules : List Rule) → get table pair ≡ Some rules → IsRightAt ps s1 pair rules
@@ -189,7 +218,9 @@ module _ (s : State) (swap : Swap) (end : End) (steady : IsSteadyInJob s) (is_sw
 
   -- of a live pair the rules at the end are others where those built for it are
   same_others : (pair : Pair) → is_live_pair s1 pair ≡ true → has_other_rules s (ended s swap end) pair ≡ other pair
-  same_others pair now = ap (λ o. not (same_option (pointwise same_rule) (get s.table pair) o)) (live_at_end pair now)
+  same_others pair now =
+      let built = has_built pair (pair_was_live s steady.steady pair now) in
+      (λ i. not (same_option (pointwise same_rule) (built.had i) (live_at_end pair now built i))) ∙ others_tell built.made built.old ∙ sym (λ i. are_others (built.had i) (others_at pair built i))
 
   pub same_comes : (pair : Pair) → comes s (ended s swap end) (has_other_rules s (ended s swap end)) pair ≡ comes s s1 other pair
   same_comes pair = by (is_live_pair s1 pair) refl
@@ -218,4 +249,7 @@ module _ (s : State) (swap : Swap) (end : End) (steady : IsSteadyInJob s) (is_sw
   swapped pair m =
       let now : is_live_pair s1 pair ≡ true = changed_live pair m in
       let built = has_built pair (pair_was_live s steady.steady pair now) in
-      record { old = built.old; had = left_at pair now ∙ built.had; rules = built.rules; is = built.built_is; fewer = built.tight.fewer }
+      let live : is_live_pair s pair ≡ true = pair_was_live s steady.steady pair now in
+      let others : other pair ≡ true = second (is_live_pair s pair) (other pair) live (and_parts (is_live_pair s1 pair) (is_new s other pair) (is.changed.each pair m)).1 in
+      let made = other_made built.made built.old (sym (λ i. are_others (built.had i) (others_at pair built i)) ∙ others) in
+      record { old = built.old; had = left_at pair now ∙ built.had; rules = made.0; is = others_at pair built ∙ made.1; fewer = subst (λ o. length (unwrap_or o built.old) ≤ length built.old) made.1 built.tight.fewer }

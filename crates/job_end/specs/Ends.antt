@@ -9,7 +9,7 @@ use Rattle.exchange_laws.specs.Listed.{AreLiveOnly, AreThose, comes, goes}
 use Rattle.fast_path.specs.LiveOnly.{AreDead}
 use Rattle.fast_path.specs.Offers.{AreOffers, all_present}
 use Rattle.fast_path.specs.Planned.{is_tag_below}
-use Rattle.job_end.specs.Rebuilt.{Rules, blocks_of, has_others, table_with}
+use Rattle.job_end.specs.Rebuilt.{blocks_of, has_others, table_with}
 use Rattle.job_end.specs.declared.ended.End.{End}
 use Rattle.job_laws.specs.Jobs.{IsSteadyInJob}
 use Rattle.net_types.specs.Sets.{IsRising, union_over}
@@ -17,6 +17,7 @@ use Rattle.net_types.specs.declared.rule.Pair.{Pair}
 use Rattle.advert_queue.specs.Advertised.{Advertised}
 use Rattle.prefix_classes.specs.Classes.{Classes}
 use Rattle.recompile.specs.Setting.{setting_of}
+use Rattle.recompile.specs.Underway.{BuiltPairs}
 use Rattle.recompile.specs.Working.{IsSwap}
 use Rattle.recompile.specs.declared.swap.Swap.{Swap}
 use Rattle.registry.specs.Registered.{Registered}
@@ -40,7 +41,7 @@ abbrev pub IsEndingFor : Registered → Classes → Advertised → Installed →
 IsEndingFor names classes adverts switch pairs swap = (s : State) × IsEnding s names classes adverts switch pairs swap
 
 -- the rules of a pair go, and those of one that stays come: other ones were built for it
-abbrev pub is_other : State → Rules → Pair → Bool
+abbrev pub is_other : State → BuiltPairs → Pair → Bool
 is_other s built pair = has_others s.table built pair
 
 -- The end has what becomes of tags and rules: the pairs that go and those that stay and get other rules, the tags that are live

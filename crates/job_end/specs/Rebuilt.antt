@@ -1,5 +1,5 @@
 -- The rules that a job built, and the table that they leave (this exchange's own rule).
-use Rattle.std.specs.Prelude.{◌≡◌, ◌≤◌, Bool, ◌&&◌, not, List, [], length, map, filter, Some, unwrap_or}
+use Rattle.std.specs.Prelude.{◌≡◌, ◌≤◌, Bool, ◌&&◌, not, false, List, [], length, map, filter, Option, Some, None, unwrap_or}
 use Rattle.std.specs.Cmp.Lexicographic.{pointwise}
 use Rattle.std.specs.FinMap.{FinMap, get}
 use Rattle.events.specs.After.{without_pairs}
@@ -10,31 +10,37 @@ use Rattle.net_types.specs.Attributes.{same_option}
 use Rattle.net_types.specs.Keys.{pair_cmp}
 use Rattle.net_types.specs.declared.rule.Pair.{Pair}
 use Rattle.net_types.specs.declared.rule.Rule.{Rule}
+use Rattle.recompile.specs.Underway.{BuiltPairs, others_of}
 
 -- the rules of pairs
 abbrev pub Rules : Type 0
 Rules = FinMap pair_cmp (List Rule)
 
--- what was built for these pairs
-abbrev pub blocks_of : Rules → List Pair → List Block
-blocks_of built pairs = map (λ pair. let b : Block = (pair, unwrap_or (get built pair) []) in b) pairs
+-- the other rules that were built for these pairs
+abbrev pub blocks_of : BuiltPairs → List Pair → List Block
+blocks_of built pairs = map (λ pair. let b : Block = (pair, unwrap_or (others_of built pair) []) in b) pairs
 
 -- the table without the pairs that go, and with what was built for those that get other rules
-abbrev pub table_with : Rules → Rules → List Pair → List Pair → Rules
+abbrev pub table_with : Rules → BuiltPairs → List Pair → List Pair → Rules
 table_with table built gone changed = with_blocks (without_pairs table gone) (blocks_of built changed)
 
+-- other rules aren't those that there are; none are no others
+abbrev pub are_others : Option (List Rule) → Option (List Rule) → Bool
+are_others old None = false
+are_others old (Some rules) = not (same_option (pointwise same_rule) old (Some rules))
+
 -- the rules that were built for a pair aren't those that it has
-abbrev pub has_others : Rules → Rules → Pair → Bool
-has_others table built pair = not (same_option (pointwise same_rule) (get table pair) (get built pair))
+abbrev pub has_others : Rules → BuiltPairs → Pair → Bool
+has_others table built pair = are_others (get table pair) (others_of built pair)
 
 -- those of the pairs that don't go and get other rules
-abbrev pub changed_pairs : Rules → Rules → List Pair → List Pair → List Pair
+abbrev pub changed_pairs : Rules → BuiltPairs → List Pair → List Pair → List Pair
 changed_pairs table built gone pairs = filter (λ pair. not (is_among gone pair) && has_others table built pair) pairs
 
--- a pair has rules, and some were built for it, which are no more
-pub record IsFewer (table built : Rules) (pair : Pair) : Type 0 where
+-- a pair has rules, and other ones were built for it, which are no more
+pub record IsFewer (table : Rules) (built : BuiltPairs) (pair : Pair) : Type 0 where
   pub old : List Rule
   pub had : get table pair ≡ Some old
   pub rules : List Rule
-  pub is : get built pair ≡ Some rules
+  pub is : others_of built pair ≡ Some rules
   pub fewer : length rules ≤ length old

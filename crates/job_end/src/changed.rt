@@ -72,16 +72,16 @@ fn same_rules(one: &[Rule], other: &[Rule]) -> bool
     true
 }
 
-/// Whether the rules that were built for a pair aren't those that it has.
+/// Whether other rules were built for a pair than it has. Where its rules were tight nothing was built, and nothing is compared.
 fn has_others<B: Blocks>(switch: &B, built: &Built, pair: Pair) -> bool
     ensures { result ≡ has_others (B.installed switch.now).table built.now pair }
 {
+    let Some(rules) = built.get(pair) else {
+        return false;
+    };
     match switch.rules_of(pair) {
-        None => built.get(pair).is_some(),
-        Some(old) => match built.get(pair) {
-            None => true,
-            Some(rules) => !same_rules(old, rules),
-        },
+        Some(old) => !same_rules(old, rules),
+        None => true,
     }
 }
 
@@ -105,7 +105,7 @@ pub fn changed_pairs<B: Blocks>(
     Ok(changed)
 }
 
-/// Copies of the rules that were built for the pairs. Memory is the only refusal.
+/// Copies of the other rules that were built for the pairs. Memory is the only refusal.
 pub fn built_flows(alloc: Global, built: &Built, pairs: &[Pair]) -> Result<Flows, Memory>
     ensures { IfOk result (λ flows. flows ≡ union_over flows_of (blocks_of built.now pairs.now)) }
 {

@@ -12,7 +12,7 @@ ghost use Rattle.prefix_classes.specs.Placed.{IsIndexed, IsLeastBeside, placed_c
 
 use crate::class_map::ClassMap;
 use crate::placed::{Placed, SharedSig};
-use net_types::{Memory, Steps, Tag, TryCopy};
+use net_types::{Memory, Sig, Steps, Tag, TryCopy};
 use ordered_map::OrderedMap;
 use std::alloc::Global;
 use std::marker::Model;
@@ -25,6 +25,8 @@ pub struct Grouping {
     alloc: Global,
     tags: OrderedMap<Tag, SharedSig>,
     index: OrderedMap<Placed, ()>,
+    /// The signature that was placed last, which the next tag often has too.
+    last: Option<SharedSig>,
 }
 
 impl Model for Grouping {
@@ -53,6 +55,7 @@ impl Grouping {
             alloc,
             tags: OrderedMap::new(alloc),
             index: OrderedMap::new(alloc),
+            last: None,
         }
     }
 
@@ -85,8 +88,7 @@ impl Grouping {
         ensures step { steps.new ≡ steps.old + 1 }
     {
         steps.tick();
-        let sig = classes.used_sig(tag).copy()?;
-        let sig = SharedSig::new(self.alloc, sig)?;
+        let sig = self.shared(classes.used_sig(tag))?;
         self.put(tag, sig)
     }
 
@@ -106,6 +108,21 @@ impl Grouping {
             Some(sig) => Ok(least_from(&self.tags, &self.index, sig.share()?, tag)),
             None => unreachable!(),
         }
+    }
+
+    // A signature on the heap, which isn't copied where it is the one that was placed last.
+    fn shared(&mut self, sig: &Sig) -> Result<SharedSig, Memory>
+        ensures sig { IfOk result (λ shared. shared ≡ sig.now) }
+        ensures same { self.new ≡ self.old }
+    {
+        if let Some(last) = &self.last {
+            if last.is(sig) {
+                return last.share();
+            }
+        }
+        let copy = SharedSig::new(self.alloc, sig.copy()?)?;
+        self.last = Some(copy.share()?);
+        Ok(copy)
     }
 
     // Puts a tag in with its signature, in the place of the one it had.

@@ -1,6 +1,6 @@
 //! Signatures that several owners share, and the order in which a grouping finds the tags of each.
 
-ghost use Rattle.std.specs.Prelude.{◌≡◌, IfOk, refl};
+ghost use Rattle.std.specs.Prelude.{◌≡◌, true, IfOk, refl};
 ghost use Rattle.std.specs.Cmp.{eq_by_cmp_equiv, partial_equiv_from_equiv, partial_order_from_total};
 ghost use Rattle.std.specs.Cmp.Lexicographic.{slice_cmp};
 ghost use Rattle.std.specs.Ordering.{as_partial_cmp, eq_by_cmp};
@@ -44,6 +44,13 @@ impl SharedSig {
     {
         let sig = self.sig.clone()?;
         Ok(SharedSig { sig })
+    }
+
+    /// Whether it is this signature.
+    pub(crate) fn is(&self, sig: &Sig) -> bool
+        ensures { result ≡ true → self.now ≡ sig.now }
+    {
+        rank_items(self.parts(), sig.items()).is_eq()
     }
 
     fn parts(&self) -> &[Part]

@@ -1,6 +1,8 @@
 -- What entries that rise are seen as, and what it is without one of them or with another.
-use Rattle.std.proofs.Common.{◌≡◌, true, List, sym, ap, ◌∙◌}
-use Rattle.std.specs.FinMap.{FinMap, from_sorted, get, insert, remove}
+use Rattle.std.proofs.Common.{◌≡◌, true, List, refl, sym, ap, ◌∙◌}
+use Rattle.std.specs.Prelude.{Option, Some, None, is_some, option_copied}
+use Rattle.std.specs.Borrow.{Bor}
+use Rattle.std.specs.FinMap.{from_sorted, get, insert, remove}
 use Rattle.std.specs.FinMap.Entries.{find, is_sorted, put}
 use Rattle.net_types.proofs.OrderLemmas.{pairs_total}
 use Rattle.net_types.proofs.PlaceLemmas.{get_sorted, insert_sorted, remove_sorted}
@@ -9,13 +11,18 @@ use Rattle.net_types.specs.Keys.{pair_cmp}
 use Rattle.net_types.specs.declared.rule.Pair.{Pair}
 use Rattle.net_types.specs.declared.rule.Rule.{Rule}
 use Rattle.ordered_map.specs.Entries.{without}
+use Rattle.recompile.specs.Underway.{BuiltPairs}
 
-module _ (es : List (Pair × List Rule)) (rises : is_sorted pair_cmp es ≡ true) (m : FinMap pair_cmp (List Rule)) (is : from_sorted es ≡ m) where
+pub is_some-copied : {A : Type 0} (o : Option (Bor A)) → is_some (option_copied o) ≡ is_some o
+is_some-copied None = refl
+is_some-copied (Some x) = refl
+
+module _ (es : List (Pair × Option (List Rule))) (rises : is_sorted pair_cmp es ≡ true) (m : BuiltPairs) (is : from_sorted es ≡ m) where
   pub found_is : (pair : Pair) → find pair_cmp pair es ≡ get m pair
   found_is pair = sym (get_sorted pair_cmp es pair rises) ∙ ap (λ n. get n pair) is
 
-  pub without_is : (pair : Pair) (ds : List (Pair × List Rule)) → ds ≡ without pair_cmp pair es → from_sorted ds ≡ remove m pair
+  pub without_is : (pair : Pair) (ds : List (Pair × Option (List Rule))) → ds ≡ without pair_cmp pair es → from_sorted ds ≡ remove m pair
   without_is pair ds e = ap from_sorted e ∙ remove_sorted pair_cmp pairs_total pair_cmp-IsAntisymmetric pair es rises ∙ ap (λ n. remove n pair) is
 
-  pub put_is : (pair : Pair) (rules : List Rule) (ds : List (Pair × List Rule)) → ds ≡ put pair_cmp pair rules es → from_sorted ds ≡ insert m pair rules
-  put_is pair rules ds e = ap from_sorted e ∙ insert_sorted pair_cmp pairs_total pair rules es rises ∙ ap (λ n. insert n pair rules) is
+  pub put_is : (pair : Pair) (made : Option (List Rule)) (ds : List (Pair × Option (List Rule))) → ds ≡ put pair_cmp pair made es → from_sorted ds ≡ insert m pair made
+  put_is pair made ds e = ap from_sorted e ∙ insert_sorted pair_cmp pairs_total pair made es rises ∙ ap (λ n. insert n pair made) is

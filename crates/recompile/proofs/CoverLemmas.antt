@@ -1,6 +1,6 @@
 -- What single units leave of a job, and what a job has of which nothing is left to do.
 use Rattle.std.proofs.Common.{◌≡◌, ℕ, ◌+◌, ◌-◌, ◌≤◌, ◌<◌, ◌⊎◌, Bool, true, false, cond, List, [], ◌∷◌, length, refl, sym, ap, subst, ◌∙◌, inl, inr, arith}
-use Rattle.std.specs.Prelude.{Option, Some, None, is_some, min, nat_lt}
+use Rattle.std.specs.Prelude.{Option, Some, None, is_some, min, nat_lt, unwrap_or}
 use Rattle.std.specs.declared.cmp.Ordering.{Ordering}
 use Rattle.std.specs.FinMap.{FinMap, empty, get, insert, get-insert}
 use Rattle.std.specs.Cmp.{IsTotalOrder}
@@ -155,13 +155,13 @@ module _ (s : Setting) (old new : Underway) (t : Tag) (sig : List Part) (todo : 
 
 -- ---- a pair is built
 
-module _ (s : Setting) (old new : Underway) (p : Pair) (rules had : List Rule) (todo : IsPairToDo s.table old.built p) (there : get s.table p ≡ Some had) (tight : IsTightForm had rules) (placed : new.placed ≡ old.placed) (built : new.built ≡ insert old.built p rules) (tags : KeepsThose (IsTagToDo s.tag old.placed) old.tags new.tags) (pairs : KeepsThose (IsPairToDo s.table old.built) old.pairs new.pairs) where
+module _ (s : Setting) (old new : Underway) (p : Pair) (made : Option (List Rule)) (had : List Rule) (todo : IsPairToDo s.table old.built p) (there : get s.table p ≡ Some had) (tight : IsTightForm had (unwrap_or made had)) (placed : new.placed ≡ old.placed) (built : new.built ≡ insert old.built p made) (tags : KeepsThose (IsTagToDo s.tag old.placed) old.tags new.tags) (pairs : KeepsThose (IsPairToDo s.table old.built) old.pairs new.pairs) where
   tag_still : (u : Tag) → IsTagToDo s.tag new.placed u → IsTagToDo s.tag old.placed u
   tag_still u left = (left.0, ap (λ m. get m u) (sym placed) ∙ left.1)
 
   pair_still : (q : Pair) → IsPairToDo s.table new.built q → (¬ (q ≡ p)) × IsPairToDo s.table old.built q
   pair_still q left =
-      let before = none_put pair_cmp pairs_total pairs_tie old.built new.built p rules built q left.1 in
+      let before = none_put pair_cmp pairs_total pairs_tie old.built new.built p made built q left.1 in
       (before.0, (left.0, before.1))
 
   pub built_kept : IsKeptUp s old → IsKeptUp s new
@@ -169,11 +169,11 @@ module _ (s : Setting) (old new : Underway) (p : Pair) (rules had : List Rule) (
     placed = λ u sig has. kept.placed u sig (ap (λ m. get m u) (sym placed) ∙ has);
     tags = λ u left. let before = tag_still u left in tags u before (kept.tags u before);
     pairs = λ q left. let before = (pair_still q left).1 in pairs q before (kept.pairs q before);
-    built = λ q others before has was. elim (put_cases pair_cmp pairs_total pairs_tie old.built new.built p rules built q) [
+    built = λ q others before has was. elim (put_cases pair_cmp pairs_total pairs_tie old.built new.built p made built q) [
       | inl here ↦
-          let same_rules : rules ≡ others = let e : Some rules ≡ Some others = sym here.1 ∙ has in cc in
+          let same_made : made ≡ others = let e : Some made ≡ Some others = sym here.1 ∙ has in cc in
           let same_had : had ≡ before = let e : Some had ≡ Some before = sym there ∙ ap (get s.table) (sym here.0) ∙ was in cc in
-          subst (λ x. IsTightForm x others) same_had (subst (IsTightForm had) same_rules tight)
+          subst (λ x. IsTightForm x (unwrap_or others x)) same_had (subst (λ m. IsTightForm had (unwrap_or m had)) same_made tight)
       | inr same ↦ kept.built q others before (sym same ∙ has) was
     ];
   }
@@ -227,11 +227,11 @@ module _ (s : Setting) (j : Underway) (kept : IsKeptUp s j) (needs : NeedsAtMost
       by None true has used = absurd (all_placed t (above used, has))
       by None false has used = has
 
-  pub done_is_built : (pair : Pair) (old : List Rule) → get s.table pair ≡ Some old → (rules : List Rule) × (get j.built pair ≡ Some rules) × IsTightForm old rules
+  pub done_is_built : (pair : Pair) (old : List Rule) → get s.table pair ≡ Some old → (made : Option (List Rule)) × (get j.built pair ≡ Some made) × IsTightForm old (unwrap_or made old)
   done_is_built pair old there = by (get j.built pair) refl
     where
-      by : (o : Option (List Rule)) → get j.built pair ≡ o → (rules : List Rule) × (get j.built pair ≡ Some rules) × IsTightForm old rules
-      by (Some rules) has = (rules, has, kept.built pair rules old has there)
+      by : (o : Option (Option (List Rule))) → get j.built pair ≡ o → (made : Option (List Rule)) × (get j.built pair ≡ Some made) × IsTightForm old (unwrap_or made old)
+      by (Some made) has = (made, has, kept.built pair made old has there)
       by None has = absurd (all_built pair (ap is_some there, has))
 
 -- ---- units one after another

@@ -4,3 +4,4 @@ pub mod Covering
 pub mod Working
 pub mod Changing
 pub mod Units
+pub mod Tight

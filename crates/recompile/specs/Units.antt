@@ -1,5 +1,5 @@
 -- What single units of a job do (this exchange's own rule).
-use Rattle.std.specs.Prelude.{◌≡◌, ℕ, ◌-◌, ◌<◌, List, [], ◌∷◌, Some, None}
+use Rattle.std.specs.Prelude.{◌≡◌, ℕ, ◌-◌, ◌<◌, List, [], ◌∷◌, Option, Some, None, unwrap_or}
 use Rattle.std.specs.declared.cmp.Ordering.{Ordering}
 use Rattle.std.specs.FinMap.{FinMap, get, insert, remove}
 use Rattle.block_build.specs.Tight.{IsTightForm}
@@ -11,7 +11,7 @@ use Rattle.net_types.specs.declared.rule.Rule.{Rule}
 use Rattle.prefix_classes.specs.Classes.{members}
 use Rattle.recompile.specs.Covering.{NeedsAtMost}
 use Rattle.recompile.specs.Setting.{Setting}
-use Rattle.recompile.specs.Underway.{Underway}
+use Rattle.recompile.specs.Underway.{BuiltPairs, Underway}
 
 -- all tags with members are listed
 abbrev pub AreListed : FinMap prefix_cmp Tag → List Tag → Type 0
@@ -22,12 +22,12 @@ abbrev pub KeepsThose : {A : Type 0} → (A → Type 0) → List A → List A �
 KeepsThose {A} P old new = (x : A) → P x → Member x old → Member x new
 
 -- the table has these rules for a pair that isn't built
-abbrev pub IsFound : FinMap pair_cmp (List Rule) → FinMap pair_cmp (List Rule) → Pair → List Rule → Type 0
+abbrev pub IsFound : FinMap pair_cmp (List Rule) → BuiltPairs → Pair → List Rule → Type 0
 IsFound table built pair rules = (get table pair ≡ Some rules) × (get built pair ≡ None)
 
--- a tight form of these rules is put in for the pair
-abbrev pub IsBuiltFrom : Pair → List Rule → FinMap pair_cmp (List Rule) → FinMap pair_cmp (List Rule) → Type 0
-IsBuiltFrom pair old before after = (rules : List Rule) × IsTightForm old rules × (after ≡ insert before pair rules)
+-- the pair is built: a tight form of these rules is put in, or nothing where they are tight
+abbrev pub IsBuiltFrom : Pair → List Rule → BuiltPairs → BuiltPairs → Type 0
+IsBuiltFrom pair old before after = (made : Option (List Rule)) × IsTightForm old (unwrap_or made old) × (after ≡ insert before pair made)
 
 -- what needed at most some units needs so many fewer
 abbrev pub NeedsFewer : Setting → ℕ → Underway → Underway → Type 0

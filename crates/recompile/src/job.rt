@@ -63,7 +63,8 @@ impl Job {
         self.owed
     }
 
-    /// Does so many units, or what is left to do. A unit places a tag with its kept signature, or makes the rules of a pair tight;
+    /// Does so many units, or what is left to do. A unit places a tag with its kept signature, or makes the rules of a pair tight
+    /// where they aren't;
     /// each is one step. The swap is ready exactly where the job owes no more than the units; the job then owes as much as before,
     /// and has given away what it built. After want of memory it owes as much as before, and covers the same.
     pub fn work<B: Blocks, L: Ledger>(

@@ -5,6 +5,7 @@ mod job;
 mod laws;
 mod lists;
 mod swap;
+mod tight;
 mod units;
 
 pub use job::Job;

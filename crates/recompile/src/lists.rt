@@ -98,7 +98,7 @@ fn rules_to_do<'s, B: Blocks>(built: &Built, switch: &'s B, pair: Pair) -> Optio
     ensures found { IfSome result (λ rules. IsFound (B.installed switch.now).table built.now pair rules.now) }
     ensures none { IfNone result (¬ IsPairToDo (B.installed switch.now).table built.now pair) }
 {
-    if built.get(pair).is_some() {
+    if built.has(pair) {
         return None;
     }
     switch.rules_of(pair)

@@ -1,10 +1,12 @@
 //! What a job has done: the moves that merge the classes, and the tight rules.
 
-ghost use Rattle.std.specs.Prelude.{◌≡◌, ◌+◌, option_copied, OnErr, OnOk};
+ghost use Rattle.std.specs.Prelude.{◌≡◌, ◌+◌, is_some, option_copied, OnErr, OnOk};
 ghost use Rattle.std.specs.FinMap as map;
+ghost use Rattle.recompile.specs.Underway.{others_of};
 ghost use Rattle.recompile.specs.Units.{IsBuiltFrom, without_each};
 
-use block_build::{Block, build_tight};
+use crate::tight::tightened;
+use block_build::Block;
 use net_types::{Memory, Pair, Rule, Steps};
 use ordered_map::OrderedMap;
 use prefix_classes::Moves;
@@ -12,32 +14,32 @@ use std::alloc::Global;
 use std::marker::Model;
 use std::sync::ledger::Ledger;
 
-/// The blocks that a job built, by pair; some may be of pairs that the table has no more.
+/// The pairs that a job built; some may be gone from the table. Those whose rules were tight keep them, and are only marked.
 #[derive(Drop)]
 pub struct Built {
-    blocks: OrderedMap<Pair, Block>,
+    pairs: OrderedMap<Pair, Option<Block>>,
 }
 
 impl Model for Built {
-    ghost use Rattle.std.specs.Prelude.{List};
     ghost use Rattle.std.specs.Coded.{codes};
     ghost use Rattle.std.specs.FinMap as map;
     ghost use Rattle.net_types.specs.Keys.{pair_cmp};
-    ghost use Rattle.net_types.specs.declared.rule.Rule.{Rule};
+    ghost use Rattle.recompile.specs.Underway.{BuiltPairs};
 
-    ghost Value = { map.FinMap pair_cmp (List Rule) };
+    ghost Value = { BuiltPairs };
 
     ghost coded = { Prim.hlevel (codes, map.code) };
 
     ghost use Rattle.std.specs.Prelude.{IsTrue};
     ghost use Rattle.std.specs.FinMap.Entries.{is_sorted};
 
-    ghost view = { λ a. map.from_sorted a.blocks.items };
+    ghost view = { λ a. map.from_sorted a.pairs.items };
 
-    ghost invariant = { λ a. IsTrue (is_sorted pair_cmp a.blocks.items) };
+    ghost invariant = { λ a. IsTrue (is_sorted pair_cmp a.pairs.items) };
 }
 
-/// What a job ends with: the moves that merge the classes, and a tight block for each pair of the table.
+/// What a job ends with: the moves that merge the classes, and a tight block for each pair of the table whose rules
+/// aren't tight.
 #[derive(Drop)]
 pub struct Swap {
     pub moves: Moves,
@@ -53,34 +55,51 @@ pub enum Progress {
     Ready(Swap),
 }
 
+/// The rules of a block that may be absent.
+fn rules_in(made: &Option<Block>) -> Option<&[Rule]>
+    ensures { option_copied result ≡ made.now }
+{
+    match made {
+        Some(block) => Some(block.rules()),
+        None => None,
+    }
+}
+
 impl Built {
     pub(crate) fn new(alloc: Global) -> Built
         ensures { result ≡ map.empty }
     {
         Built {
-            blocks: OrderedMap::new(alloc),
+            pairs: OrderedMap::new(alloc),
         }
     }
 
-    /// The rules that were built for a pair.
-    pub fn get(&self, pair: Pair) -> Option<&[Rule]>
-        ensures { option_copied result ≡ map.get self.now pair }
+    /// Whether a pair is built.
+    pub(crate) fn has(&self, pair: Pair) -> bool
+        ensures { result ≡ is_some (map.get self.now pair) }
     {
-        match self.blocks.get(&pair) {
-            Some(block) => Some(block.rules()),
+        self.pairs.get(&pair).is_some()
+    }
+
+    /// The other rules that were built for a pair; none where it keeps those it has.
+    pub fn get(&self, pair: Pair) -> Option<&[Rule]>
+        ensures { option_copied result ≡ others_of self.now pair }
+    {
+        match self.pairs.get(&pair) {
+            Some(made) => rules_in(made),
             None => None,
         }
     }
 
-    /// Takes the block of a pair out. It takes no memory.
+    /// Takes a pair out, and answers the block of other rules. It takes no memory.
     pub fn take(&mut self, pair: Pair) -> Option<Block>
-        ensures block { result ≡ map.get self.old pair }
+        ensures block { result ≡ others_of self.old pair }
         ensures rest { self.new ≡ map.remove self.old pair }
     {
-        self.blocks.remove(&pair)
+        self.pairs.remove(&pair).unwrap_or(None)
     }
 
-    /// Makes the rules of a pair tight and keeps them. It counts one step, even where memory is wanting.
+    /// Makes the rules of a pair tight, and keeps them where they weren't. It counts one step, even where memory is wanting.
     pub(crate) fn build<L: Ledger>(
         &mut self,
         alloc: Global,
@@ -92,12 +111,12 @@ impl Built {
         ensures unchanged { OnErr result (self.new ≡ self.old) }
         ensures step { steps.new ≡ steps.old + 1 }
     {
-        let block = build_tight(alloc, old, steps)?;
-        self.blocks.insert(pair, block)?;
+        let made = tightened(alloc, old, steps)?;
+        self.pairs.insert(pair, made)?;
         Ok(())
     }
 
-    /// Takes the blocks of these pairs out.
+    /// Takes these pairs out.
     pub(crate) fn take_each(&mut self, pairs: &[Pair])
         ensures { self.new ≡ without_each pairs.now self.old }
     {
