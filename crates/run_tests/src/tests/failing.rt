@@ -137,7 +137,7 @@ fn refused_cases<'c>() -> [Case<'c>; 4] {
         },
         Case {
             name: "the last write fails",
-            failing_writes: &[2],
+            failing_writes: &[1],
             status: Status::WriteFault,
             output: "1 refused line\n4 refused line\n",
             ..refused

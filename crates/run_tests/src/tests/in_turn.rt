@@ -5,8 +5,8 @@ use crate::{Given, Pace, over_streams, run_given};
 use replay_run::Status;
 use std::test::Fail;
 
-/// So many replies are written, each by one call.
-const REPLIES: u64 = 26;
+/// So many writes are made where a call takes all: the replies to the lines of a piece are written together.
+const WRITES: u64 = 1;
 
 /// So many reads are made where a call gives all that there is room for; the last finds the end.
 const READS: u64 = 2;
@@ -66,14 +66,14 @@ fn each_read_fails_in_turn(rt: HostRuntime) -> Result<(), Fail> {
 fn each_write_fails_in_turn(rt: HostRuntime) -> Result<(), Fail> {
     let given = Given::replay(REALISTIC_INPUT.as_bytes());
     let whole = run_given(&rt, given)?;
-    for write in 0..=REPLIES {
+    for write in 0..=WRITES {
         let failing = Given {
             failing_writes: &[write],
             ..given
         };
         let ended = run_given(&rt, failing)?;
         let failed = ended.status == Status::WriteFault;
-        assert!(rt; failed == (write < REPLIES), "write {write}");
+        assert!(rt; failed == (write < WRITES), "write {write}");
         assert!(rt; ended.output.is_empty() == (write == 0), "write {write}");
         let begins = whole.output.starts_with(ended.output.as_slice());
         assert!(rt; begins, "write {write}");
