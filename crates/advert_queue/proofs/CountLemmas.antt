@@ -4,7 +4,7 @@ use Rattle.std.specs.Prelude.{Option, Some, None, is_none, is_some, nat_eq}
 use Rattle.std.specs.Option.{option_map}
 use Rattle.std.specs.List.{list_any}
 use Rattle.std.specs.Ordering.{eq_by_cmp, is_eq, is_lt}
-use Rattle.std.specs.Cmp.{IsTotalOrder, alike_right, eq_by_cmp_equiv}
+use Rattle.std.specs.Cmp.{IsTotalOrder}
 use Rattle.std.specs.declared.cmp.Ordering.{Ordering}
 use Rattle.std.specs.declared.cmp.Ordering.TheVariants.{Less, Equal, Greater}
 use Rattle.std.specs.FinMap.{FinMap, get, remove, empty, entries, entries_sorted, from_sorted, entries-from_sorted, same_entries_map, get-entries, entries-insert}
@@ -15,11 +15,12 @@ use Rattle.events.specs.Tags.{same_tag, tells}
 use Rattle.events.specs.declared.Entry.{Entry}
 use Rattle.net_types.proofs.OrderLemmas.{prefixes_total, tags_total}
 use Rattle.net_types.proofs.PlaceLemmas.{entries_of_sorted, remove_sorted, without_sorted}
-use Rattle.net_types.proofs.TieLemmas.{nat_ties, prefix_cmp-IsAntisymmetric, same_from_tie, tag_cmp-IsAntisymmetric, tie_Equal, ties_itself}
+use Rattle.net_types.proofs.TieLemmas.{nat_ties, prefix_cmp-IsAntisymmetric, same_from_tie, tag_cmp-IsAntisymmetric, ties_itself}
 use Rattle.net_types.proofs.ValueLemmas.{no_entries}
 use Rattle.net_types.specs.Keys.{prefix_cmp, tag_cmp}
 use Rattle.net_types.specs.declared.address.Tag.{Tag}
 use Rattle.net_types.specs.declared.prefix.Prefix.{Prefix}
+use Rattle.ordered_map.proofs.ChangeLemmas.{find-changed}
 use Rattle.ordered_map.specs.Changes.{changed_at}
 use Rattle.ordered_map.specs.Entries.{without}
 use Rattle.advert_queue.proofs.RisingEntries.{find_without, without_first}
@@ -186,20 +187,6 @@ is_tag-itself t = is_tag_ties t t ∙ ap (λ b. let n : ℕ = cond b 1 0 in n) (
 is_tag-apart : (u t : Tag) → eq_by_cmp tag_cmp u t ≡ false → is_tag u t ≡ 0
 is_tag-apart u t apart = is_tag_ties u t ∙ ap (λ b. let n : ℕ = cond b 1 0 in n) apart
 
-here_or_not : (b : Bool) (f : Uses → Uses) (u : Uses) → ◌≡◌ {A = Option Uses} (Some (cond b (f u) u)) (cond b (Some (f u)) (Some u))
-here_or_not true f u = refl
-here_or_not false f u = refl
-
-find-changed : (t : Tag) (f : Uses → Uses) (u : Tag) (cs : List (Tag × Uses)) → find tag_cmp u (changed_at tag_cmp t f cs) ≡ cond (eq_by_cmp tag_cmp u t) (option_map f (find tag_cmp u cs)) (find tag_cmp u cs)
-find-changed t f u [] = elim (eq_by_cmp tag_cmp u t) as (λ b. ◌≡◌ {A = Option Uses} None (cond b None None)) [ true ↦ refl | false ↦ refl ]
-find-changed t f u (c ∷ cs) =
-    elim (eq_by_cmp tag_cmp u c.0) as (λ b. eq_by_cmp tag_cmp u c.0 ≡ b → cond b (Some (cond (eq_by_cmp tag_cmp t c.0) (f c.1) c.1)) (find tag_cmp u (changed_at tag_cmp t f cs)) ≡ cond (eq_by_cmp tag_cmp u t) (option_map f (cond b (Some c.1) (find tag_cmp u cs))) (cond b (Some c.1) (find tag_cmp u cs))) [
-      | true ↦ λ tie.
-          let same : eq_by_cmp tag_cmp t c.0 ≡ eq_by_cmp tag_cmp u t = ap is_eq (sym (alike_right tags_total u c.0 t (tie_Equal _ tie))) ∙ (eq_by_cmp_equiv tags_total).symm t u in
-          ap (λ b. Some (cond b (f c.1) c.1)) same ∙ here_or_not (eq_by_cmp tag_cmp u t) f c.1
-      | false ↦ λ apart. find-changed t f u cs
-    ] refl
-
 -- ---- a tag whose numbers are these now, or that has none
 
 abbrev HasNow : Tag → Option Uses → List (Tag × Uses) → List (Tag × Uses) → Type 0
@@ -207,7 +194,7 @@ HasNow t now cs ds = (u : Tag) → find tag_cmp u ds ≡ cond (eq_by_cmp tag_cmp
 
 now_changed : (t : Tag) (f : Uses → Uses) (cs ds : List (Tag × Uses)) → ds ≡ changed_at tag_cmp t f cs → HasNow t (option_map f (find tag_cmp t cs)) cs ds
 now_changed t f cs ds is u =
-    ap (find tag_cmp u) is ∙ find-changed t f u cs
+    ap (find tag_cmp u) is ∙ find-changed tag_cmp tags_total t f u cs
     ∙ elim (eq_by_cmp tag_cmp u t) as (λ b. eq_by_cmp tag_cmp u t ≡ b → cond b (option_map f (find tag_cmp u cs)) (find tag_cmp u cs) ≡ cond b (option_map f (find tag_cmp t cs)) (find tag_cmp u cs)) [
       | true ↦ λ tie. ap (λ v. option_map f (find tag_cmp v cs)) (tag_same u t tie)
       | false ↦ λ apart. refl

@@ -1,5 +1,5 @@
 -- Entries whose keys rise: one more behind them, and what the map has of each.
-use Rattle.std.proofs.Common.{◌≡◌, ℕ, suc, ◌+◌, ◌≤◌, arith, length, Bool, true, false, cond, ◌&&◌, T, List, [], ◌∷◌, ◌++◌, map, filter, sym, ap, subst, ◌∙◌, refl, inl, inr}
+use Rattle.std.proofs.Common.{◌≡◌, ℕ, suc, ◌+◌, ◌≤◌, arith, length, Bool, true, false, cond, T, List, [], ◌∷◌, ◌++◌, map, filter, sym, ap, subst, ◌∙◌, refl, inl, inr}
 use Rattle.std.specs.Prelude.{Some, None}
 use Rattle.std.specs.Cmp.{IsTotalOrder}
 use Rattle.std.specs.FinMap.{FinMap, insert, from_sorted, get-insert, same_map, IsAntisymmetric}
@@ -7,7 +7,7 @@ use Rattle.std.specs.FinMap.Entries.{find, is_sorted, below_all, find-append}
 use Rattle.std.specs.Ordering.{eq_by_cmp, is_eq, is_lt, ordering_reverse}
 use Rattle.std.specs.declared.cmp.Ordering.{Ordering}
 use Rattle.std.specs.declared.cmp.Ordering.TheVariants.{Less, Equal, Greater}
-use Rattle.std.proofs.lemmas.Bool.{and_parts}
+use Rattle.std.proofs.lemmas.Bool.{and_from, and_parts}
 use Rattle.std.proofs.lemmas.List.{append_assoc}
 use Rattle.events.specs.declared.Entry.{Entry}
 use Rattle.net_types.proofs.OrderLemmas.{prefixes_total}
@@ -17,9 +17,6 @@ use Rattle.net_types.proofs.ValueLemmas.{later_apart}
 use Rattle.net_types.specs.Keys.{prefix_cmp}
 use Rattle.net_types.specs.Sets.{Member}
 use Rattle.net_types.specs.declared.prefix.Prefix.{Prefix}
-
-both_true : (a b : Bool) → a ≡ true → b ≡ true → (a && b) ≡ true
-both_true a b e f = ap (λ x. x && b) e ∙ f
 
 less : (r : Ordering) → is_lt r ≡ true → r ≡ Less
 less Less e = refl
@@ -35,14 +32,14 @@ module _ {K X : Type 0} (R : K → K → Ordering) where
   below_front k [] ys below = refl
   below_front k (e ∷ xs) ys below =
       let parts = and_parts (is_lt (R k e.0)) (below_all R k (xs ++ ys)) below in
-      both_true _ _ parts.0 (below_front k xs ys parts.1)
+      and_from _ _ parts.0 (below_front k xs ys parts.1)
 
   -- a front of rising entries rises
   pub front_sorted : (xs ys : List (K × X)) → is_sorted R (xs ++ ys) ≡ true → is_sorted R xs ≡ true
   front_sorted [] ys sorted = refl
   front_sorted (e ∷ xs) ys sorted =
       let parts = and_parts (below_all R e.0 (xs ++ ys)) (is_sorted R (xs ++ ys)) sorted in
-      both_true _ _ (below_front e.0 xs ys parts.0) (front_sorted xs ys parts.1)
+      and_from _ _ (below_front e.0 xs ys parts.0) (front_sorted xs ys parts.1)
 
   below_here : (k : K) (xs : List (K × X)) (e : K × X) (ys : List (K × X)) → below_all R k (xs ++ e ∷ ys) ≡ true → R k e.0 ≡ Less
   below_here k [] e ys below = less _ (and_parts (is_lt (R k e.0)) (below_all R k ys) below).0

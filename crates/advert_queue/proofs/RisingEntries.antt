@@ -10,7 +10,7 @@ use Rattle.std.specs.FinMap.{from_sorted}
 use Rattle.std.specs.FinMap.Entries.{find, is_sorted, below_all, find-where_key, length-put, length_without, put}
 use Rattle.std.proofs.lemmas.Bool.{and_parts}
 use Rattle.net_types.proofs.OrderedLemmas.{any_member, member_any, ordered_is}
-use Rattle.net_types.proofs.PlaceLemmas.{entries_of_sorted}
+use Rattle.net_types.proofs.PlaceLemmas.{cond_not, entries_of_sorted}
 use Rattle.net_types.proofs.RisingLemmas.{before, keys-IsRising}
 use Rattle.net_types.specs.Sets.{IsRising, SameMembers}
 use Rattle.ordered_map.specs.Entries.{head_of, without}
@@ -23,10 +23,6 @@ less Greater e = cc
 holds : (b : Bool) → b ≡ true → T b
 holds true e = tt
 holds false e = cc
-
-cond_not : {A : Type 0} (b : Bool) (x y : A) → cond (not b) x y ≡ cond b y x
-cond_not true x y = refl
-cond_not false x y = refl
 
 -- a list that has a first item is that and the rest
 pub headed : {A : Type 0} (xs : List A) (x : A) → head_of xs ≡ Some x → xs ≡ x ∷ drop 1 xs

@@ -4,6 +4,7 @@ use Rattle.std.specs.FinMap.{FinMap, get, keys, values}
 use Rattle.events.specs.Pending.{same_entry}
 use Rattle.events.specs.declared.Entry.{Entry}
 use Rattle.net_types.specs.Attributes.{same_option}
+use Rattle.net_types.specs.Frames.{address_of}
 use Rattle.net_types.specs.Keys.{prefix_cmp, tag_cmp}
 use Rattle.net_types.specs.Maps.{ordered}
 use Rattle.net_types.specs.Updates.{announcement, withdrawal}
@@ -18,10 +19,6 @@ tags_of entries = ordered tag_cmp (map (λ (e : Entry). e.tag) (values entries))
 -- the prefixes at which what was told and what is present differ, in order
 abbrev pub pending : FinMap prefix_cmp Entry → FinMap prefix_cmp Entry → List Prefix
 pending told present = filter (λ p. not (same_option same_entry (get told p) (get present p))) (ordered prefix_cmp (keys told ++ keys present))
-
--- the address of a tag
-abbrev pub address_of : Ip → Tag → Ip
-address_of base t = record { 0 = base.0 + t.0 }
 
 -- a withdrawal, or an announcement with the tag's address as NEXT_HOP (RFC 4271 4.3)
 abbrev pub advert_with : Ip → Prefix → Option Entry → List ℕ

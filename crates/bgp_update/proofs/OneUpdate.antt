@@ -31,7 +31,7 @@ before_trans p q r e f = ap is_lt (prefixes_total.trans p q r (less (prefix_cmp 
 pub type_itself : (u : Unknown) → is_type_before u u ≡ true → ⊥
 type_itself u e = let l : u.kind < u.kind = ltb-true u.kind u.kind e in omega arith
 
-type_trans : (u v w : Unknown) → is_type_before u v ≡ true → is_type_before v w ≡ true → is_type_before u w ≡ true
+pub type_trans : (u v w : Unknown) → is_type_before u v ≡ true → is_type_before v w ≡ true → is_type_before u w ≡ true
 type_trans u v w e f =
     let a : u.kind < v.kind = ltb-true u.kind v.kind e in
     let b : v.kind < w.kind = ltb-true v.kind w.kind f in

@@ -19,8 +19,8 @@ abbrev pub size : {A : Type 0} → (A → List ℕ) → List A → ℕ
 size f xs = length (flat_map f xs)
 
 -- the length of an attribute whose value has n octets
-abbrev pub framed : ℕ → ℕ
-framed n = cond (leb n 255) (3 + n) (4 + n)
+abbrev pub framed_size : ℕ → ℕ
+framed_size n = cond (leb n 255) (3 + n) (4 + n)
 
 abbrev pub path_octets : Option (List Segment) → List ℕ
 path_octets None = []
@@ -78,11 +78,11 @@ narrower (Sequence ns ∷ path) =
     omega (arith, narrower path, shorts_len ns, longs_len ns, length-append (segment_octets (Sequence ns)) (flat_map segment_octets path), length-append (wide_segment_octets (Sequence ns)) (flat_map wide_segment_octets path))
 
 -- one attribute is no longer than two
-framed_sum : (k m n : ℕ) → k ≤ m + n → framed k ≤ framed m + framed n
+framed_sum : (k m n : ℕ) → k ≤ m + n → framed_size k ≤ framed_size m + framed_size n
 framed_sum k m n le =
-    let most : framed k ≤ 4 + k = cond_both (leb k 255) (3 + k) (4 + k) (λ (j : ℕ). j ≤ 4 + k) (λ t. omega arith) (λ t. omega arith) in
-    let one : 3 + m ≤ framed m = cond_both (leb m 255) (3 + m) (4 + m) (λ (j : ℕ). 3 + m ≤ j) (λ t. omega arith) (λ t. omega arith) in
-    let two : 3 + n ≤ framed n = cond_both (leb n 255) (3 + n) (4 + n) (λ (j : ℕ). 3 + n ≤ j) (λ t. omega arith) (λ t. omega arith) in
+    let most : framed_size k ≤ 4 + k = cond_both (leb k 255) (3 + k) (4 + k) (λ (j : ℕ). j ≤ 4 + k) (λ t. omega arith) (λ t. omega arith) in
+    let one : 3 + m ≤ framed_size m = cond_both (leb m 255) (3 + m) (4 + m) (λ (j : ℕ). 3 + m ≤ j) (λ t. omega arith) (λ t. omega arith) in
+    let two : 3 + n ≤ framed_size n = cond_both (leb n 255) (3 + n) (4 + n) (λ (j : ℕ). 3 + n ≤ j) (λ t. omega arith) (λ t. omega arith) in
     omega (arith, le, most, one, two)
 
 together_size : (path wide : List Segment) (b : Bool) → size segment_octets (cond b path (joined (leading (hops path - hops wide) path) wide)) ≤ size segment_octets path + size wide_segment_octets wide

@@ -1,12 +1,12 @@
 -- Lists of prefixes, ascending and each once, and what a search finds in them.
 use Rattle.std.proofs.Common.{◌≡◌, ℕ, zero, suc, ◌+◌, ◌<◌, Bool, true, false, not, ◌&&◌, ◌||◌, List, [], ◌∷◌, length, eqb, cond, filter, IsPermutation, Result, Ok, Err, refl, sym, ap, subst, ◌∙◌, inl, inr, arith}
-use Rattle.std.specs.Prelude.{◌⊎◌, slice_index_or, is_ok}
-use Rattle.std.specs.List.{AllByRecursion, Contains, dedup}
+use Rattle.std.specs.Prelude.{slice_index_or, is_ok}
+use Rattle.std.specs.List.{Contains, dedup}
 use Rattle.std.specs.List.Sorted.{IsBinarySearchResult, IsSearchInRange, IsSorted, IsSortedBy, IsStrictlySortedBy}
 use Rattle.std.specs.Cmp.{IsEquivalence}
-use Rattle.std.specs.Ordering.{eq_by_cmp, is_eq, is_lt, ordering_reverse}
+use Rattle.std.specs.Ordering.{eq_by_cmp, is_eq, is_lt}
 use Rattle.std.specs.declared.cmp.Ordering.{Ordering}
-use Rattle.std.specs.declared.cmp.Ordering.TheVariants.{Less, Equal, Greater}
+use Rattle.std.specs.declared.cmp.Ordering.TheVariants.{Less, Equal}
 use Rattle.std.proofs.lemmas.Bool.{and_parts, eqb-true, false≢true, cases_Bool, cases_lt, false_from_ne_true}
 use Rattle.std.proofs.lemmas.Bool.Decides.{nat_tests}
 use Rattle.std.proofs.lemmas.Cmp.{and_equiv, nat_eq_equiv, on_equiv, tied_itself}
@@ -16,6 +16,9 @@ use Rattle.net_types.proofs.OrderLemmas.{prefix_tie, prefixes_total}
 use Rattle.net_types.proofs.PrefixLemmas.{prefix_ext}
 use Rattle.net_types.specs.Keys.{prefix_cmp}
 use Rattle.bgp_update.specs.Answers.{is_among}
+use Rattle.net_types.proofs.MemberLemmas.{Contains-Member}
+use Rattle.net_types.proofs.OrderedLemmas.{each}
+use Rattle.net_types.proofs.TieLemmas.{backward, not_tied}
 use Rattle.net_types.specs.Sets.{IsRising, Member}
 use Rattle.net_types.specs.UpdateSpelling.{IsLeft, IsOrdered, IsOrderedWithout, is_before}
 use Rattle.net_types.specs.declared.prefix.Prefix.{Prefix}
@@ -29,16 +32,6 @@ member_from {A} xs x h = go xs h.0 h.1 h.2
     go [] k less e = absurd (omega arith)
     go (y ∷ ys) zero less e = inl (sym e)
     go (y ∷ ys) (suc k) less e = inr (go ys k (omega arith) e)
-
-pub contains_from : {A : Type 0} (xs : List A) (x : A) → Member x xs → Contains xs x
-contains_from [] x m = elim m [ ]
-contains_from (y ∷ ys) x (inl e) = (0, omega arith, sym e)
-contains_from (y ∷ ys) x (inr m) = let c = contains_from ys x m in (suc c.0, omega (arith, c.1), c.2)
-
-each : {A : Type 0} (P : A → Type 0) (xs : List A) (x : A) → AllByRecursion P xs → Member x xs → P x
-each P [] x h m = elim m [ ]
-each P (y ∷ ys) x h (inl e) = subst P (sym e) h.0
-each P (y ∷ ys) x h (inr m) = each P ys x h.1 m
 
 -- ---- sorted, each once
 
@@ -64,8 +57,8 @@ pub ordered : (xs ys : List Prefix) → IsPermutation xs ys → IsSorted prefix_
 ordered xs ys moved sorted = record {
   rising = rising (dedup same_prefix ys) (IsStrictlySortedBy-dedup prefixes_total same_ties ys sorted);
   same = record {
-    onto = λ x m. member_from xs x (Contains-permutation ys xs x (IsPermutation-sym xs ys moved) (Contains-from_dedup same_prefix ys x (contains_from _ x m)));
-    back = λ x m. member_from _ x (Contains-dedup same_equiv same_is ys x (Contains-permutation xs ys x moved (contains_from xs x m)));
+    onto = λ x m. member_from xs x (Contains-permutation ys xs x (IsPermutation-sym xs ys moved) (Contains-from_dedup same_prefix ys x (Contains-Member _ x m)));
+    back = λ x m. member_from _ x (Contains-dedup same_equiv same_is ys x (Contains-permutation xs ys x moved (Contains-Member xs x m)));
   };
 }
 
@@ -86,11 +79,6 @@ member_among p [] m = elim m [ ]
 member_among p (q ∷ ps) (inl e) = let t : eq_by_cmp prefix_cmp p q ≡ true = ap (eq_by_cmp prefix_cmp p) (sym e) ∙ tied p in rw t refl
 member_among p (q ∷ ps) (inr m) = let t = member_among p ps m in elim (cases_Bool (eq_by_cmp prefix_cmp p q)) [ inl same ↦ rw same refl | inr other ↦ rw other t ]
 
-backward : (r s : Ordering) → r ≡ ordering_reverse s → is_lt r ≡ true → is_lt s ≡ false
-backward r Less e h = let k : is_lt r ≡ false = ap is_lt e in absurd (false≢true (sym k ∙ h))
-backward r Equal e h = refl
-backward r Greater e h = refl
-
 -- a rising list is sorted
 sorted : (xs : List Prefix) → IsRising is_before xs → IsSortedBy (λ p q. is_lt (prefix_cmp p q)) xs
 sorted xs r k d low less = go xs r k less
@@ -103,10 +91,6 @@ sorted xs r k d low less = go xs r k less
         let e : suc k + 1 ≡ suc (k + 1) = omega arith in
         subst (λ (j : ℕ). is_lt (prefix_cmp (slice_index_or (x ∷ y ∷ ys) j d) (slice_index_or (y ∷ ys) k d)) ≡ false) (sym e) (go (y ∷ ys) r.1 k (omega arith))
 
-not_tied : (r : Ordering) → r ≡ Equal → (r ≡ Less) ⊎ (r ≡ Greater) → ⊥
-not_tied r e (inl h) = cc
-not_tied r e (inr h) = cc
-
 -- a search in a rising list finds what is there
 pub searched : (ps : List Prefix) (p : Prefix) (r : Result ℕ ℕ) → IsRising is_before ps → IsSearchInRange r (length ps) → IsBinarySearchResult (λ q. prefix_cmp q p) ps r → is_ok r ≡ is_among p ps
 searched ps p (Ok i) rise less found =
@@ -115,7 +99,7 @@ searched ps p (Ok i) rise less found =
     let same : slice_index_or ps i p ≡ p = prefix_tie (slice_index_or ps i p) p (ap is_eq tie) in
     sym (member_among p ps (member_from ps p (i, less, same)))
 searched ps p (Err i) rise less split = sym (false_from_ne_true (is_among p ps) (λ among.
-    let c = contains_from ps p (among_member p ps among) in
+    let c = Contains-Member ps p (among_member p ps among) in
     let halves = split (searchable_from_sorted prefixes_total (λ (q : Prefix). q) ps p (sorted ps rise)) in
     let tie : prefix_cmp (slice_index_or ps c.0 p) p ≡ Equal = ap (λ (q : Prefix). prefix_cmp q p) c.2 ∙ tied_itself prefixes_total p in
     not_tied (prefix_cmp (slice_index_or ps c.0 p) p) tie (elim (cases_lt c.0 i) [ inl low ↦ inl (halves.0 c.0 p (omega arith) low) | inr high ↦ inr (halves.1 c.0 p high c.1) ])))

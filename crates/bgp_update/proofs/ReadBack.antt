@@ -6,7 +6,7 @@ use Rattle.std.proofs.lemmas.List.{append-nil}
 use Rattle.grammar.specs.Formats.{AllSpell, ItemsSpell}
 use Rattle.net_types.proofs.SetLemmas.{same_refl}
 use Rattle.net_types.specs.Octets.{word}
-use Rattle.net_types.specs.SoundUpdates.{Each, HasSoundAttrs, IsSoundUpdate}
+use Rattle.net_types.specs.SoundUpdates.{HasSoundAttrs, IsSoundUpdate}
 use Rattle.net_types.specs.UpdateFormat.{Parts, attribute, head, is_complete, message, no_types, prefix, with_type}
 use Rattle.net_types.specs.UpdateSpelling.{AreAttrs, Spells}
 use Rattle.net_types.specs.UpdateValue.{said}
@@ -22,6 +22,7 @@ use Rattle.bgp_update.proofs.SpelledAttributes.{IsTaken, all_spell, octets_of, t
 use Rattle.bgp_update.proofs.SpelledMessages.{are_said, attributes_of, attrs_new, attrs_taken, optional_of, optional_written, prefixes_spell}
 use Rattle.bgp_update.specs.Answers.{AreNew, head_of, parts_of}
 use Rattle.bgp_update.specs.RoundTrip.{FitOptional}
+use Rattle.net_types.specs.Sets.{Each}
 
 -- ---- attributes where a prefix is announced
 

@@ -30,7 +30,7 @@ use Rattle.net_types.specs.declared.update.Update.{Update}
 use Rattle.bgp_update.proofs.Decoded.{spells_said}
 use Rattle.bgp_update.proofs.LengthSums.{attribute_length, attrs_length, longs_len, message_length, shorts_len}
 use Rattle.bgp_update.proofs.OneUpdate.{before_itself, type_itself}
-use Rattle.bgp_update.proofs.PathSizes.{framed, hops_size, path_octets, said_path_size, size, wide_size}
+use Rattle.bgp_update.proofs.PathSizes.{framed_size, hops_size, path_octets, said_path_size, size, wide_size}
 use Rattle.bgp_update.proofs.SoundReading.{AreOctets, behind, front, longs_count, words_count}
 use Rattle.bgp_update.proofs.SpelledAttributes.{octets_of}
 use Rattle.bgp_update.specs.Answers.{IsDecoded}
@@ -145,49 +145,49 @@ longs_size (a ∷ b ∷ []) = omega arith
 longs_size (a ∷ b ∷ c ∷ []) = omega arith
 longs_size (a ∷ b ∷ c ∷ d ∷ s) = let later = longs_size s in omega (arith, later)
 
-framed_more : (m n : ℕ) → m ≤ n → framed m ≤ framed n
+framed_more : (m n : ℕ) → m ≤ n → framed_size m ≤ framed_size n
 framed_more m n le =
-    cond_both (leb m 255) (3 + m) (4 + m) (λ (k : ℕ). k ≤ framed n)
+    cond_both (leb m 255) (3 + m) (4 + m) (λ (k : ℕ). k ≤ framed_size n)
     (λ t. cond_both (leb n 255) (3 + n) (4 + n) (λ (k : ℕ). 3 + m ≤ k) (λ u. omega (arith, le)) (λ u. omega (arith, le)))
     (λ t. cond_both (leb n 255) (3 + n) (4 + n) (λ (k : ℕ). 4 + m ≤ k) (λ u. let a : 255 < m = leb-false m 255 t in let b : n ≤ 255 = leb-true n 255 u in omega (arith, a, b, le)) (λ u. omega (arith, le)))
 
-written_size : (flags number n : ℕ) (inner : List ℕ) → length inner ≤ n → length (written.attribute flags number inner) ≤ framed n
-written_size flags number n inner le = subst (λ (k : ℕ). k ≤ framed n) (sym (attribute_length flags number inner)) (framed_more (length inner) n le)
+written_size : (flags number n : ℕ) (inner : List ℕ) → length inner ≤ n → length (written.attribute flags number inner) ≤ framed_size n
+written_size flags number n inner le = subst (λ (k : ℕ). k ≤ framed_size n) (sym (attribute_length flags number inner)) (framed_more (length inner) n le)
 
-wide_value_size : (ss : List Segment) (n : ℕ) → size wide_segment_octets ss ≤ n → length (octets_of (wide_value ss)) ≤ framed n
+wide_value_size : (ss : List Segment) (n : ℕ) → size wide_segment_octets ss ≤ n → length (octets_of (wide_value ss)) ≤ framed_size n
 wide_value_size [] n le = omega arith
 wide_value_size (s ∷ ss) n le = written_size 192 17 n (flat_map wide_segment_octets (s ∷ ss)) le
 
-is_wide_size : (inner : List ℕ) (x : Attribute) → IsWide inner x → length (octets_of x) ≤ framed (length inner)
-is_wide_size inner x (inl w) = subst (λ (y : Attribute). length (octets_of y) ≤ framed (length inner)) (sym w.2) (wide_value_size w.0 (length inner) (wide_path_size inner w.0 w.1))
-is_wide_size inner x (inr w) = subst (λ (y : Attribute). length (octets_of y) ≤ framed (length inner)) (sym w.2) (omega arith)
+is_wide_size : (inner : List ℕ) (x : Attribute) → IsWide inner x → length (octets_of x) ≤ framed_size (length inner)
+is_wide_size inner x (inl w) = subst (λ (y : Attribute). length (octets_of y) ≤ framed_size (length inner)) (sym w.2) (wide_value_size w.0 (length inner) (wide_path_size inner w.0 w.1))
+is_wide_size inner x (inr w) = subst (λ (y : Attribute). length (octets_of y) ≤ framed_size (length inner)) (sym w.2) (omega arith)
 
-known_size : (type : AttributeType) (partial : Bool) (inner b : List ℕ) (x : Attribute) → has_length (type_length type) (length inner) ≡ true → (known_value type partial inner).Spells b x → length (octets_of x) ≤ framed (length inner)
+known_size : (type : AttributeType) (partial : Bool) (inner b : List ℕ) (x : Attribute) → has_length (type_length type) (length inner) ≡ true → (known_value type partial inner).Spells b x → length (octets_of x) ≤ framed_size (length inner)
 unfolding ◌>>=◌
-known_size types.Origin partial inner b x len sp = let n : length inner ≡ 1 = eqb-true _ _ len in subst (λ (y : Attribute). length (octets_of y) ≤ framed (length inner)) (sym sp.5.1) (written_size 64 1 (length inner) (big_endian inner ∷ []) (omega (arith, n)))
-known_size types.AsPath partial inner b x len sp = subst (λ (y : Attribute). length (octets_of y) ≤ framed (length inner)) (sym sp.5.1) (written_size 64 2 (length inner) (flat_map segment_octets sp.2) (path_size inner sp.2 sp.4.1))
-known_size types.NextHop partial inner b x len sp = let n : length inner ≡ 4 = eqb-true _ _ len in subst (λ (y : Attribute). length (octets_of y) ≤ framed (length inner)) (sym sp.5.1) (written_size 64 3 (length inner) (address_octets (address inner)) (omega (arith, n)))
-known_size types.MultiExitDisc partial inner b x len sp = let n : length inner ≡ 4 = eqb-true _ _ len in subst (λ (y : Attribute). length (octets_of y) ≤ framed (length inner)) (sym sp.1) (written_size 128 4 (length inner) (long (big_endian inner)) (omega (arith, n)))
-known_size types.LocalPref partial inner b x len sp = subst (λ (y : Attribute). length (octets_of y) ≤ framed (length inner)) (sym sp.1) (omega arith)
-known_size types.AtomicAggregate partial inner b x len sp = subst (λ (y : Attribute). length (octets_of y) ≤ framed (length inner)) (sym sp.1) (written_size 64 6 (length inner) [] (omega arith))
+known_size types.Origin partial inner b x len sp = let n : length inner ≡ 1 = eqb-true _ _ len in subst (λ (y : Attribute). length (octets_of y) ≤ framed_size (length inner)) (sym sp.5.1) (written_size 64 1 (length inner) (big_endian inner ∷ []) (omega (arith, n)))
+known_size types.AsPath partial inner b x len sp = subst (λ (y : Attribute). length (octets_of y) ≤ framed_size (length inner)) (sym sp.5.1) (written_size 64 2 (length inner) (flat_map segment_octets sp.2) (path_size inner sp.2 sp.4.1))
+known_size types.NextHop partial inner b x len sp = let n : length inner ≡ 4 = eqb-true _ _ len in subst (λ (y : Attribute). length (octets_of y) ≤ framed_size (length inner)) (sym sp.5.1) (written_size 64 3 (length inner) (address_octets (address inner)) (omega (arith, n)))
+known_size types.MultiExitDisc partial inner b x len sp = let n : length inner ≡ 4 = eqb-true _ _ len in subst (λ (y : Attribute). length (octets_of y) ≤ framed_size (length inner)) (sym sp.1) (written_size 128 4 (length inner) (long (big_endian inner)) (omega (arith, n)))
+known_size types.LocalPref partial inner b x len sp = subst (λ (y : Attribute). length (octets_of y) ≤ framed_size (length inner)) (sym sp.1) (omega arith)
+known_size types.AtomicAggregate partial inner b x len sp = subst (λ (y : Attribute). length (octets_of y) ≤ framed_size (length inner)) (sym sp.1) (written_size 64 6 (length inner) [] (omega arith))
 known_size types.Aggregator partial inner b x len sp =
     let n : length inner ≡ 6 = eqb-true _ _ len in
-    subst (λ (y : Attribute). length (octets_of y) ≤ framed (length inner)) (sym sp.1) (written_size (passed_on partial) 7 (length inner) (word (big_endian (take 2 inner)) ++ address_octets (address (drop 2 inner))) (omega (arith, n)))
+    subst (λ (y : Attribute). length (octets_of y) ≤ framed_size (length inner)) (sym sp.1) (written_size (passed_on partial) 7 (length inner) (word (big_endian (take 2 inner)) ++ address_octets (address (drop 2 inner))) (omega (arith, n)))
 known_size types.Communities partial inner b x len sp =
-    subst (λ (y : Attribute). length (octets_of y) ≤ framed (length inner)) (sym sp.1) (written_size (passed_on partial) 8 (length inner) (flat_map long (longs inner)) (omega (arith, longs_len (longs inner), longs_size inner)))
+    subst (λ (y : Attribute). length (octets_of y) ≤ framed_size (length inner)) (sym sp.1) (written_size (passed_on partial) 8 (length inner) (flat_map long (longs inner)) (omega (arith, longs_len (longs inner), longs_size inner)))
 known_size types.As4Path partial inner b x len sp = is_wide_size inner x sp.1
 
-unknown_size : (transitive : Bool) (number : ℕ) (inner : List ℕ) → length (octets_of (unknown_value transitive number inner)) ≤ framed (length inner)
+unknown_size : (transitive : Bool) (number : ℕ) (inner : List ℕ) → length (octets_of (unknown_value transitive number inner)) ≤ framed_size (length inner)
 unknown_size true number inner = written_size 224 number (length inner) inner (omega arith)
 unknown_size false number inner = omega arith
 
-value_size : (t : Option AttributeType) (number flags : ℕ) (inner b : List ℕ) (x : Attribute) → (value t number flags inner).Spells b x → length (octets_of x) ≤ framed (length inner)
+value_size : (t : Option AttributeType) (number flags : ℕ) (inner b : List ℕ) (x : Attribute) → (value t number flags inner).Spells b x → length (octets_of x) ≤ framed_size (length inner)
 unfolding ◌>>=◌
-value_size None number flags inner b x sp = subst (λ (y : Attribute). length (octets_of y) ≤ framed (length inner)) (sym sp.5.1) (unknown_size _ number inner)
+value_size None number flags inner b x sp = subst (λ (y : Attribute). length (octets_of y) ≤ framed_size (length inner)) (sym sp.5.1) (unknown_size _ number inner)
 value_size (Some type) number flags inner b x sp = known_size type _ inner _ x sp.5.4.1 sp.5.5
 
 -- a length is at least one octet, and two where it is over 255
-length_size : (long : Bool) (s : List ℕ) (n : ℕ) → AreOctets s → (value_length long).Spells s n → framed n ≤ 2 + length s + n
+length_size : (long : Bool) (s : List ℕ) (n : ℕ) → AreOctets s → (value_length long).Spells s n → framed_size n ≤ 2 + length s + n
 unfolding ◌>>=◌
 length_size true s n h sp =
     let one = ap length sp.4 in
@@ -209,9 +209,9 @@ attribute_size seen s x h sp =
     let len : AreOctets sp2.0 = front _ sp2.0 sp2.1 sp2.3 h2 in
     let sp3 = sp2.5 in
     let n : length sp3.2 ≡ sp2.2 = ap length sp3.4.1 ∙ sp3.4.0 in
-    let inner : length (octets_of x) ≤ framed (length sp3.2) = value_size _ sp1.2 sp.2 sp3.2 _ x sp3.5.5 in
-    let frame : framed sp2.2 ≤ 2 + length sp2.0 + sp2.2 = length_size _ sp2.0 sp2.2 len sp2.4 in
-    let same : framed (length sp3.2) ≡ framed sp2.2 = ap (λ (k : ℕ). cond (leb k 255) (3 + k) (4 + k)) n in
+    let inner : length (octets_of x) ≤ framed_size (length sp3.2) = value_size _ sp1.2 sp.2 sp3.2 _ x sp3.5.5 in
+    let frame : framed_size sp2.2 ≤ 2 + length sp2.0 + sp2.2 = length_size _ sp2.0 sp2.2 len sp2.4 in
+    let same : framed_size (length sp3.2) ≡ framed_size sp2.2 = ap (λ (k : ℕ). cond (leb k 255) (3 + k) (4 + k)) n in
     omega (
       arith,
       inner,
@@ -289,7 +289,7 @@ module _ (s : Said) (a : Attrs) (k : AreSaid s a) where
 
   hops_said : hops a.path ≤ said_size s
   hops_said =
-      let whole : size segment_octets a.path ≤ framed (size segment_octets a.path) =
+      let whole : size segment_octets a.path ≤ framed_size (size segment_octets a.path) =
       cond_both (leb (size segment_octets a.path) 255) (3 + size segment_octets a.path) (4 + size segment_octets a.path) (λ (j : ℕ). size segment_octets a.path ≤ j) (λ t. omega arith) (λ t. omega arith) in
       omega (arith, path_said, hops_size a.path, whole, attribute_length 64 2 (flat_map segment_octets a.path))
 

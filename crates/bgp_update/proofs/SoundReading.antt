@@ -10,8 +10,8 @@ use Rattle.grammar.specs.Numbers.{big_endian}
 use Rattle.net_types.specs.AttributeTypes.{has_length, type_length, type_of}
 use Rattle.net_types.proofs.SetLemmas.{empty_same, same_sym}
 use Rattle.net_types.specs.Paths.{hops, joined, leading, merged_sequence, whole_path}
-use Rattle.net_types.specs.Sets.{Member, SameMembers}
-use Rattle.net_types.specs.SoundUpdates.{AreSoundAttrs, Each, HasSoundAttrs, IsSoundAggregator, IsSoundNextHop, IsSoundSegment, IsSoundUpdate}
+use Rattle.net_types.specs.Sets.{Each, Member, SameMembers}
+use Rattle.net_types.specs.SoundUpdates.{AreSoundAttrs, HasSoundAttrs, IsSoundAggregator, IsSoundNextHop, IsSoundSegment, IsSoundUpdate}
 use Rattle.net_types.specs.UpdateFormat.{Head, IsWide, Parts, address, attribute, head, known_value, longs, message, segment, segment_by, segment_of, unknown_value, value, wide_segment, wide_value, with_type, words}
 use Rattle.net_types.specs.UpdateSpelling.{AreAttrs, AreSaid, IsUpdateOf, Spells}
 use Rattle.net_types.specs.UpdateValue.{Said, nothing_said, said, with_attribute}
@@ -51,7 +51,7 @@ each_of P [] x h m = elim m [ ]
 each_of P (y ∷ xs) x h (inl e) = subst P (sym e) h.0
 each_of P (y ∷ xs) x h (inr m) = each_of P xs x h.1 m
 
-of_each : {A : Type 0} (P : A → Type 0) (xs : List A) → ((x : A) → Member x xs → P x) → Each P xs
+pub of_each : {A : Type 0} (P : A → Type 0) (xs : List A) → ((x : A) → Member x xs → P x) → Each P xs
 of_each P [] h = tt
 of_each P (x ∷ xs) h = (h x (inl refl), of_each P xs (λ y m. h y (inr m)))
 

@@ -7,7 +7,7 @@ use Rattle.grammar.specs.Formats.{AllSpell, Format, ItemsSpell, ◌>>=◌, octet
 use Rattle.grammar.specs.Numbers.{big_endian, two_octets}
 use Rattle.net_types.specs.AttributeTypes.{type_of}
 use Rattle.net_types.specs.Octets.{address_octets, word}
-use Rattle.net_types.specs.SoundUpdates.{Each, IsSoundNextHop, IsSoundSegment}
+use Rattle.net_types.specs.SoundUpdates.{IsSoundNextHop, IsSoundSegment}
 use Rattle.net_types.specs.UpdateFormat.{attribute, is_long, known_value, longs, segment, segment_by, segment_of, value, number_of, value_length, wide_segment, wide_value, with_type, words}
 use Rattle.net_types.specs.Updates as written
 use Rattle.net_types.specs.Updates.{long, passed_on, segment_octets, short, wide_segment_octets}
@@ -21,6 +21,7 @@ use Rattle.net_types.specs.declared.route.Unknown.{Unknown}
 use Rattle.net_types.specs.declared.update.Fault.{Fault}
 use Rattle.bgp_update.proofs.LengthSums.{attribute_length, longs_len, shorts_len}
 use Rattle.bgp_update.specs.Answers.{AreNew}
+use Rattle.net_types.specs.Sets.{Each}
 
 -- one after another
 pub then_spells : {F X Y : Type 0} (f : Format F X) (g : X → Format F Y) (a b : List ℕ) (x : X) (y : Y) → f.Spells a x → (g x).Spells b y → (f >>= g).Spells (a ++ b) y

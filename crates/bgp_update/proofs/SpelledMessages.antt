@@ -13,13 +13,13 @@ use Rattle.net_types.specs.AttributeTypes.{type_of}
 use Rattle.net_types.specs.Bits.{same_bits}
 use Rattle.net_types.specs.Octets.{address_octets}
 use Rattle.net_types.specs.Paths.{has_wide}
-use Rattle.net_types.specs.Sets.{IsRising, Member, SameMembers}
-use Rattle.net_types.specs.SoundUpdates.{AreSoundAttrs, Each, IsSoundAggregator, IsSoundSegment}
+use Rattle.net_types.specs.Sets.{Each, IsRising, Member, SameMembers}
+use Rattle.net_types.specs.SoundUpdates.{AreSoundAttrs, IsSoundAggregator, IsSoundSegment}
 use Rattle.net_types.specs.UpdateFormat.{no_types, number_of, padded, prefix, with_type}
 use Rattle.net_types.specs.UpdateSpelling.{AreSaid, is_type_before}
 use Rattle.net_types.specs.UpdateValue.{Said, nothing_said, said, with_attribute}
 use Rattle.net_types.specs.Updates as written
-use Rattle.net_types.specs.Updates.{aggregator_octets, atomic_octets, attrs_octets, canonical, communities_octets, marker, med_octets, optional_attrs_octets, prefix_octets, prefixes_octets, unknown_octets, update_message, wide_octets, wide_segment_octets}
+use Rattle.net_types.specs.Updates.{aggregator_octets, atomic_octets, attrs_octets, communities_octets, med_octets, optional_attrs_octets, prefix_octets, prefixes_octets, unknown_octets, wide_octets, wide_segment_octets}
 use Rattle.net_types.specs.declared.address.Ip.{Ip}
 use Rattle.net_types.specs.declared.attribute.Attribute.{Attribute}
 use Rattle.net_types.specs.declared.attribute.Attribute.TheVariants as attributes
@@ -29,10 +29,12 @@ use Rattle.net_types.specs.declared.route.Attrs.{Attrs}
 use Rattle.net_types.specs.declared.route.Segment.{Segment}
 use Rattle.net_types.specs.declared.route.Unknown.{Unknown}
 use Rattle.bgp_update.proofs.LengthSums.{is_highest, is_lowest, is_middle}
+use Rattle.bgp_update.proofs.SoundReading.{of_each}
 use Rattle.bgp_update.proofs.SpelledAttributes.{IsTaken, octets_of, path_told, then_spells, told_segment}
 use Rattle.bgp_update.proofs.ToldPaths.{whole_back, wide_told}
 use Rattle.bgp_update.specs.Answers.{AreNew}
 use Rattle.bgp_update.specs.RoundTrip.{FitAttrs, FitsAggregator, FitsMed}
+use Rattle.net_types.proofs.RisingLemmas.{Member-filter}
 
 -- ---- prefixes
 
@@ -265,10 +267,6 @@ unfolding Ascends
 ascends_append b m [] ys h each le later = later b le
 ascends_append b m (x ∷ xs) ys h each le later = (h.0, ascends_append (suc (number_of x)) m xs ys h.1 each.1 (omega (arith, each.0)) later)
 
-each_of : {A : Type 0} (P : A → Type 0) (xs : List A) → ((x : A) → Member x xs → P x) → Each P xs
-each_of P [] h = tt
-each_of P (x ∷ xs) h = (h x (inl refl), each_of P xs (λ y m. h y (inr m)))
-
 from_case : {A : Type 0} (y x : A) (xs ys : List A) (b : Bool) → (Member x ys → Member x xs) → Member x (cond b (y ∷ ys) ys) → Member x (y ∷ xs)
 from_case y x xs ys true later (inl e) = inl e
 from_case y x xs ys true later (inr n) = inr (later n)
@@ -278,11 +276,6 @@ filter_from : {A : Type 0} (test : A → Bool) (xs : List A) (x : A) → Member 
 filter_from test [] x m = elim m [ ]
 filter_from test (y ∷ xs) x m = from_case y x xs (filter test xs) (test y) (filter_from test xs x) m
 
-filter_keeps : {A : Type 0} (test : A → Bool) (xs : List A) (x : A) → Member x xs → test x ≡ true → Member x (filter test xs)
-filter_keeps test [] x m t = elim m [ ]
-filter_keeps test (y ∷ xs) x (inl e) t = let u : test y ≡ true = ap test (sym e) ∙ t in rw u (inl e)
-filter_keeps test (y ∷ xs) x (inr m) t = let n = filter_keeps test xs x m t in elim (cases_Bool (test y)) [ inl u ↦ rw u (inr n) | inr f ↦ rw f n ]
-
 rising_filter : (test : Unknown → Bool) (us : List Unknown) → IsRising is_type_before us → IsRising is_type_before (filter test us)
 rising_filter test [] r = tt
 rising_filter test (u ∷ us) r = elim (cases_Bool (test u)) [ inl t ↦ rw t (λ v m. r.0 v (filter_from test us v m), rising_filter test us r.1) | inr f ↦ rw f (rising_filter test us r.1) ]
@@ -290,7 +283,7 @@ rising_filter test (u ∷ us) r = elim (cases_Bool (test u)) [ inl t ↦ rw t (�
 unknowns_ascend : (b : ℕ) (us : List Unknown) → IsRising is_type_before us → Each (λ (u : Unknown). b ≤ u.kind) us → Ascends b (unknowns us)
 unfolding Ascends
 unknowns_ascend b [] r h = tt
-unknowns_ascend b (u ∷ us) r h = (h.0, unknowns_ascend (suc u.kind) us r.1 (each_of _ us (λ v m. let less : u.kind < v.kind = ltb-true u.kind v.kind (r.0 v m) in omega arith)))
+unknowns_ascend b (u ∷ us) r h = (h.0, unknowns_ascend (suc u.kind) us r.1 (of_each _ us (λ v m. let less : u.kind < v.kind = ltb-true u.kind v.kind (r.0 v m) in omega arith)))
 
 -- a type that isn't known and isn't 0 is above all that are
 above_known : (k : ℕ) → type_of k ≡ None → 1 ≤ k → 9 ≤ k
@@ -465,10 +458,10 @@ attrs_said a s =
 in_some_band : (us : List Unknown) → SameMembers us ((filter is_lowest us ++ filter is_middle us) ++ filter is_highest us)
 in_some_band us = record {
   onto = λ u m. elim (cases_lt u.kind 1) [
-    | inl less ↦ Member-append_left (filter is_lowest us ++ filter is_middle us) _ u (Member-append_left (filter is_lowest us) _ u (filter_keeps is_lowest us u m (lt-ltb u.kind 1 less)))
+    | inl less ↦ Member-append_left (filter is_lowest us ++ filter is_middle us) _ u (Member-append_left (filter is_lowest us) _ u (Member-filter is_lowest us u m (lt-ltb u.kind 1 less)))
     | inr some ↦ elim (cases_lt u.kind 17) [
-      | inl less ↦ Member-append_left (filter is_lowest us ++ filter is_middle us) _ u (Member-append_right (filter is_lowest us) _ u (filter_keeps is_middle us u m (and_from _ _ (le-leb 1 u.kind some) (lt-ltb u.kind 17 less))))
-      | inr more ↦ Member-append_right (filter is_lowest us ++ filter is_middle us) _ u (filter_keeps is_highest us u m (le-leb 17 u.kind more))
+      | inl less ↦ Member-append_left (filter is_lowest us ++ filter is_middle us) _ u (Member-append_right (filter is_lowest us) _ u (Member-filter is_middle us u m (and_from _ _ (le-leb 1 u.kind some) (lt-ltb u.kind 17 less))))
+      | inr more ↦ Member-append_right (filter is_lowest us ++ filter is_middle us) _ u (Member-filter is_highest us u m (le-leb 17 u.kind more))
     ]
   ];
   back = λ u m. elim (Member-append_cases (filter is_lowest us ++ filter is_middle us) _ u m) [

@@ -5,10 +5,11 @@ use Rattle.std.specs.List.{list_any}
 use Rattle.std.proofs.lemmas.Bool.{false_from_ne_true, leb-false, leb-true, ltb-true, or_parts}
 use Rattle.std.proofs.lemmas.List.Sums.{sum_by-cons}
 use Rattle.net_types.specs.Paths.{asns, has_wide, hops, hops_of, leading, whole_path}
-use Rattle.net_types.specs.SoundUpdates.{Each, IsSoundSegment}
+use Rattle.net_types.specs.SoundUpdates.{IsSoundSegment}
 use Rattle.net_types.specs.declared.route.Segment.{Segment}
 use Rattle.net_types.specs.declared.route.Segment.TheVariants.{Set, Sequence}
 use Rattle.bgp_update.proofs.SpelledAttributes.{length_told, told, told_same, told_segment}
+use Rattle.net_types.specs.Sets.{Each}
 
 -- AS4_PATH where it is written
 abbrev pub wide_told : List Segment → Option (List Segment)

@@ -14,8 +14,9 @@ use Rattle.net_types.specs.UpdateValue.{Said, nothing_said, said, with_attribute
 use Rattle.net_types.specs.declared.attribute.Attribute.{Attribute}
 use Rattle.net_types.specs.declared.attribute.Attribute.TheVariants as attributes
 use Rattle.net_types.specs.declared.route.Unknown.{Unknown}
-use Rattle.bgp_update.proofs.PrefixLists.{contains_from, member_from}
+use Rattle.bgp_update.proofs.PrefixLists.{member_from}
 use Rattle.bgp_update.specs.Answers.{AreNew}
+use Rattle.net_types.proofs.MemberLemmas.{Contains-Member}
 
 -- the unknown attribute that an attribute is
 abbrev pub unknown_in : Attribute → List Unknown
@@ -119,7 +120,7 @@ rising_unknowns (u ∷ us) h once = (λ v m. above v m, rising_unknowns us (tail
   where
     above : (v : Unknown) → Member v us → is_type_before u v ≡ true
     above v m =
-        let c = contains_from us v m in
+        let c = Contains-Member us v m in
         let le : u.kind ≤ (slice_index_or us c.0 v).kind = h 0 (suc c.0) v (omega arith) (omega (arith, c.1)) in
         let at : (slice_index_or us c.0 v).kind ≡ v.kind = ap (λ (w : Unknown). w.kind) c.2 in
         elim (cases_lt u.kind v.kind) [
@@ -134,8 +135,8 @@ rising_unknowns (u ∷ us) h once = (λ v m. above v m, rising_unknowns us (tail
 -- a permutation has the same members
 pub moved_members : {A : Type 0} (xs ys : List A) → IsPermutation xs ys → SameMembers ys xs
 moved_members xs ys moved = record {
-  onto = λ x m. member_from xs x (Contains-permutation ys xs x (IsPermutation-sym xs ys moved) (contains_from ys x m));
-  back = λ x m. member_from ys x (Contains-permutation xs ys x moved (contains_from xs x m));
+  onto = λ x m. member_from xs x (Contains-permutation ys xs x (IsPermutation-sym xs ys moved) (Contains-Member ys x m));
+  back = λ x m. member_from ys x (Contains-permutation xs ys x moved (Contains-Member xs x m));
 }
 
 -- so do the sorted unknown attributes of what is said

@@ -1,11 +1,12 @@
 -- The update that is made of a message's parts is theirs.
-use Rattle.std.proofs.Common.{◌≡◌, ℕ, ◌<◌, ◌≤◌, Bool, true, false, cond, List, [], ◌∷◌, eqb, refl, sym, ap, ◌∙◌, inl, inr, arith}
+use Rattle.bgp_update.proofs.OneUpdate.{type_trans}
+use Rattle.std.proofs.Common.{◌≡◌, ℕ, ◌≤◌, Bool, true, false, cond, List, [], ◌∷◌, eqb, refl, sym, ap, ◌∙◌, inl, inr, arith}
 use Rattle.std.specs.Prelude.{Option, Some, None, is_some, ◌&&◌}
 use Rattle.std.specs.FinMap.{contains_key-keys}
 use Rattle.std.specs.List.{list_any}
 use Rattle.std.specs.Option.{option_and_then, option_map}
 use Rattle.std.specs.Ordering.{eq_by_cmp}
-use Rattle.std.proofs.lemmas.Bool.{eq-eqb, false≢true, lt-ltb, ltb-false, ltb-true}
+use Rattle.std.proofs.lemmas.Bool.{eq-eqb, false≢true, lt-ltb, ltb-false}
 use Rattle.std.proofs.lemmas.List.Sums.{sum_by-cons}
 use Rattle.net_types.proofs.FindLemmas.{is_some-cond}
 use Rattle.net_types.proofs.MapLemmas.{get-tabulate}
@@ -83,12 +84,6 @@ after : (u v : Unknown) → is_type_before v u ≡ false → (u.kind ≡ v.kind 
 after u v e apart =
     let le : u.kind ≤ v.kind = ltb-false v.kind u.kind e in
     lt-ltb u.kind v.kind (omega (arith, le, apart))
-
-type_trans : (u v w : Unknown) → is_type_before u v ≡ true → is_type_before v w ≡ true → is_type_before u w ≡ true
-type_trans u v w e f =
-    let a : u.kind < v.kind = ltb-true u.kind v.kind e in
-    let b : v.kind < w.kind = ltb-true v.kind w.kind f in
-    lt-ltb u.kind w.kind (omega arith)
 
 rising_case : (u v : Unknown) (vs : List Unknown) (b : Bool) → is_type_before v u ≡ b → IsRising is_type_before (v ∷ vs) → (u.kind ≡ v.kind → ⊥) → IsRising is_type_before (insert_unknown u vs)
     → IsRising is_type_before (cond b (v ∷ insert_unknown u vs) (u ∷ v ∷ vs))

@@ -1,6 +1,6 @@
 -- Numbers that fit their types in an update, as they do in each value of the program.
+use Rattle.net_types.specs.Sets.{Each}
 use Rattle.std.specs.Prelude.{ℕ, ◌<◌, Option, Some, None}
-use Rattle.net_types.specs.SoundUpdates.{Each}
 use Rattle.net_types.specs.declared.route.Aggregator.{Aggregator}
 use Rattle.net_types.specs.declared.route.Attrs.{Attrs}
 

@@ -1,7 +1,8 @@
 //! The laws of the codec: what is written is read as what it was.
 
 ghost use Rattle.std.specs.Prelude.{◌≡◌, ◌<◌, ◌≤◌, ◌↔◌, ℕ, List, [], ◌∷◌, length, Some, None, Ok, Err};
-ghost use Rattle.net_types.specs.SoundUpdates.{Each, IsSoundUpdate};
+ghost use Rattle.net_types.specs.Sets.{Each};
+ghost use Rattle.net_types.specs.SoundUpdates.{IsSoundUpdate};
 ghost use Rattle.net_types.specs.UpdateReading.{decoded};
 ghost use Rattle.net_types.specs.UpdateSpelling.{IsFault, Spells};
 ghost use Rattle.net_types.specs.Updates.{announcement, canonical, withdrawal};

@@ -8,20 +8,10 @@ ghost use Rattle.net_types.specs.Paths.{asns, has_wide, hops, hops_of, joined, l
 use net_types::{Asns, Items, Memory, Segment, Segments, TryCopy};
 use std::alloc::Global;
 
-/// The AS numbers of a segment.
-fn asns(segment: &Segment) -> &[u32]
-    ensures { result.now ≡ asns segment.now }
-{
-    match segment {
-        Segment::Set(asns) => asns.items(),
-        Segment::Sequence(asns) => asns.items(),
-    }
-}
-
 fn is_wide(segment: &Segment) -> bool
     ensures { result ≡ list_any (nat_le 65536) (asns segment.now) }
 {
-    asns(segment).iter().any(|asn| 65536 <= *asn)
+    segment.asns().iter().any(|asn| 65536 <= *asn)
 }
 
 /// Whether some AS number of a path takes more than two octets.
@@ -79,7 +69,7 @@ fn first_of(alloc: Global, count: usize, segment: &Segment) -> Result<Segment, M
     ensures { IfOk result (λ s. s ≡ Sequence (take count (asns segment.now))) }
 {
     let mut first = Items::new(alloc);
-    push_numbers(&mut first, &asns(segment)[..count])?;
+    push_numbers(&mut first, &segment.asns()[..count])?;
     Ok(Segment::Sequence(first))
 }
 

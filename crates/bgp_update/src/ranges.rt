@@ -2,7 +2,7 @@
 
 ghost use Rattle.std.specs.Prelude.{◌<◌};
 ghost use Rattle.bgp_update.specs.RoundTrip.{FitAttrs, FitOptional, FitsAggregator, FitsMed};
-ghost use Rattle.net_types.specs.SoundUpdates.{Each};
+ghost use Rattle.net_types.specs.Sets.{Each};
 
 use net_types::{Aggregator, Attrs};
 

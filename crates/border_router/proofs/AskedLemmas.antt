@@ -1,5 +1,5 @@
 -- Addresses, ascending and each once.
-use Rattle.std.proofs.Common.{◌≡◌, List, [], IsPermutation}
+use Rattle.std.proofs.Common.{◌≡◌, List, IsPermutation}
 use Rattle.std.specs.List.{dedup}
 use Rattle.std.specs.List.Sorted.{IsSorted}
 use Rattle.std.specs.Cmp.{unsigned_ties}

@@ -3,7 +3,7 @@ use Rattle.std.proofs.Common.{◌≡◌, Bool, ℕ, suc, ◌+◌, ◌/◌, ◌%�
 use Rattle.std.specs.Prelude.{Option, Some, None, nat_le, nat_lt, ◌&&◌}
 use Rattle.std.specs.Option.{option_map}
 use Rattle.net_types.specs.Octets.{address_octets, word}
-use Rattle.net_types.specs.SoundUpdates.{Each, HasSoundAttrs, IsSoundUpdate}
+use Rattle.net_types.specs.SoundUpdates.{HasSoundAttrs, IsSoundUpdate}
 use Rattle.net_types.specs.UpdateSpelling.{Spells}
 use Rattle.net_types.specs.Updates.{aggregator_octets, atomic_octets, attribute, attrs_octets, canonical, communities_octets, long, marker, med_octets, optional_attrs_octets, passed_on, prefixes_octets, segment_octets, unknown_octets, update_message, wide_octets}
 use Rattle.net_types.specs.declared.prefix.Prefix.{Prefix}
@@ -13,6 +13,7 @@ use Rattle.net_types.specs.declared.route.Unknown.{Unknown}
 use Rattle.net_types.specs.declared.update.Update.{Update}
 use Rattle.bgp_update.specs.RoundTrip.{FitOptional, FitsAggregator, FitsMed}
 use Rattle.border_router.specs.Hearing.{IsMessageOf, news_of}
+use Rattle.net_types.specs.Sets.{Each}
 
 -- the lowest 32 bits
 abbrev fitted : ℕ → ℕ

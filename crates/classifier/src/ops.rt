@@ -11,7 +11,7 @@ ghost use Rattle.classifier.specs.Lines.{add_lines, product, composed};
 ghost use Rattle.classifier.specs.declared.line.Line.{Line as AnyLine};
 ghost use Rattle.net_types.specs.Headers.{no_change};
 ghost use Rattle.net_types.specs.Cubes.{has, everything};
-ghost use Rattle.classifier.specs.Meaning.{otherwise, only_where_none, Follows, carried, IsTight};
+ghost use Rattle.classifier.specs.Meaning.{otherwise, only_where_none, Follows, carried, AreTightLines};
 ghost use Rattle.classifier.specs.Classifiers.{lines_of, meaning, cubes_of, assigns_of};
 
 use crate::classifier::Classifier;
@@ -83,7 +83,7 @@ pub fn sequence(alloc: Global, a: &Classifier, b: &Classifier) -> Result<Classif
 /// cube which holds the run doesn't hold.
 pub fn tighten(alloc: Global, a: &Classifier) -> Result<Classifier, Memory>
     ensures same { IfOk result (λ c. (h : AnyHeaders) (l : AnyLoc) → meaning c h l ≡ meaning a.now h l) }
-    ensures tight { IfOk result (λ c. IsTight (lines_of c)) }
+    ensures tight { IfOk result (λ c. AreTightLines (lines_of c)) }
     ensures fewer { IfOk result (λ c. length (lines_of c) ≤ length (lines_of a.now)) }
     ensures stand { IfOk result (λ c. (x : AnyLine) → Member x (lines_of c) → Member x (lines_of a.now)) }
 {

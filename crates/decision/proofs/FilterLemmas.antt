@@ -84,3 +84,8 @@ filter_false (x ∷ xs) = filter_false xs
 
 pub filter_none : {X : Type 0} (t : X → Bool) (xs : List X) → list_all (λ x. not (t x)) xs ≡ true → filter t xs ≡ []
 filter_none t xs all = filter_same t (λ x. false) (λ x. not (t x)) (λ x h. not-true (t x) h) xs all ∙ filter_false xs
+
+-- tests that agree keep the same
+pub same_filter : {X : Type 0} (t u : X → Bool) → ((x : X) → t x ≡ u x) → (xs : List X) → filter t xs ≡ filter u xs
+same_filter t u h [] = refl
+same_filter t u h (x ∷ xs) = ap (λ b. cond b (x ∷ filter t xs) (filter t xs)) (h x) ∙ ap (λ ys. cond (u x) (x ∷ ys) ys) (same_filter t u h xs)

@@ -5,8 +5,9 @@ use Rattle.std.specs.Option.{option_and_then, option_map}
 use Rattle.decision.specs.Passes.{best_by, best_place, numbered}
 use Rattle.decision.specs.declared.candidate.Candidate.{Candidate}
 use Rattle.decision.specs.Passes.{would_lead, lead_of, is_kept, pick}
+use Rattle.decision.proofs.FilterLemmas.{same_filter}
 use Rattle.decision.proofs.WinnerLemmas.{picked_best, numbered-map}
-use Rattle.std.specs.Prelude.{unwrap_or, filter}
+use Rattle.std.specs.Prelude.{unwrap_or}
 use Rattle.std.specs.List.{list_any, list_all}
 use Rattle.std.proofs.Common.{arith, not, ◌||◌, eqb, ltb, leb}
 use Rattle.std.proofs.lemmas.Bool.Decides.{nat_tests}
@@ -55,10 +56,6 @@ best_at_place seen (x ∷ xs) =
     ∙ t.same
     ∙ ap (option_and_then (λ (p : ℕ × Candidate). slice_get (x ∷ xs) p.0)) (picked_best (λ (p : ℕ × Candidate). p.1) l c cs (numbered 0 (c ∷ cs)) (numbered-map 0 (c ∷ cs)) refl)
     ∙ at_place (x ∷ xs) (best_by (λ (p : ℕ × Candidate). p.1) (numbered 0 (c ∷ cs)))
-
-same_filter : {X : Type 0} (t u : X → Bool) → ((x : X) → t x ≡ u x) → (xs : List X) → filter t xs ≡ filter u xs
-same_filter t u h [] = refl
-same_filter t u h (x ∷ xs) = ap (λ b. cond b (x ∷ filter t xs) (filter t xs)) (h x) ∙ ap (λ ys. cond (u x) (x ∷ ys) ys) (same_filter t u h xs)
 
 -- a route is no worse than one of the same AS where that one doesn't beat it
 de_morgan : (a b : Bool) → not (a || b) ≡ (not a && not b)

@@ -13,7 +13,7 @@ use Rattle.decision.specs.Passes.{least_by, unbeaten, best_by, best_place, numbe
 use Rattle.net_types.specs.Routes.{first_of_list}
 use Rattle.decision.specs.declared.candidate.Candidate.{Candidate}
 use Rattle.decision.specs.Passes.{is_ahead, is_even, precedes, lead_of, would_lead, is_kept, pick}
-use Rattle.decision.proofs.FilterLemmas.{all_weaker, filter_twice, any-filter, all-filter, any_weaker, least_by_is, filter_none}
+use Rattle.decision.proofs.FilterLemmas.{all_weaker, filter_twice, any-filter, all-filter, any_weaker, least_by_is, filter_none, same_filter}
 
 -- the first pair is before the second
 abbrev lex : ℕ → ℕ → ℕ → ℕ → Bool
@@ -147,10 +147,6 @@ leads_first {X} seen w xs l =
     ∙ ap (λ ys. ys ++ filter (λ d. A d && B d) (w ∷ l.after)) (filter_none (λ d. A d && B d) l.before (all_weaker (λ d. precedes (seen w) (seen d)) (λ d. not (A d && B d)) (λ d g. lex_apart (seen w).id.0 (seen w).peer.0 (seen d).id.0 (seen d).peer.0 g) l.before l.front)))
     ∙ first_kept w l.after (λ d. A d && B d) (and_from (A w) (B w) (eqb_self (seen w).id.0) (eqb_self (seen w).peer.0))
 
-filter_alike : {X : Type 0} (t u : X → Bool) → ((x : X) → t x ≡ u x) → (xs : List X) → filter t xs ≡ filter u xs
-filter_alike t u h [] = refl
-filter_alike t u h (x ∷ xs) = ap (λ b. cond b (x ∷ filter t xs) (filter t xs)) (h x) ∙ ap (λ ys. cond (u x) (x ∷ ys) ys) (filter_alike t u h xs)
-
 any-map : {X : Type 0} (seen : X → Candidate) (t : Candidate → Bool) (xs : List X) → list_any t (map seen xs) ≡ list_any (λ x. t (seen x)) xs
 any-map seen t [] = refl
 any-map seen t (x ∷ xs) = ap (λ b. t (seen x) || b) (any-map seen t xs)
@@ -177,7 +173,7 @@ kept_is {X} seen l xs every some =
     ap (λ ys. unbeaten seen (least_by (λ c. (seen c).origin) ys)) one
     ∙ ap (unbeaten seen) (two ∙ filter_twice B A xs)
     ∙ filter_twice (λ x. not (list_any (λ y. beats (seen y) (seen x)) (filter E xs))) E xs
-    ∙ filter_alike (λ x. E x && not (list_any (λ y. beats (seen y) (seen x)) (filter E xs))) (λ x. is_kept l (map seen xs) (seen x))
+    ∙ same_filter (λ x. E x && not (list_any (λ y. beats (seen y) (seen x)) (filter E xs))) (λ x. is_kept l (map seen xs) (seen x))
     (λ x. ap (λ b. E x && not b) (any-filter (λ y. beats (seen y) (seen x)) E xs ∙ sym (any-map seen (λ d. is_even d l && beats d (seen x)) xs))) xs
 
 -- the first of those that precede all others

@@ -46,7 +46,7 @@ candidate_exported r to p c m =
     let parts = cond_some (is_given r from to p attrs) (candidate r from attrs) c is in
     subst (IsExported r to p) parts.1 (record { routed = there; exported = ap (λ o. option_map_or (is_given r from to p) o false) there ∙ parts.0 }))
 
-first_Member : {A : Type 0} (xs : List A) (x : A) → first_of_list xs ≡ Some x → Member x xs
+pub first_Member : {A : Type 0} (xs : List A) (x : A) → first_of_list xs ≡ Some x → Member x xs
 first_Member [] x e = absurd (cc)
 first_Member (y ∷ xs) x e = inl (let same : y ≡ x = cc in sym same)
 

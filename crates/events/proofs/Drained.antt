@@ -94,7 +94,7 @@ longest_present s who sound within d =
 
 -- ---- the entry told for the longest prefix
 
-some_cond : {A : Type 0} (b : Bool) (o : Option A) (x : A) → cond b o None ≡ Some x → o ≡ Some x
+pub some_cond : {A : Type 0} (b : Bool) (o : Option A) (x : A) → cond b o None ≡ Some x → o ≡ Some x
 some_cond true o x e = e
 some_cond false o x e = cc
 

@@ -1,10 +1,9 @@
 -- What holds of every state that a legal run reaches.
 use Rattle.std.proofs.Common.{◌≡◌, ℕ, zero, suc, ◌+◌, ◌<◌, Bool, true, false, cond, nat_eq, List, [], ◌∷◌, ◌++◌, length, map, sym, ap, subst, ◌∙◌, refl, arith, sum_by, inl, inr}
 use Rattle.std.specs.Prelude.{◌&&◌, ◌-◌, nat_lt, take, Option, Some, None, Result, Ok, Err, is_some, slice_get, slice_set, find, unwrap_or}
-use Rattle.std.specs.FinMap.{empty, entries, get-empty, len-entries, len-empty}
+use Rattle.std.specs.FinMap.{empty, get-empty}
 use Rattle.std.specs.List.{position_from}
 use Rattle.std.specs.Option.{option_map, option_map_or}
-use Rattle.std.specs.declared.cmp.Ordering.{Ordering}
 use Rattle.std.proofs.lemmas.List.{length-append}
 use Rattle.events.specs.After.{next, next_by, after, accepted, bound_read, merged, received_by, ruled, running, sent_by, settled, taken, updated, with_known, with_port, with_told, without_from, worked}
 use Rattle.events.specs.Fits.{FitsBy, Passes, is_building}
@@ -22,6 +21,8 @@ use Rattle.events.specs.declared.Head.TheVariants.{Fine, Working, Finished, Unro
 use Rattle.events.specs.declared.Refusal.{Refusal}
 use Rattle.events.specs.declared.Reply.{Reply}
 use Rattle.grammar.specs.TextReading.{Fault as Misread}
+use Rattle.net_types.proofs.FindLemmas.{not_there}
+use Rattle.net_types.proofs.ValueLemmas.{no_entries}
 use Rattle.net_types.specs.ExportReading.{rules_of_text}
 use Rattle.net_types.specs.Policies.{Policy}
 use Rattle.net_types.specs.PolicyReading.{policy_of_text}
@@ -44,16 +45,6 @@ use Rattle.net_types.specs.declared.rule.Pair.{Pair}
 use Rattle.net_types.specs.declared.rule.Rule.{Rule}
 
 -- ---- the state before the first line
-
-no_items : {A : Type 0} (xs : List A) → length xs ≡ 0 → xs ≡ []
-no_items [] e = refl
-no_items (x ∷ xs) e = absurd (omega arith)
-
-pub no_entries : (K X : Type 0) (R : K → K → Ordering) → entries (empty {K = K} {X = X} {R = R}) ≡ []
-no_entries K X R = no_items (entries (empty {K = K} {X = X} {R = R})) (sym (len-entries (empty {K = K} {X = X} {R = R})) ∙ len-empty R X)
-
-not_there : {A : Type 0} (o : Option A) (x : A) → o ≡ None → o ≡ Some x → ⊥
-not_there o x none some = cc
 
 pub first_sound : IsSound first
 first_sound = record {
@@ -122,7 +113,7 @@ get_append [] q (suc k) o P all one e = cc
 get_append (x ∷ qs) q zero o P all one e = subst P (some_of x o e) (all 0 x refl)
 get_append (x ∷ qs) q (suc k) o P all one e = get_append qs q k o P (λ j y is. all (suc j) y is) one e
 
-set_length : {A : Type 0} (xs : List A) (k : ℕ) (x : A) → length (slice_set xs k x) ≡ length xs
+pub set_length : {A : Type 0} (xs : List A) (k : ℕ) (x : A) → length (slice_set xs k x) ≡ length xs
 set_length [] k x = refl
 set_length (y ∷ xs) zero x = refl
 set_length (y ∷ xs) (suc k) x = ap suc (set_length xs k x)

@@ -71,7 +71,7 @@ part_from f own low (suc count) who x is (suc k) place below =
 abbrev pub part_with : Routing → Pid → Prefix → Candidate → Part
 part_with r who p c = record { sender = who; best = c.from; offers = offers r p who c.from }
 
-part_sender : (r : Routing) (p : Prefix) (k : Pid) (x : Part) → part r p k ≡ Some x → x.sender.0 ≡ k.0
+pub part_sender : (r : Routing) (p : Prefix) (k : Pid) (x : Part) → part r p k ≡ Some x → x.sender.0 ≡ k.0
 part_sender r p k x e = by (best r k p) e
   where
     by : (o : Option Candidate) → option_map (λ (c : Candidate). part_with r k p c) o ≡ Some x → x.sender.0 ≡ k.0

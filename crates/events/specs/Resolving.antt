@@ -5,7 +5,7 @@ use Rattle.std.specs.List.{list_any, position_from}
 use Rattle.std.specs.Option.{option_map_or}
 use Rattle.net_types.specs.Arp.{asked_ip, asker_mac, is_arp_request}
 use Rattle.net_types.specs.Attributes.{same_ip}
-use Rattle.net_types.specs.Frames.{tag_mac}
+use Rattle.net_types.specs.Frames.{address_of, tag_mac}
 use Rattle.net_types.specs.Keys.{ip_cmp}
 use Rattle.net_types.specs.Maps.{ordered}
 use Rattle.net_types.specs.Octets.{same_octets}
@@ -18,7 +18,7 @@ use Rattle.events.specs.State.{State, Entry, told_to}
 
 -- the address of a tag
 abbrev pub tag_address : State → Tag → Ip
-tag_address s t = record { 0 = s.base.0 + t.0 }
+tag_address s t = address_of s.base t
 
 -- the addresses of the tags
 abbrev pub is_in_pool : State → Ip → Bool

@@ -1,5 +1,5 @@
 -- When the rules of a pair are right and tight, and when a state is sound (this exchange's own rule).
-use Rattle.std.specs.Prelude.{◌≡◌, ℕ, ◌≤◌, Bool, false, ◌&&◌, nat_eq, List, [], ◌∷◌, length, map, find, Option, Some, is_some, sum_by}
+use Rattle.std.specs.Prelude.{◌≡◌, ℕ, ◌≤◌, Bool, ◌&&◌, nat_eq, List, length, map, find, Option, Some, is_some, sum_by}
 use Rattle.std.specs.Cmp.Lexicographic.{pointwise}
 use Rattle.std.specs.FinMap.{get, values}
 use Rattle.std.specs.Option.{option_and_then, option_map}
@@ -7,7 +7,7 @@ use Rattle.std.specs.Ordering.{eq_by_cmp}
 use Rattle.net_types.specs.Actions.{AreInOrder, action_cmp}
 use Rattle.net_types.specs.Answers.{Leaving, Policies, part_answer}
 use Rattle.net_types.specs.Cells.{cell_atoms}
-use Rattle.net_types.specs.Cubes.{lies_within_cube}
+use Rattle.net_types.specs.Cubes.{AreTight, lies_within_cube}
 use Rattle.net_types.specs.Headers.{IsValid}
 use Rattle.net_types.specs.Meets.{IsMeet}
 use Rattle.net_types.specs.Sets.{Member, SameMembers, HasNoRepeats}
@@ -47,8 +47,7 @@ IsRight ps part port rules = IsRightBy port (part_answer ps part) (cell_atoms ps
 
 -- no rule's cube lies within an earlier one's
 abbrev pub IsTight : List Rule → Type 0
-IsTight [] = Unit {0}
-IsTight (rule ∷ rules) = ((later : Rule) → Member later rules → lies_within_cube later.cube rule.cube ≡ false) × IsTight rules
+IsTight rules = AreTight (λ (rule : Rule). rule.cube) rules
 
 -- the same cube, and the same actions in order
 abbrev pub same_rule : Rule → Rule → Bool

@@ -53,12 +53,12 @@ use Rattle.net_types.proofs.OrderedLemmas.{ordered_same}
 use Rattle.net_types.proofs.PassLemmas.{any_filter, any_map, is_some-any, place_member}
 use Rattle.net_types.proofs.SetLemmas.{map-Member, union-Member}
 use Rattle.events.proofs.Reached.{declared_pid}
-use Rattle.exchange_laws.proofs.Lists.{any_found}
 use Rattle.exchange_laws.proofs.OwnPorts.{leaves_by_own}
 use Rattle.exchange_laws.proofs.Parts.{sent_to_exporters, union_on}
 use Rattle.exchange_laws.proofs.ReadPolicies.{policies_are_one}
 use Rattle.exchange_laws.proofs.Sending.{IsNamed, forwards_name, goes_to_named}
 use Rattle.events.proofs.Routed.{best_offered, out_alike, part_with, signature_part}
+use Rattle.net_types.proofs.WidthTests.{any_found}
 
 -- ---- by the offers and by the routes
 
@@ -196,14 +196,14 @@ part_answers r ps who p c names named chosen h =
 
 -- ---- by the table and by the routes
 
-owned : (o : Option PortInfo) (who : Pid) (test : Pid → Bool) → option_map (λ (x : PortInfo). x.owner) o ≡ Some who → test who ≡ true → MatchOption o ⊥ (λ x. test x.owner ≡ true)
+pub owned : (o : Option PortInfo) (who : Pid) (test : Pid → Bool) → option_map (λ (x : PortInfo). x.owner) o ≡ Some who → test who ≡ true → MatchOption o ⊥ (λ x. test x.owner ≡ true)
 owned None who test e t = absurd (cc)
 owned (Some x) who test e t = let same : x.owner ≡ who = cc in ap test same ∙ t
 
-inport_of : (port : PortNo) (frame : List ℕ) (h : Headers) → headers_of port frame ≡ Some h → h.inport ≡ port
+pub inport_of : (port : PortNo) (frame : List ℕ) (h : Headers) → headers_of port frame ≡ Some h → h.inport ≡ port
 inport_of port frame h e = let parts = cond_some (has_headers frame) _ h e in ap (λ (x : Headers). x.inport) (sym parts.1)
 
-some_same : {A : Type 0} (o : Option A) (x y : A) → o ≡ Some x → o ≡ Some y → x ≡ y
+pub some_same : {A : Type 0} (o : Option A) (x y : A) → o ≡ Some x → o ≡ Some y → x ≡ y
 some_same o x y e f = cc
 
 -- what policies that passed isolation give of a prefix reaches exporters alone

@@ -1,4 +1,5 @@
 -- Lines build on a steady state, and on one with another policy of a participant.
+use Rattle.events.proofs.Reached.{set_length}
 use Rattle.std.proofs.Common.{◌≡◌, ℕ, zero, suc, Bool, true, false, cond, nat_eq, List, [], ◌∷◌, filter, length, sym, ap, subst, ◌∙◌, refl}
 use Rattle.std.specs.Prelude.{Option, Some, None, is_some, slice_set, unwrap_or}
 use Rattle.std.specs.FinMap.{get, keys}
@@ -12,7 +13,6 @@ use Rattle.events.specs.State.{State, ArePolicies, AreRead, IsRead, port_of}
 use Rattle.exchange_laws.proofs.Lists.{clash, get_tabulated, key_Member, some_of}
 use Rattle.exchange_laws.proofs.OwnHops.{none_passes}
 use Rattle.exchange_laws.proofs.Parts.{right_alike, trimmed_whole}
-use Rattle.exchange_laws.proofs.Rerouted.{set_length}
 use Rattle.exchange_laws.proofs.RulesAfter.{sound_tagged}
 use Rattle.exchange_laws.proofs.Trimmed.{other_place, trimmed_signature}
 use Rattle.exchange_laws.proofs.Untouched.{is_some-map}

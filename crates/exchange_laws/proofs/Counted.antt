@@ -48,7 +48,7 @@ either_way test (x ∷ xs) =
       | false ↦ omega arith
     ]
 
-how_many : {B : Type 0} (at : ℕ → B) (low count : ℕ) → length (map at (numbers low count)) ≡ count
+pub how_many : {B : Type 0} (at : ℕ → B) (low count : ℕ) → length (map at (numbers low count)) ≡ count
 how_many at low zero = refl
 how_many at low (suc count) = ap suc (how_many at (low + 1) count)
 

@@ -10,7 +10,7 @@ use Rattle.net_types.proofs.OrderedLemmas.{ordered_same}
 use Rattle.events.proofs.Candidates.{best_Member, candidate_exported}
 use Rattle.events.specs.State.{State}
 use Rattle.events.specs.Tags.{Group, carried, free_tags, fresh_tag, group_of, groups, is_carried, is_changed, is_live, same_group, tags}
-use Rattle.exchange_laws.proofs.Lists.{any_found, is_some_of, key_Member, not_true, numbers_range, once_Member, once_apart, one_place, place_of, position_at, some_of}
+use Rattle.exchange_laws.proofs.Lists.{is_some_of, key_Member, not_true, numbers_range, once_Member, once_apart, one_place, place_of, position_at, some_of}
 use Rattle.exchange_laws.proofs.Sames.{group_itself, group_same}
 use Rattle.exchange_laws.specs.Fresh.{ChangedAreGrouped, FreeTagsRise, FreshTagsByPlace, FreshTagsDiffer, GroupsHaveFreshTags, HasEnoughTags, IsFree}
 use Rattle.net_types.proofs.FindLemmas.{slice_get-Member, slice_get_some}
@@ -19,6 +19,7 @@ use Rattle.net_types.proofs.PassLemmas.{some_there}
 use Rattle.net_types.proofs.RisingLemmas.{Member-filter, filter-IsRising, filter-Member}
 use Rattle.net_types.proofs.SetLemmas.{Member-map}
 use Rattle.net_types.proofs.TieLemmas.{route_cmp-IsAntisymmetric, same_from_tie}
+use Rattle.net_types.proofs.WidthTests.{any_found}
 use Rattle.net_types.specs.Exports.{Routing}
 use Rattle.net_types.specs.Keys.{RouteKey, prefix_cmp, route_cmp}
 use Rattle.net_types.specs.Routes.{announced, best, numbers, pids}

@@ -5,9 +5,9 @@ use Rattle.std.specs.Prelude.{Option, Some, None, Result, Ok, Err, slice_set, ta
 use Rattle.std.specs.FinMap.{FinMap}
 use Rattle.std.specs.Option.{option_map_or}
 use Rattle.std.proofs.lemmas.Bool.{leb-false}
-use Rattle.events.proofs.Reached.{declared_pid}
+use Rattle.events.proofs.Reached.{declared_pid, set_length}
 use Rattle.events.specs.After.{after, received_by, restarted, running, sent_by, settled, with_known, with_named, with_outbound, with_participant, with_port, with_told}
-use Rattle.events.specs.Fits.{is_of_job}
+use Rattle.events.specs.Fits.{is_building, is_of_job}
 use Rattle.events.specs.Forms.{IsWellFormed}
 use Rattle.events.specs.Pending.{pending, with_all_news}
 use Rattle.events.specs.Refusals.{if_short, inbound_refusal, is_name_taken, is_placed, is_port_taken, isolation_refusal, outbound_refusal, policy_refusal, refusal, refused_if, tags_refusal}
@@ -23,7 +23,7 @@ use Rattle.events.specs.declared.Refusal.{Refusal}
 use Rattle.events.specs.declared.Refusal.TheVariants.{Clash, Full, TextLong, TooWide}
 use Rattle.exchange_laws.proofs.Lists.{clash}
 use Rattle.exchange_laws.proofs.OwnHops.{Member_set}
-use Rattle.exchange_laws.proofs.Rerouted.{Rerouted, known, neither, not_stopped, passes, rerouted, set_length}
+use Rattle.exchange_laws.proofs.Rerouted.{Rerouted, known, neither, not_stopped, passes, rerouted}
 use Rattle.exchange_laws.proofs.ToldAnew.{news_are_known, present_are_known}
 use Rattle.exchange_laws.specs.Rerouting.{is_rerouting}
 use Rattle.exchange_laws.specs.Telling.{AreKnownTo}
@@ -49,6 +49,27 @@ use Rattle.net_types.specs.declared.address.PortNo.{PortNo}
 use Rattle.net_types.specs.declared.isolation.IsolateFault.{IsolateFault}
 use Rattle.net_types.specs.declared.route.Participant.{Participant}
 use Rattle.net_types.specs.declared.route.PortInfo.{PortInfo}
+
+-- no line that builds rules is a job's
+pub building_other : (e : Event) → is_building e ≡ true → is_of_job e ≡ false
+building_other Recompile building = cc
+building_other (Work units) building = cc
+building_other Bad building = refl
+building_other (Exchange base size capacity) building = refl
+building_other (DeclaresParticipant name asn id) building = refl
+building_other (DeclaresPort name number ip mac) building = refl
+building_other (Update name bytes) building = refl
+building_other (Down name) building = refl
+building_other (Export name text) building = refl
+building_other (Outbound name text) building = refl
+building_other (Inbound name text) building = refl
+building_other (Take name count) building = refl
+building_other (Drain name) building = refl
+building_other (Arp n bytes) building = refl
+building_other (Resolve n) building = refl
+building_other (Packet n bytes) building = refl
+building_other (Frame n bytes) building = refl
+building_other Table building = refl
 
 -- each list of addresses ascends
 abbrev pub AllRise : List (List Ip) → Type 0
@@ -88,7 +109,7 @@ at_start Start base size capacity e = refl
 at_start Declaring base size capacity e = cc
 at_start Running base size capacity e = cc
 
-declares_participant : (phase : Phase) (name : List ℕ) (asn : ℕ) (id : Ip) → is_placed phase (DeclaresParticipant name asn id) ≡ true → phase ≡ Declaring
+pub declares_participant : (phase : Phase) (name : List ℕ) (asn : ℕ) (id : Ip) → is_placed phase (DeclaresParticipant name asn id) ≡ true → phase ≡ Declaring
 declares_participant Start name asn id e = cc
 declares_participant Declaring name asn id e = refl
 declares_participant Running name asn id e = cc
@@ -202,12 +223,12 @@ pub short : (b : Bool) (o : Option Refusal) → cond b (Some TextLong) o ≡ Non
 short true o none = absurd (cc)
 short false o none = none
 
-no_faults : (faults : List IsolateFault) → isolation_refusal faults ≡ None → faults ≡ []
+pub no_faults : (faults : List IsolateFault) → isolation_refusal faults ≡ None → faults ≡ []
 no_faults [] none = refl
 no_faults (fault ∷ faults) none = absurd (cc)
 
 -- what isolation and the widths don't refuse has no fault
-no_fault : (faults : List IsolateFault) (p : Policy) → policy_refusal faults p ≡ None → faults ≡ []
+pub no_fault : (faults : List IsolateFault) (p : Policy) → policy_refusal faults p ≡ None → faults ≡ []
 no_fault faults p none = no_faults faults (neither (isolation_refusal faults) (refused_if (is_too_wide p) TooWide) none).0
 
 sends_read : (s : State) (e : Event) (who : Pid) (text : List ℕ) (o : Result Policy Misread) → (s.phase ≡ Start → ⊥) → policy_of_text text ≡ o → outbound_refusal s who text o ≡ None → Step s e (sent_by s who text o)

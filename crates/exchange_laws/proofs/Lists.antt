@@ -1,6 +1,6 @@
 -- Places in lists, the different members of a list, and maps that are given by a function.
 use Rattle.std.proofs.Common.{◌≡◌, ℕ, zero, suc, ◌+◌, ◌≤◌, ◌<◌, Bool, true, false, cond, not, List, [], ◌∷◌, filter, map, sym, ap, subst, ◌∙◌, refl, arith, inl, inr}
-use Rattle.std.specs.Prelude.{Option, Some, None, is_some, find, slice_get}
+use Rattle.std.specs.Prelude.{Option, Some, None, is_some, slice_get}
 use Rattle.std.specs.Cmp.{IsTotalOrder}
 use Rattle.std.specs.FinMap.{FinMap, get, keys, contains_key-keys}
 use Rattle.std.specs.List.{list_any, position_from}
@@ -8,9 +8,8 @@ use Rattle.std.specs.Ordering.{eq_by_cmp}
 use Rattle.std.specs.declared.cmp.Ordering.{Ordering}
 use Rattle.std.proofs.lemmas.Bool.{false_from_ne_true, false≢true}
 use Rattle.net_types.proofs.OrderedLemmas.{any_member, member_any}
-use Rattle.net_types.proofs.FindLemmas.{IsFound, find-IsFound, slice_get-Member}
+use Rattle.net_types.proofs.FindLemmas.{slice_get-Member}
 use Rattle.net_types.proofs.MapLemmas.{get-tabulate}
-use Rattle.net_types.proofs.PassLemmas.{is_some-any, some_there}
 use Rattle.net_types.proofs.RisingLemmas.{filter-IsRising, filter-Member}
 use Rattle.net_types.specs.Keys.{pair_cmp}
 use Rattle.net_types.specs.Maps.{each_once, tabulate}
@@ -41,12 +40,6 @@ cond_there false o e = cc
 
 pub clash : {b : Bool} → b ≡ true → b ≡ false → ⊥
 clash t f = false≢true (sym f ∙ t)
-
--- a test that some member passes: the first one that does
-pub any_found : {A : Type 0} (test : A → Bool) (xs : List A) → list_any test xs ≡ true → (x : A) × IsFound test xs x
-any_found test xs any =
-    let there = some_there (find test xs) (is_some-any test xs ∙ any) in
-    (there.0, find-IsFound test xs there.0 there.1)
 
 -- ---- places
 

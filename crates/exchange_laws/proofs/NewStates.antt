@@ -12,11 +12,13 @@ use Rattle.events.specs.Tags.{is_carried, is_live, is_live_pair, same_tag, tells
 use Rattle.events.specs.declared.Entry.{Entry}
 use Rattle.exchange_laws.proofs.FreshTags.{carried_announced}
 use Rattle.exchange_laws.proofs.LivePairs.{live_tag}
-use Rattle.exchange_laws.proofs.Lists.{TableOf, any_found, clash}
+use Rattle.exchange_laws.proofs.Lists.{TableOf, clash}
 use Rattle.exchange_laws.specs.Steady.{AllDrop, HavePassed, IsNew}
+use Rattle.net_types.proofs.FindLemmas.{not_there}
 use Rattle.net_types.proofs.OrderLemmas.{pairs_total}
 use Rattle.net_types.proofs.TieLemmas.{pair_cmp-IsAntisymmetric}
 use Rattle.net_types.proofs.ValueLemmas.{no_entries}
+use Rattle.net_types.proofs.WidthTests.{any_found}
 use Rattle.net_types.specs.Answers.{Policies, policy_of}
 use Rattle.net_types.specs.Exports.{pid_of}
 use Rattle.net_types.specs.Isolation.{in_faults, out_faults}
@@ -38,9 +40,6 @@ nothing_told t = ap (λ es. list_any (λ (x : Entry). same_tag x.tag t) (map (λ
 
 no_tag : (t : Tag) → list_any (same_tag t) (values (empty {K = Prefix} {X = Tag} {R = prefix_cmp})) ≡ false
 no_tag t = ap (λ es. list_any (same_tag t) (map (λ (d : Prefix × Tag). d.1) es)) (no_entries Prefix Tag prefix_cmp)
-
-pub not_there : {A : Type 0} (o : Option A) (x : A) → o ≡ None → o ≡ Some x → ⊥
-not_there o x none some = cc
 
 none_there : {A : Type 0} (o : Option A) → is_some o ≡ false → o ≡ None
 none_there None e = refl

@@ -7,10 +7,11 @@ use Rattle.std.proofs.lemmas.Bool.{and_parts, eq-eqb, eqb-true, false_from_ne_tr
 use Rattle.events.specs.Refusals.{has_next_hop, is_port_taken}
 use Rattle.events.specs.Resolving.{is_in_pool}
 use Rattle.events.specs.State.{State, port_of}
-use Rattle.exchange_laws.proofs.Lists.{any_found, clash, place_of, some_of}
+use Rattle.exchange_laws.proofs.Lists.{clash, place_of, some_of}
 use Rattle.exchange_laws.specs.Steady.{PortsDiffer}
 use Rattle.net_types.proofs.FindLemmas.{any_at, find-IsFound, slice_get-Member}
 use Rattle.net_types.proofs.PassLemmas.{is_some-any, some_there}
+use Rattle.net_types.proofs.WidthTests.{any_found}
 use Rattle.net_types.specs.Octets.{same_octets}
 use Rattle.net_types.specs.Sets.{Member}
 use Rattle.net_types.specs.Signatures.{port_with}

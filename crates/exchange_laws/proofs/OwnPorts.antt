@@ -21,7 +21,7 @@ empty_parts : {A : Type 0} (xs ys : List A) → xs ++ ys ≡ [] → (xs ≡ []) 
 empty_parts [] ys e = (refl, e)
 empty_parts (x ∷ xs) ys e = absurd (cc)
 
-own_port : (me : Pid) (o : Option Pid) (span : Span) → port_faults me o span ≡ [] → o ≡ Some me
+pub own_port : (me : Pid) (o : Option Pid) (span : Span) → port_faults me o span ≡ [] → o ≡ Some me
 own_port me None span none = absurd (cc)
 own_port me (Some who) span none = by (nat_eq who.0 me.0) refl none
   where

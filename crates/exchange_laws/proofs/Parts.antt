@@ -30,8 +30,9 @@ use Rattle.net_types.proofs.SetLemmas.{Member-map, map-Member, map-map, union-Me
 use Rattle.events.specs.Sound.{IsRight, IsRightBy}
 use Rattle.events.proofs.Candidates.{IsOfferedBy}
 use Rattle.events.proofs.Routed.{best_offered, part_with}
-use Rattle.exchange_laws.proofs.Lists.{any_found, numbers_range}
+use Rattle.exchange_laws.proofs.Lists.{numbers_range}
 use Rattle.exchange_laws.specs.Whole.{IsWhole}
+use Rattle.net_types.proofs.WidthTests.{any_found}
 
 -- ---- whom the sender's policy sends to
 
@@ -190,9 +191,6 @@ candidate_from r to p k c is =
 part_case : (r : Routing) (p : Prefix) (to : Pid) (x : Part) (o : Option Candidate) → best r to p ≡ o → option_map (λ (c : Candidate). part_with r to p c) o ≡ Some x → (c : Candidate) × (best r to p ≡ Some c) × (part_with r to p c ≡ x)
 part_case r p to x None chosen e = absurd (cc)
 part_case r p to x (Some c) chosen e = (c, chosen, cc)
-
-part_sender : (r : Routing) (p : Prefix) (k : Pid) (x : Part) → part r p k ≡ Some x → x.sender.0 ≡ k.0
-part_sender r p k x e = let made = part_case r p k x (best r k p) refl e in ap (λ (y : Part). y.sender.0) (sym made.2)
 
 -- the part of a participant with a best route is whole
 pub part_whole : (r : Routing) (p : Prefix) (to : Pid) (c : Candidate) → to.0 < length r.participants → best r to p ≡ Some c → IsWhole (length r.participants) (part_with r to p c)

@@ -1,4 +1,5 @@
 -- The policies passed isolation: any line that no refusal stops leaves it so.
+use Rattle.events.proofs.Reached.{set_length}
 use Rattle.std.proofs.Common.{◌≡◌, ◌⊎◌, ℕ, zero, suc, List, [], ◌∷◌, length, sym, ap, subst, ◌∙◌, refl, arith, inl, inr}
 use Rattle.std.specs.Prelude.{Ok, slice_get, slice_set, unwrap_or}
 use Rattle.events.specs.State.{State, AreRead, IsRead, owner_of}
@@ -9,7 +10,7 @@ use Rattle.events.specs.declared.Phase.TheVariants.{Declaring, Running}
 use Rattle.exchange_laws.proofs.LineSteps.{QuietStep, Step, participant, pool, port, quiet, receives, receiving, resolved, routes, sending, sends, told}
 use Rattle.exchange_laws.proofs.Lists.{TableOf}
 use Rattle.exchange_laws.proofs.NewStates.{new_passed}
-use Rattle.exchange_laws.proofs.Rerouted.{Rerouted, set_length}
+use Rattle.exchange_laws.proofs.Rerouted.{Rerouted}
 use Rattle.exchange_laws.specs.Steady.{HavePassed, IsNew}
 use Rattle.net_types.specs.Answers.{Policies, policy_of}
 use Rattle.net_types.specs.Exports.{pid_of}
@@ -28,7 +29,7 @@ abbrev at : {A : Type 0} → List A → ℕ → A → A
 at xs k none = unwrap_or (slice_get xs k) none
 
 -- lists that are alike in length, with other members at a place: there stand these, and elsewhere what stood there
-set_both : {A B : Type 0} (xs : List A) (ys : List B) (k j : ℕ) (x d : A) (y e : B) → length ys ≡ length xs
+pub set_both : {A B : Type 0} (xs : List A) (ys : List B) (k j : ℕ) (x d : A) (y e : B) → length ys ≡ length xs
     → ((at (slice_set xs k x) j d ≡ at xs j d) × (at (slice_set ys k y) j e ≡ at ys j e)) ⊎ ((j ≡ k) × (at (slice_set xs k x) j d ≡ x) × (at (slice_set ys k y) j e ≡ y))
 set_both [] [] k j x d y e same = inl (refl, refl)
 set_both [] (b ∷ ys) k j x d y e same = absurd (omega arith)

@@ -6,10 +6,10 @@ use Rattle.net_types.specs.Policies.{Policy}
 use Rattle.net_types.specs.PolicyReading.{policy_of_text}
 use Rattle.events.specs.State.{State, ArePolicies, AreRead}
 
-one_policy : {E : Type 0} (read : Result Policy E) (p q : Policy) → read ≡ Ok p → read ≡ Ok q → p ≡ q
+pub one_policy : {E : Type 0} (read : Result Policy E) (p q : Policy) → read ≡ Ok p → read ≡ Ok q → p ≡ q
 one_policy read p q is again = cc
 
-one_reading : (texts : List (List ℕ)) (ps qs : List Policy) → AreRead texts ps → AreRead texts qs → ps ≡ qs
+pub one_reading : (texts : List (List ℕ)) (ps qs : List Policy) → AreRead texts ps → AreRead texts qs → ps ≡ qs
 one_reading [] [] [] read again = refl
 one_reading [] [] (q ∷ qs) read again = absurd again
 one_reading [] (p ∷ ps) qs read again = absurd read

@@ -1,10 +1,10 @@
 -- What a line that changes the routes leaves: the routes, where they come from, and that there are enough tags.
-use Rattle.std.proofs.Common.{◌≡◌, ℕ, zero, suc, ◌<◌, ◌⊎◌, Bool, true, false, cond, ◌&&◌, nat_eq, nat_lt, not, List, [], ◌∷◌, length, sym, ap, subst, ◌∙◌, refl, inl, inr}
-use Rattle.std.specs.Prelude.{Option, Some, None, Result, Ok, Err, slice_set}
+use Rattle.std.proofs.Common.{◌≡◌, ℕ, ◌<◌, ◌⊎◌, Bool, true, false, cond, ◌&&◌, nat_eq, nat_lt, not, List, [], ◌∷◌, length, sym, ap, subst, ◌∙◌, refl, inl, inr}
+use Rattle.std.specs.Prelude.{Option, Some, None, Result, Ok, Err}
 use Rattle.std.specs.FinMap.{FinMap, get, get-insert, get-remove, insert, remove}
 use Rattle.std.specs.Ordering.{eq_by_cmp}
 use Rattle.std.proofs.lemmas.Bool.{and_parts, ltb-false}
-use Rattle.events.proofs.Reached.{declared_pid}
+use Rattle.events.proofs.Reached.{declared_pid, set_length}
 use Rattle.events.specs.After.{after, bound_read, ruled, updated, with_known, with_rules, with_update, without_from}
 use Rattle.events.specs.Refusals.{attrs_refusal, bound_refusal, has_next_hop, if_known, is_placed, or_else, refusal, refusal_in_place, rules_refusal, suits_job, tags_refusal, text_refusal, refused_if, update_refusal}
 use Rattle.events.specs.State.{State}
@@ -72,7 +72,7 @@ tie : (x y : RouteKey) → eq_by_cmp route_cmp x y ≡ true → x ≡ y
 tie = same_from_tie route_cmp route_cmp-IsAntisymmetric
 
 -- a route that stays was there
-still_there : (from : Pid) (ps : List Prefix) (m : RoutesOf) (k : RouteKey) (a : Attrs) → get (withdrawn from ps m) k ≡ Some a → get m k ≡ Some a
+pub still_there : (from : Pid) (ps : List Prefix) (m : RoutesOf) (k : RouteKey) (a : Attrs) → get (withdrawn from ps m) k ≡ Some a → get m k ≡ Some a
 still_there from [] m k a e = e
 still_there from (p ∷ ps) m k a e =
     let key : RouteKey = record { from = from; prefix = p } in
@@ -106,17 +106,12 @@ updated_from from u m k a e = by u.attrs refl e
       | inr own ↦ inr (own.0, is ∙ ap Some own.1)
     ]
 
-not_gone : (from : Pid) (m : RoutesOf) (k : RouteKey) (a : Attrs) → get (changes.without_routes from m) k ≡ Some a → get m k ≡ Some a
+pub not_gone : (from : Pid) (m : RoutesOf) (k : RouteKey) (a : Attrs) → get (changes.without_routes from m) k ≡ Some a → get m k ≡ Some a
 not_gone from m k a e = by (not (nat_eq k.from.0 from.0)) (sym (get_retained route_cmp routes_total route_cmp-IsAntisymmetric m (λ (x : RouteKey). not (nat_eq x.from.0 from.0)) k) ∙ e)
   where
     by : (b : Bool) → cond b (get m k) None ≡ Some a → get m k ≡ Some a
     by true is = is
     by false is = absurd (cc)
-
-pub set_length : {A : Type 0} (xs : List A) (k : ℕ) (x : A) → length (slice_set xs k x) ≡ length xs
-set_length [] k x = refl
-set_length (y ∷ xs) zero x = refl
-set_length (y ∷ xs) (suc k) x = ap suc (set_length xs k x)
 
 -- ---- the line
 

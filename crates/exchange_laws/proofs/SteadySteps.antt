@@ -19,7 +19,7 @@ use Rattle.exchange_laws.proofs.LineSteps.{Step, step_of}
 use Rattle.exchange_laws.proofs.Lists.{TableOf, clash}
 use Rattle.exchange_laws.proofs.NewStates.{new_passed, no_live, no_route}
 use Rattle.exchange_laws.proofs.PassedSteps.{retabled_passed, step_passed}
-use Rattle.exchange_laws.proofs.TidySteps.{IsNewYet, IsTidy, none_whole, step_new, step_tidy}
+use Rattle.exchange_laws.proofs.TidySteps.{IsNewYet, IsTidy, none_whole, retidied, step_new, step_tidy}
 use Rattle.exchange_laws.specs.Steady.{HavePassed, IsNew, IsSteady, RunsStaySteady, StartsSteady, StepsStaySteady}
 use Rattle.net_types.specs.Keys.{tag_cmp}
 use Rattle.net_types.specs.Sets.{Member}
@@ -70,25 +70,8 @@ record IsLaid (s : State) : Type 0 where
 
 -- the table is another one
 retable : (s : State) (table : TableOf) → IsLaid s → IsLaid (record s { table = table })
-retable s table laid = let is : IsTidy s = laid.tidy in record {
-  tidy = record {
-    pooled = is.pooled;
-    kept = is.kept;
-    live = is.live;
-    whole = is.whole;
-    owners = is.owners;
-    told = is.told;
-    hops = is.hops;
-    routed = is.routed;
-    apart = is.apart;
-    numbered = is.numbered;
-    rules = is.rules;
-    resolved = is.resolved;
-    rising = is.rising;
-    few = is.few;
-    idle = is.idle;
-    sized = record { start = is.sized.start; small = is.sized.small; low = is.sized.low; high = is.sized.high; room = is.sized.room };
-  };
+retable s table laid = record {
+  tidy = retidied s table s.owed laid.tidy.idle laid.tidy;
   passed = retabled_passed s table laid.passed;
   new = λ e. let new : IsNew s = laid.new e in record {
     routes = new.routes;

@@ -1,6 +1,7 @@
 -- What holds of a steady state, whatever its table and its policies: any line that no refusal stops leaves it so.
+use Rattle.events.proofs.Reached.{set_length}
 use Rattle.std.proofs.Common.{◌≡◌, ◌⊎◌, ℕ, ◌+◌, ◌≤◌, ◌<◌, Bool, true, false, cond, ◌||◌, List, [], ◌∷◌, ◌++◌, length, sym, ap, subst, ◌∙◌, refl, arith, inl, inr}
-use Rattle.std.specs.Prelude.{Some, None, codes, is_some, slice_set}
+use Rattle.std.specs.Prelude.{Option, Some, None, codes, is_some, slice_set}
 use Rattle.std.specs.FinMap.{FinMap, empty, get, get-empty, values}
 use Rattle.std.specs.List.{list_any}
 use Rattle.std.specs.Option.{option_map}
@@ -15,11 +16,11 @@ use Rattle.events.specs.declared.Event.{Event}
 use Rattle.events.specs.declared.Phase.TheVariants.{Start, Declaring, Running}
 use Rattle.exchange_laws.proofs.Bases.{kept_there, kept_whole}
 use Rattle.exchange_laws.proofs.LineSteps.{AllRise, QuietStep, Step, participant, pool, port, quiet, receives, receiving, resolved, resolving, routes, sending, sends, told, told_so}
-use Rattle.exchange_laws.proofs.Lists.{clash, some_of}
-use Rattle.exchange_laws.proofs.NewStates.{no_live, no_route, nobody, not_there, nothing_told}
+use Rattle.exchange_laws.proofs.Lists.{TableOf, clash, some_of}
+use Rattle.exchange_laws.proofs.NewStates.{no_live, no_route, nobody, nothing_told}
 use Rattle.exchange_laws.proofs.OwnHops.{own_hop, stay_apart}
 use Rattle.exchange_laws.proofs.Parts.{signature_whole}
-use Rattle.exchange_laws.proofs.Rerouted.{HasOwnHop, set_length}
+use Rattle.exchange_laws.proofs.Rerouted.{HasOwnHop}
 use Rattle.exchange_laws.proofs.TagsAfter.{kept_stay_live, live_cases, live_stay_kept, live_tags_stay, signatures_are_kept, tags_stay_pooled}
 use Rattle.exchange_laws.proofs.ToldAnew.{keeps_live, kept_is, live_kept, tag_was_live}
 use Rattle.exchange_laws.specs.Retagging.{KeptAreLive, LiveAreKept, TagsArePooled}
@@ -27,6 +28,7 @@ use Rattle.exchange_laws.specs.Rules.{IsDeclaredAlike, OwnersAreDeclared}
 use Rattle.exchange_laws.specs.Steady.{IsNew, IsSized, PortsAreNumbered, PortsDiffer}
 use Rattle.exchange_laws.specs.Telling.{AreKnownTo}
 use Rattle.exchange_laws.specs.Whole.{IsWhole, KeptAreWhole, RoutesAreDeclared}
+use Rattle.net_types.proofs.FindLemmas.{not_there}
 use Rattle.net_types.proofs.PassLemmas.{any_more}
 use Rattle.net_types.proofs.SetLemmas.{Member-append_cases, map-append}
 use Rattle.net_types.specs.Exports.{Routing, pid_of, route}
@@ -261,9 +263,9 @@ routes_tidy s r alike rules each later is =
 
 -- ---- other policies
 
--- a job that begins anew changes nothing else
-restarted_tidy : (s : State) → IsTidy s → IsTidy (restarted s)
-restarted_tidy s is = record {
+-- nothing of it speaks of the table, and of what a job owes only that there is none
+pub retidied : (s : State) (table : TableOf) (owed : Option ℕ) → owed ≡ None → IsTidy s → IsTidy (record s { table = table; owed = owed })
+retidied s table owed none is = record {
   pooled = is.pooled;
   kept = is.kept;
   live = is.live;
@@ -278,9 +280,13 @@ restarted_tidy s is = record {
   resolved = is.resolved;
   rising = is.rising;
   few = is.few;
-  idle = ap (option_map (λ n. all_units s)) is.idle;
+  idle = none;
   sized = record { start = is.sized.start; small = is.sized.small; low = is.sized.low; high = is.sized.high; room = is.sized.room };
 }
+
+-- a job that begins anew changes nothing else
+restarted_tidy : (s : State) → IsTidy s → IsTidy (restarted s)
+restarted_tidy s is = retidied s s.table (restarted s).owed (ap (option_map (λ n. all_units s)) is.idle) is
 
 -- another text, and the signatures trimmed
 outbound_tidy : (s : State) (who : Pid) (text : List ℕ) (named : List Pid) → IsTidy s → IsTidy (with_outbound s who text named)

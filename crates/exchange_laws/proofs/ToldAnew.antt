@@ -49,7 +49,7 @@ any_set test (y ∷ xs) (suc k) x e = elim (or_cases (test y) (list_any test (sl
   | inr later ↦ elim (any_set test xs k x later) [ inl there ↦ inl (or_right (test y) (list_any test xs) there) | inr new ↦ inr new ]
 ]
 
-get_set : {A : Type 0} (xs : List A) (k j : ℕ) (x d : A) → (unwrap_or (slice_get (slice_set xs k x) j) d ≡ unwrap_or (slice_get xs j) d) ⊎ ((j ≡ k) × (unwrap_or (slice_get (slice_set xs k x) j) d ≡ x))
+pub get_set : {A : Type 0} (xs : List A) (k j : ℕ) (x d : A) → (unwrap_or (slice_get (slice_set xs k x) j) d ≡ unwrap_or (slice_get xs j) d) ⊎ ((j ≡ k) × (unwrap_or (slice_get (slice_set xs k x) j) d ≡ x))
 get_set [] k j x d = inl refl
 get_set (y ∷ xs) zero zero x d = inr (refl, refl)
 get_set (y ∷ xs) zero (suc j) x d = inl refl

@@ -1,4 +1,5 @@
 -- A job ends with right and tight rules, no more for a pair than it had.
+use Rattle.events.proofs.Drained.{some_cond}
 use Rattle.std.proofs.Common.{◌≡◌, ℕ, ◌+◌, ◌≤◌, ◌<◌, ◌^◌, Bool, true, false, nat_eq, nat_lt, not, List, [], ◌∷◌, filter, length, sum_by, ap, sym, subst, ◌∙◌, refl, arith}
 use Rattle.std.specs.Prelude.{Some, MatchOption, is_some, unwrap_or}
 use Rattle.std.specs.Cmp.Lexicographic.{pointwise}
@@ -40,7 +41,7 @@ use Rattle.net_types.specs.declared.route.PortInfo.{PortInfo}
 use Rattle.net_types.specs.declared.rule.Pair.{Pair}
 use Rattle.net_types.specs.declared.rule.Rule.{Rule}
 use Rattle.reply_laws.proofs.BuiltLines.{counted, tie}
-use Rattle.run_laws.proofs.Answering.{ends_leave, some_cond}
+use Rattle.run_laws.proofs.Answering.{ends_leave}
 
 -- ---- rules that are the same
 

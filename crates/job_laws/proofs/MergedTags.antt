@@ -1,4 +1,6 @@
 -- The tags at the end of a job.
+use Rattle.events.proofs.Candidates.{first_Member}
+use Rattle.events.proofs.Drained.{some_cond}
 use Rattle.std.proofs.Common.{◌≡◌, ◌≤◌, Bool, true, false, cond, nat_eq, nat_lt, List, [], ◌∷◌, filter, ap, sym, subst, ◌∙◌, refl, arith, inl, inr}
 use Rattle.std.specs.Prelude.{Some, None, is_some}
 use Rattle.std.specs.FinMap.{get}
@@ -26,8 +28,7 @@ use Rattle.net_types.specs.Sets.{IsRising, Member}
 use Rattle.net_types.specs.Signatures.{signature}
 use Rattle.net_types.specs.declared.address.Tag.{Tag}
 use Rattle.net_types.specs.declared.prefix.Prefix.{Prefix}
-use Rattle.run_laws.proofs.Answering.{some_cond}
-use Rattle.run_laws.proofs.Sharing.{first_Member, given_by}
+use Rattle.run_laws.proofs.Sharing.{given_by}
 
 -- ---- lists
 

@@ -1,6 +1,5 @@
 -- Rules that pass as the same are equal.
-use Rattle.std.proofs.Common.{◌≡◌, true, ◌&&◌, ap, refl}
-use Rattle.std.specs.Prelude.{Some, None}
+use Rattle.std.proofs.Common.{◌≡◌, true, ◌&&◌, refl}
 use Rattle.std.specs.Cmp.Lexicographic.{pointwise, pointwise_decides}
 use Rattle.std.specs.FinMap.{IsAntisymmetric, nat_cmp-IsAntisymmetric}
 use Rattle.std.specs.Option.{option_cmp}
@@ -8,7 +7,7 @@ use Rattle.std.specs.Ordering.{eq_by_cmp, nat_cmp, ordering_then}
 use Rattle.std.specs.declared.cmp.Ordering.{Ordering}
 use Rattle.std.proofs.lemmas.Bool.{and_from, and_parts}
 use Rattle.events.specs.Sound.{same_rule}
-use Rattle.net_types.proofs.ActionOrder.{actions_total}
+use Rattle.net_types.proofs.ActionOrder.{actions_total, option_cmp-IsAntisymmetric}
 use Rattle.net_types.proofs.CubeLemmas.{cubes_antisym, within_refl}
 use Rattle.net_types.proofs.EqualLemmas.{IsEqualityTest, from_itself}
 use Rattle.net_types.proofs.TieLemmas.{first_tie, ip_cmp-IsAntisymmetric, same_from_tie, second_tie, ties_itself}
@@ -19,12 +18,6 @@ use Rattle.net_types.specs.declared.rule.Rule.{Rule}
 use Rattle.job_laws.specs.Changes.{SameRulesAreEqual}
 
 -- ---- actions
-
-option_cmp-IsAntisymmetric : {K : Type 0} (R : K → K → Ordering) → IsAntisymmetric R → IsAntisymmetric (option_cmp R)
-option_cmp-IsAntisymmetric R same None None e = refl
-option_cmp-IsAntisymmetric R same None (Some y) e = cc
-option_cmp-IsAntisymmetric R same (Some x) None e = cc
-option_cmp-IsAntisymmetric R same (Some x) (Some y) e = ap Some (same x y e)
 
 assign_cmp-IsAntisymmetric : IsAntisymmetric assign_cmp
 assign_cmp-IsAntisymmetric a b e =

@@ -1,5 +1,5 @@
 -- The tags and pairs of a steady state are few: the pool's tags, and no more pairs than rules.
-use Rattle.std.proofs.Common.{◌≡◌, ℕ, zero, suc, ◌+◌, ◌<◌, ◌≤◌, ◌^◌, true, List, [], ◌∷◌, length, map, nat_eq, sum_by, sym, ap, ◌∙◌, refl, arith, inl, inr}
+use Rattle.std.proofs.Common.{◌≡◌, ◌<◌, ◌≤◌, ◌^◌, true, List, [], ◌∷◌, length, map, nat_eq, sum_by, sym, ap, ◌∙◌, refl, arith, inl, inr}
 use Rattle.std.specs.Prelude.{Some, is_some}
 use Rattle.std.specs.FinMap.{entries, get, keys}
 use Rattle.std.proofs.lemmas.Bool.{eqb-true}
@@ -7,7 +7,7 @@ use Rattle.std.proofs.lemmas.List.Sums.{sum_by-cons}
 use Rattle.events.specs.Sound.{rule_count}
 use Rattle.events.specs.State.{State}
 use Rattle.events.specs.Tags.{is_live_pair, tags}
-use Rattle.exchange_laws.proofs.Counted.{entry_at}
+use Rattle.exchange_laws.proofs.Counted.{entry_at, how_many}
 use Rattle.exchange_laws.proofs.Lists.{key_Member}
 use Rattle.exchange_laws.proofs.LivePairs.{live_at}
 use Rattle.exchange_laws.proofs.TagsAfter.{live_of}
@@ -18,7 +18,6 @@ use Rattle.job_upkeep.proofs.Tagged.{some_with}
 use Rattle.net_types.proofs.FindLemmas.{find-IsFound}
 use Rattle.net_types.proofs.OrderLemmas.{pairs_total}
 use Rattle.net_types.specs.Keys.{pair_cmp}
-use Rattle.net_types.specs.Routes.{numbers}
 use Rattle.net_types.specs.Sets.{Member}
 use Rattle.net_types.specs.declared.address.Tag.{Tag}
 use Rattle.net_types.specs.declared.route.PortInfo.{PortInfo}
@@ -26,10 +25,6 @@ use Rattle.net_types.specs.declared.rule.Pair.{Pair}
 use Rattle.net_types.specs.declared.rule.Rule.{Rule}
 use Rattle.recompile.specs.Covering.{AreFew}
 use Rattle.recompile.specs.Setting.{setting_of}
-
-how_many : {B : Type 0} (at : ℕ → B) (low count : ℕ) → length (map at (numbers low count)) ≡ count
-how_many at low zero = refl
-how_many at low (suc count) = ap suc (how_many at (low + 1) count)
 
 some_rules : (rules : List Rule) → (rules ≡ [] → ⊥) → 1 ≤ length rules
 some_rules [] none = absurd (none refl)

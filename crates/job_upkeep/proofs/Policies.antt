@@ -11,6 +11,7 @@ use Rattle.events.specs.State.{State}
 use Rattle.events.specs.Tags.{capped, carried, is_live_pair, live_pairs, pairs, retagged}
 use Rattle.events.specs.declared.Event.{Event}
 use Rattle.events.specs.declared.Event.TheVariants.{Bad, Exchange, Participant as DeclaresParticipant, Port as DeclaresPort, Update, Down, Export, Outbound, Inbound, Take, Drain, Arp, Resolve, Packet, Frame, Recompile, Work, Table}
+use Rattle.exchange_laws.proofs.LineSteps.{building_other}
 use Rattle.exchange_laws.proofs.Counted.{live_Member, live_rise}
 use Rattle.exchange_laws.proofs.Lists.{clash, key_Member}
 use Rattle.exchange_laws.proofs.TagsAfter.{carried_have_tags, tags_stay_pooled}
@@ -34,7 +35,7 @@ use Rattle.job_upkeep.proofs.Carried.{entries_are, entries_carried}
 use Rattle.job_upkeep.proofs.QuietLines.{setting_without}
 use Rattle.job_upkeep.proofs.Listed.{joined_once, rising_once}
 use Rattle.job_upkeep.proofs.Planned.{had_or_fresh}
-use Rattle.job_upkeep.proofs.Reroutings.{building_other, few_planned, refused_alike}
+use Rattle.job_upkeep.proofs.Reroutings.{few_planned, refused_alike}
 use Rattle.job_upkeep.specs.Upkeep.{HasJob, PoliciesKeepJobs, fresh_of, pairs_after}
 use Rattle.net_types.proofs.OrderLemmas.{pairs_total}
 use Rattle.net_types.proofs.OrderedLemmas.{any_member, member_any, ordered_same}

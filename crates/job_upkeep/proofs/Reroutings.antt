@@ -1,16 +1,17 @@
 -- After a change of the routes a job that is told what the plan says covers the state, and owes what the state says.
-use Rattle.std.proofs.Common.{◌≡◌, ◌+◌, ◌*◌, Bool, true, false, length, sym, ap, subst, ◌∙◌, refl}
+use Rattle.std.proofs.Common.{◌≡◌, ◌+◌, ◌*◌, Bool, true, length, sym, ap, subst, ◌∙◌, refl}
 use Rattle.std.specs.Prelude.{Some, None}
 use Rattle.std.specs.Option.{option_map}
 use Rattle.std.proofs.lemmas.List.{length-take-le}
 use Rattle.events.specs.After.{next}
-use Rattle.events.specs.Fits.{is_building, is_of_job}
+use Rattle.events.specs.Fits.{is_building}
 use Rattle.events.specs.Forms.{IsWellFormed}
 use Rattle.events.specs.Refusals.{refusal}
 use Rattle.events.specs.State.{State}
 use Rattle.events.specs.Tags.{capped, free_tags, groups, more_units}
 use Rattle.events.specs.declared.Event.{Event}
 use Rattle.events.specs.declared.Event.TheVariants.{Bad, Exchange, Participant as DeclaresParticipant, Port as DeclaresPort, Update, Down, Export, Outbound, Inbound, Take, Drain, Arp, Resolve, Packet, Frame, Recompile, Work, Table}
+use Rattle.exchange_laws.proofs.LineSteps.{building_other}
 use Rattle.exchange_laws.proofs.Rerouted.{Rerouted, rerouted}
 use Rattle.exchange_laws.specs.Editing.{IsEdit}
 use Rattle.exchange_laws.specs.Replies.{RightRulesAreSome}
@@ -31,27 +32,7 @@ use Rattle.net_types.specs.declared.rule.Pair.{Pair}
 use Rattle.recompile.specs.Covering.{AreFew, Covers}
 use Rattle.recompile.specs.Setting.{setting_of}
 
--- ---- lines that build rules aren't a job's, and are refused alike with a job as without
-
-pub building_other : (e : Event) → is_building e ≡ true → is_of_job e ≡ false
-building_other Recompile building = cc
-building_other (Work units) building = cc
-building_other Bad building = refl
-building_other (Exchange base size capacity) building = refl
-building_other (DeclaresParticipant name asn id) building = refl
-building_other (DeclaresPort name number ip mac) building = refl
-building_other (Update name bytes) building = refl
-building_other (Down name) building = refl
-building_other (Export name text) building = refl
-building_other (Outbound name text) building = refl
-building_other (Inbound name text) building = refl
-building_other (Take name count) building = refl
-building_other (Drain name) building = refl
-building_other (Arp n bytes) building = refl
-building_other (Resolve n) building = refl
-building_other (Packet n bytes) building = refl
-building_other (Frame n bytes) building = refl
-building_other Table building = refl
+-- ---- lines that build rules are refused alike with a job as without
 
 pub refused_alike : (s : State) (e : Event) → is_building e ≡ true → refusal (without_job s) e ≡ refusal s e
 refused_alike s (Update name bytes) building = refl

@@ -32,7 +32,7 @@ assigns_total =
 pub actions_total : IsTotalOrder action_cmp
 actions_total = then_total (on_total (λ (a : Action). a.port.0) nat_cmp_total) (on_total (λ (a : Action). a.set) assigns_total)
 
-option_cmp-IsAntisymmetric : {K : Type 0} (R : K → K → Ordering) → IsAntisymmetric R → IsAntisymmetric (option_cmp R)
+pub option_cmp-IsAntisymmetric : {K : Type 0} (R : K → K → Ordering) → IsAntisymmetric R → IsAntisymmetric (option_cmp R)
 option_cmp-IsAntisymmetric R same None None e = refl
 option_cmp-IsAntisymmetric R same None (Some y) e = cc
 option_cmp-IsAntisymmetric R same (Some x) None e = cc

@@ -21,7 +21,7 @@ use Rattle.net_types.specs.Maps.{ordered, tabulate}
 use Rattle.net_types.specs.Sets.{Member, SameMembers, IsRising}
 use Rattle.net_types.proofs.MemberLemmas.{Contains-Member, Member-at, Member-permutation}
 
-each : {A : Type 0} (P : A → Type 0) (xs : List A) (x : A) → AllByRecursion P xs → Member x xs → P x
+pub each : {A : Type 0} (P : A → Type 0) (xs : List A) (x : A) → AllByRecursion P xs → Member x xs → P x
 each P [] x h m = elim m [ ]
 each P (y ∷ ys) x h (inl e) = subst P (sym e) h.0
 each P (y ∷ ys) x h (inr m) = each P ys x h.1 m

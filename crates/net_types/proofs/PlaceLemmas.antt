@@ -122,7 +122,7 @@ shown : (b : Bool) → T b → b ≡ true
 shown true h = refl
 shown false h = absurd h
 
-cond_not : {A : Type 0} (b : Bool) (x y : A) → cond (not b) x y ≡ cond b y x
+pub cond_not : {A : Type 0} (b : Bool) (x y : A) → cond (not b) x y ≡ cond b y x
 cond_not true x y = refl
 cond_not false x y = refl
 

@@ -1,10 +1,11 @@
 -- What ties in the orders of keys is one thing.
-use Rattle.std.proofs.Common.{◌≡◌, ℕ, true, ◌&&◌, nat_eq, ap, ◌∙◌, refl}
+use Rattle.std.proofs.Common.{◌≡◌, ◌⊎◌, ℕ, true, false, ◌&&◌, nat_eq, sym, ap, ◌∙◌, refl, inl, inr}
 use Rattle.std.specs.Cmp.{IsTotalOrder, nat_eq_equiv, unsigned_tied}
 use Rattle.std.specs.FinMap.{IsAntisymmetric, nat_cmp-IsAntisymmetric}
-use Rattle.std.specs.Ordering.{nat_cmp, eq_by_cmp, is_eq, ordering_then}
+use Rattle.std.specs.Ordering.{nat_cmp, eq_by_cmp, is_eq, is_lt, ordering_reverse, ordering_then}
 use Rattle.std.specs.declared.cmp.Ordering.{Ordering}
 use Rattle.std.specs.declared.cmp.Ordering.TheVariants.{Less, Equal, Greater}
+use Rattle.std.proofs.lemmas.Bool.{false≢true}
 use Rattle.std.proofs.lemmas.Cmp.{tied_itself}
 use Rattle.net_types.specs.Keys.{prefix_cmp, tag_cmp, pair_cmp, route_cmp, ip_cmp}
 use Rattle.net_types.proofs.PrefixLemmas.{prefix_ext}
@@ -13,6 +14,16 @@ pub tie_Equal : (r : Ordering) → is_eq r ≡ true → r ≡ Equal
 tie_Equal Less e = cc
 tie_Equal Equal e = refl
 tie_Equal Greater e = cc
+
+-- of two that are ordered, only one comes first, and they are not level
+pub backward : (r s : Ordering) → r ≡ ordering_reverse s → is_lt r ≡ true → is_lt s ≡ false
+backward r Less e h = let k : is_lt r ≡ false = ap is_lt e in absurd (false≢true (sym k ∙ h))
+backward r Equal e h = refl
+backward r Greater e h = refl
+
+pub not_tied : (r : Ordering) → r ≡ Equal → (r ≡ Less) ⊎ (r ≡ Greater) → ⊥
+not_tied r e (inl h) = cc
+not_tied r e (inr h) = cc
 
 pub first_tie : (o r : Ordering) → ordering_then o r ≡ Equal → o ≡ Equal
 first_tie Less r e = e

@@ -84,7 +84,7 @@ assign_test = from_itself same_assign assign_right assign_itself
 
 -- ---- policies
 
-any_found : {A : Type 0} (test : A → Bool) (xs : List A) → list_any test xs ≡ true → (x : A) × IsFound test xs x
+pub any_found : {A : Type 0} (test : A → Bool) (xs : List A) → list_any test xs ≡ true → (x : A) × IsFound test xs x
 any_found test [] e = absurd (false≢true e)
 any_found test (x ∷ xs) e = elim (or_cases (test x) (list_any test xs) e) [
   | inl here ↦ (x, record { stands = inl refl; passes = here })

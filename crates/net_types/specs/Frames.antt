@@ -58,6 +58,10 @@ changes_of_address at old new = change_of at (old.0 / 65536) (new.0 / 65536) ++ 
 abbrev pub tag_mac : Tag → List ℕ
 tag_mac t = 2 ∷ 83 ∷ 68 ∷ t.0 / 65536 ∷ t.0 / 256 % 256 ∷ t.0 % 256 ∷ []
 
+-- the address of a tag lies that far above the base of the pool (this exchange's own rule)
+abbrev pub address_of : Ip → Tag → Ip
+address_of base t = record { 0 = base.0 + t.0 }
+
 -- the frame with a word at a place
 abbrev pub put_word : ℕ → ℕ → List ℕ → List ℕ
 put_word at n frame = take at frame ++ n / 256 ∷ n % 256 ∷ drop (at + 2) frame

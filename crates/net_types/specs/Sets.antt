@@ -6,6 +6,11 @@ abbrev pub Member : {A : Type 0} → A → List A → Type 0
 Member x [] = ⊥
 Member x (y ∷ ys) = (x ≡ y) ⊎ Member x ys
 
+-- each member has it
+abbrev pub Each : {A : Type 0} → (A → Type 0) → List A → Type 0
+Each P [] = Unit {0}
+Each P (x ∷ xs) = P x × Each P xs
+
 -- the lists have the same members: as sets they are equal
 pub record SameMembers {A : Type 0} (xs ys : List A) : Type 0 where
   pub onto : (x : A) → Member x xs → Member x ys

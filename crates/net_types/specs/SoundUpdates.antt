@@ -1,7 +1,7 @@
 -- Updates that have the form of what a message may say (this exchange's own rule).
 use Rattle.std.specs.Prelude.{◌≡◌, ◌<◌, ◌≤◌, false, List, [], ◌∷◌, length, Option, Some, None}
 use Rattle.net_types.specs.AttributeTypes.{type_of}
-use Rattle.net_types.specs.Sets.{IsRising, Member}
+use Rattle.net_types.specs.Sets.{Each, IsRising, Member}
 use Rattle.net_types.specs.UpdateSpelling.{is_before, is_type_before}
 use Rattle.net_types.specs.declared.address.Ip.{Ip}
 use Rattle.net_types.specs.declared.prefix.Prefix.{Prefix}
@@ -11,11 +11,6 @@ use Rattle.net_types.specs.declared.route.Segment.{Segment}
 use Rattle.net_types.specs.declared.route.Unknown.{Unknown}
 use Rattle.net_types.specs.declared.update.Update.{Update}
 use Rattle.net_types.specs.Paths.{asns as asns_of}
-
--- each member of a list
-abbrev pub Each : {A : Type 0} → (A → Type 0) → List A → Type 0
-Each P [] = Unit {0}
-Each P (x ∷ xs) = P x × Each P xs
 
 -- a segment has 1 to 255 AS numbers, of four octets at most
 pub record IsSoundSegment (s : Segment) : Type 0 where

@@ -1,4 +1,4 @@
--- Which tags of a pool are free, and the addresses of tags (this exchange's own rule).
+-- Which tags of a pool are free (this exchange's own rule).
 use Rattle.std.specs.Prelude.{◌≡◌, ℕ, ◌+◌, ◌-◌, ◌<◌, ◌≤◌, Bool, true, false, not, nat_lt, List, map, filter, length, Option, Some, None, slice_index_or, slice_set, replicate}
 use Rattle.net_types.specs.Routes.{numbers}
 use Rattle.net_types.specs.declared.address.Ip.{Ip}
@@ -46,10 +46,6 @@ marked p t b = record p { taken = slice_set p.taken (t.0 - 1) b }
 -- the pool of so many tags, all free
 abbrev pub all_free : Ip → ℕ → Tags
 all_free base size = record { base = base; taken = replicate size false }
-
--- a tag's address lies that far above the base
-abbrev pub address_of : Tags → Tag → Ip
-address_of p t = record { 0 = p.base.0 + t.0 }
 
 -- what is kept of a pool: all addresses are below 2 ^ 32, no tag below the mark is free, and the free ones are counted.
 pub record IsKept (base : ℕ) (taken : List Bool) (least free : ℕ) : Type 0 where

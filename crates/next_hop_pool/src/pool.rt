@@ -1,8 +1,9 @@
 //! The pool of tags.
 
 ghost use Rattle.std.specs.Prelude.{◌≡◌, ◌≢◌, [], ◌≤◌, ◌<◌, ◌+◌, Bool, true, false, None, IsTrue, IfOk, IfSome, IfNone, MatchOption, length, find, slice_get};
+ghost use Rattle.net_types.specs.Frames.{address_of};
 ghost use Rattle.net_types.specs.declared.address.Tag.{Tag};
-ghost use Rattle.next_hop_pool.specs.Free.{free_tags, is_above, IsTag, is_taken, marked, all_free, address_of};
+ghost use Rattle.next_hop_pool.specs.Free.{free_tags, is_above, IsTag, is_taken, marked, all_free};
 
 use crate::place::{RUN, first_free};
 use net_types::{Ip, Memory, Tag};
@@ -137,15 +138,15 @@ impl Pool {
     /// The address of a tag of the pool.
     pub fn address(&self, tag: Tag) -> Ip
         requires { IsTag self.now tag }
-        ensures { result ≡ address_of self.now tag }
+        ensures { result ≡ address_of self.now.base tag }
     {
         Ip(self.base + tag.0)
     }
 
     /// The tag of the pool with an address, where there is one.
     pub fn tag_at(&self, ip: Ip) -> Option<Tag>
-        ensures found { IfSome result (λ t. IsTag self.now t × (address_of self.now t ≡ ip)) }
-        ensures absent { IfNone result ((t : Tag) → IsTag self.now t → address_of self.now t ≢ ip) }
+        ensures found { IfSome result (λ t. IsTag self.now t × (address_of self.now.base t ≡ ip)) }
+        ensures absent { IfNone result ((t : Tag) → IsTag self.now t → address_of self.now.base t ≢ ip) }
     {
         if ip.0 <= self.base {
             return None;

@@ -1,10 +1,12 @@
--- What changes of values keep, and the entries on both sides of one that changes.
-use Rattle.std.proofs.Common.{◌≡◌, ℕ, true, cond, ◌&&◌, List, [], ◌∷◌, ◌++◌, length, map, ap, ◌∙◌, refl, arith}
-use Rattle.std.specs.Cmp.{IsTotalOrder}
+-- What changes of values keep, what is found after one, and the entries on both sides of one that changes.
+use Rattle.std.proofs.Common.{◌≡◌, ℕ, Bool, true, false, cond, ◌&&◌, List, [], ◌∷◌, ◌++◌, length, map, sym, ap, ◌∙◌, refl, arith}
+use Rattle.std.specs.Prelude.{Option, Some, None}
+use Rattle.std.specs.Cmp.{IsTotalOrder, alike_right, eq_by_cmp_equiv}
+use Rattle.std.specs.Option.{option_map}
 use Rattle.std.specs.Ordering.{eq_by_cmp, is_eq, is_lt}
 use Rattle.std.specs.declared.cmp.Ordering.{Ordering}
 use Rattle.std.specs.declared.cmp.Ordering.TheVariants.{Less, Equal, Greater}
-use Rattle.std.specs.FinMap.Entries.{is_sorted, below_all}
+use Rattle.std.specs.FinMap.Entries.{find, is_sorted, below_all}
 use Rattle.std.proofs.lemmas.Bool.{and_parts}
 use Rattle.std.proofs.lemmas.List.{length-map, map-append}
 use Rattle.ordered_map.specs.Changes.{with_values, changed_at}
@@ -28,6 +30,29 @@ module _ {K V : Type 0} (R : K → K → Ordering) where
   values_kept f es fs spare count kept is =
       let size : length fs ≡ length es = ap length is ∙ length-map es (λ (e : K × V). (e.0, f e.0 e.1)) in
       record { rising = values_rise f es fs kept.rising is; counted = omega (arith, size, kept.counted); fits = kept.fits }
+
+  -- what is found of a key once the value of one has changed
+  pub find-changed : IsTotalOrder R → (q : K) (f : V → V) (u : K) (es : List (K × V)) → find R u (changed_at R q f es) ≡ cond (eq_by_cmp R u q) (option_map f (find R u es)) (find R u es)
+  find-changed o q f u es = found es
+    where
+      equal : (r : Ordering) → is_eq r ≡ true → r ≡ Equal
+      equal Less e = cc
+      equal Equal e = refl
+      equal Greater e = cc
+
+      here_or_not : (b : Bool) (v : V) → ◌≡◌ {A = Option V} (Some (cond b (f v) v)) (cond b (Some (f v)) (Some v))
+      here_or_not true v = refl
+      here_or_not false v = refl
+
+      found : (es : List (K × V)) → find R u (changed_at R q f es) ≡ cond (eq_by_cmp R u q) (option_map f (find R u es)) (find R u es)
+      found [] = elim (eq_by_cmp R u q) as (λ b. ◌≡◌ {A = Option V} None (cond b None None)) [ true ↦ refl | false ↦ refl ]
+      found (e ∷ es) =
+          elim (eq_by_cmp R u e.0) as (λ b. eq_by_cmp R u e.0 ≡ b → cond b (Some (cond (eq_by_cmp R q e.0) (f e.1) e.1)) (find R u (changed_at R q f es)) ≡ cond (eq_by_cmp R u q) (option_map f (cond b (Some e.1) (find R u es))) (cond b (Some e.1) (find R u es))) [
+            | true ↦ λ tie.
+                let same : eq_by_cmp R q e.0 ≡ eq_by_cmp R u q = ap is_eq (sym (alike_right o u e.0 q (equal _ tie))) ∙ (eq_by_cmp_equiv o).symm q u in
+                ap (λ b. Some (cond b (f e.1) e.1)) same ∙ here_or_not (eq_by_cmp R u q) e.1
+            | false ↦ λ apart. found es
+          ] refl
 
   module _ (q : K) (f : V → V) where
     abbrev one : K × V → K × V

@@ -1,5 +1,5 @@
 -- A text of a policy has one value.
-use Rattle.std.proofs.Common.{◌≡◌, ℕ, List, Result, Ok, Err, ap, sym, subst}
+use Rattle.std.proofs.Common.{◌≡◌, ℕ, List, Result, Ok, Err, ap, subst}
 use Rattle.grammar.specs.TextReading.{Fault, Wrong, Deep}
 use Rattle.grammar.specs.Texts.{IsText, IsSyntaxFault, IsDeepFault, Says}
 use Rattle.grammar.proofs.Texts.{text_said, one_syntax_fault, one_deep_fault, deep_or_syntax}

@@ -2,8 +2,7 @@
 use Rattle.std.proofs.Common.{◌≡◌, ℕ, ◌+◌, ◌<◌, ◌^◌, Bool, true, false, cond, ◌&&◌, List, [], ◌∷◌, map, length, sym, ap, ◌∙◌, refl, arith}
 use Rattle.std.specs.Prelude.{Option, Some, None, is_some}
 use Rattle.std.specs.Option.{option_map}
-use Rattle.std.specs.Ordering.{eq_by_cmp, is_eq, is_lt}
-use Rattle.std.specs.Cmp.{alike_right, eq_by_cmp_equiv}
+use Rattle.std.specs.Ordering.{eq_by_cmp, is_lt}
 use Rattle.std.specs.FinMap.{FinMap, get, insert, remove, entries, same_map}
 use Rattle.std.specs.FinMap.Entries.{find, is_sorted, below_all, find_tied}
 use Rattle.net_types.proofs.OrderLemmas.{tags_total}
@@ -13,6 +12,7 @@ use Rattle.net_types.specs.Keys.{prefix_cmp, tag_cmp}
 use Rattle.net_types.specs.declared.address.Tag.{Tag}
 use Rattle.net_types.specs.declared.prefix.Prefix.{Prefix}
 use Rattle.net_types.specs.declared.route.Part.{Part}
+use Rattle.ordered_map.proofs.ChangeLemmas.{find-changed}
 use Rattle.ordered_map.specs.Changes.{changed_at}
 use Rattle.prefix_classes.proofs.MemberLemmas.{members-insert, members-remove, members-le, is_tag-itself, some_member}
 use Rattle.prefix_classes.specs.Classes.{has_tag, members}
@@ -70,20 +70,6 @@ same_sigs es fs sorted sorted_too same = same_map tags_total tag_cmp-IsAntisymme
 pub tied : (es : List (Tag × Kept)) (u t : Tag) → eq_by_cmp tag_cmp u t ≡ true → find tag_cmp u es ≡ find tag_cmp t es
 tied es u t e = sym (find_tied tag_cmp tags_total u t (tie_Equal _ e) es)
 
-here_or_not : (b : Bool) (f : Kept → Kept) (k : Kept) → ◌≡◌ {A = Option Kept} (Some (cond b (f k) k)) (cond b (Some (f k)) (Some k))
-here_or_not true f k = refl
-here_or_not false f k = refl
-
-find-changed : (t : Tag) (f : Kept → Kept) (u : Tag) (es : List (Tag × Kept)) → find tag_cmp u (changed_at tag_cmp t f es) ≡ cond (eq_by_cmp tag_cmp u t) (option_map f (find tag_cmp u es)) (find tag_cmp u es)
-find-changed t f u [] = elim (eq_by_cmp tag_cmp u t) as (λ b. ◌≡◌ {A = Option Kept} None (cond b None None)) [ true ↦ refl | false ↦ refl ]
-find-changed t f u (e ∷ es) =
-    elim (eq_by_cmp tag_cmp u e.0) as (λ b. eq_by_cmp tag_cmp u e.0 ≡ b → cond b (Some (cond (eq_by_cmp tag_cmp t e.0) (f e.1) e.1)) (find tag_cmp u (changed_at tag_cmp t f es)) ≡ cond (eq_by_cmp tag_cmp u t) (option_map f (cond b (Some e.1) (find tag_cmp u es))) (cond b (Some e.1) (find tag_cmp u es))) [
-      | true ↦ λ tie.
-          let same : eq_by_cmp tag_cmp t e.0 ≡ eq_by_cmp tag_cmp u t = ap is_eq (sym (alike_right tags_total u e.0 t (tie_Equal _ tie))) ∙ (eq_by_cmp_equiv tags_total).symm t u in
-          ap (λ b. Some (cond b (f e.1) e.1)) same ∙ here_or_not (eq_by_cmp tag_cmp u t) f e.1
-      | false ↦ λ apart. find-changed t f u es
-    ] refl
-
 -- a kept tag gets another number
 exchanged : (t : Tag) (es fs : List (Tag × Kept)) (f : Kept → Kept) (k : Kept) (before after : Option Tag) → is_sorted tag_cmp es ≡ true → is_sorted tag_cmp fs ≡ true → fs ≡ changed_at tag_cmp t f es → find tag_cmp t es ≡ Some k → (f k).sig ≡ k.sig
     → ((u : Tag) → eq_by_cmp tag_cmp u t ≡ true → (f k).members + has_tag u before ≡ k.members + has_tag u after) → ((u : Tag) → eq_by_cmp tag_cmp u t ≡ false → has_tag u before ≡ has_tag u after)
@@ -105,7 +91,7 @@ exchanged t es fs f k before after sorted sorted_too next is same_sig tie apart 
 }
   where
     found : (u : Tag) → find tag_cmp u fs ≡ cond (eq_by_cmp tag_cmp u t) (Some (f k)) (find tag_cmp u es)
-    found u = ap (find tag_cmp u) next ∙ find-changed t f u es
+    found u = ap (find tag_cmp u) next ∙ find-changed tag_cmp tags_total t f u es
         ∙ elim (eq_by_cmp tag_cmp u t) as (λ b. eq_by_cmp tag_cmp u t ≡ b → cond b (option_map f (find tag_cmp u es)) (find tag_cmp u es) ≡ cond b (Some (f k)) (find tag_cmp u es)) [
           | true ↦ λ e. ap (option_map f) (tied es u t e ∙ is)
           | false ↦ λ e. refl

@@ -5,7 +5,7 @@ use Rattle.std.specs.declared.cmp.Ordering.{Ordering}
 use Rattle.std.specs.FinMap.{FinMap, empty, get, insert, get-insert}
 use Rattle.std.specs.Cmp.{IsTotalOrder}
 use Rattle.std.specs.Ordering.{eq_by_cmp}
-use Rattle.std.proofs.lemmas.Bool.{false≢true, ltb-false, ltb-true}
+use Rattle.std.proofs.lemmas.Bool.{ltb-false, ltb-true}
 use Rattle.block_build.specs.Tight.{IsTightForm}
 use Rattle.net_types.proofs.FindLemmas.{not_there}
 use Rattle.net_types.proofs.OrderLemmas.{pairs_total, tags_total}
@@ -87,11 +87,6 @@ module _ {K X : Type 0} (R : K → K → Ordering) (total : IsTotalOrder R) (tie
     where
       itself : (q : K) → q ≡ k → get n q ≡ Some v
       itself q same = subst (λ x. get n x ≡ Some v) (sym same) (ap (λ x. get x k) is ∙ get-insert total m k v k ∙ ap (λ c. cond c (Some v) (get m k)) (ties_itself total k))
-
--- what is there of an option that has something
-pub some_of : {A : Type 0} (o : Option A) → is_some o ≡ true → (x : A) × (o ≡ Some x)
-some_of None e = absurd (false≢true e)
-some_of (Some x) e = (x, refl)
 
 -- ---- nothing is done but that a list is shortened
 

@@ -1,5 +1,5 @@
 -- Fields that are written one after the other.
-use Rattle.std.proofs.Common.{◌≡◌, ℕ, List, [], ◌∷◌, ◌++◌, refl, sym, ap, ◌∙◌, append_assoc, append-nil, codes, flat_map, map, length, ◌<◌, ◌-◌, ◌≢◌, get_or, take, drop, Bool, true, false, arith}
+use Rattle.std.proofs.Common.{◌≡◌, ℕ, List, [], ◌∷◌, ◌++◌, refl, sym, ap, ◌∙◌, append_assoc, append-nil, codes, map, length, ◌<◌, ◌-◌, ◌≢◌, get_or, take, drop, Bool, true, false, arith}
 use Rattle.events.specs.Text.{joined, or_star, or_none, in_brackets, action_text, prefix_field, prefix_text}
 use Rattle.std.specs.Str.{bytes_eq}
 use Rattle.std.proofs.lemmas.List.{take_rest}

@@ -1,4 +1,5 @@
 -- What the reply to an accepted line may give tags of: none, those of a line that changes the routes, or those of a job's end.
+use Rattle.events.proofs.Drained.{some_cond}
 use Rattle.std.proofs.Common.{◌≡◌, ◌⊎◌, ◌-◌, ℕ, Bool, true, false, cond, List, [], ◌∷◌, ap, sym, ◌∙◌, refl, inl, inr}
 use Rattle.std.specs.Prelude.{Option, Some, None, MatchOption, nat_lt, take}
 use Rattle.std.specs.FinMap.{get, keys}
@@ -77,10 +78,6 @@ abbrev pub Kind : State → Event → Reply → Type 0
 Kind s e r = IsQuiet s e r ⊎ (IsRetagging s e r ⊎ IsEnding s e r)
 
 -- ---- tags after a change of the routes
-
-pub some_cond : {A : Type 0} (b : Bool) (o : Option A) (x : A) → cond b o None ≡ Some x → o ≡ Some x
-some_cond true o x e = e
-some_cond false o x e = cc
 
 not_true : (b : Bool) → not b ≡ true → b ≡ false
 not_true true e = cc

@@ -1,18 +1,16 @@
 -- What each line that no refusal stops carries on holds after every legal run.
-use Rattle.std.proofs.Common.{◌≡◌, Bool, true, false, cond, ◌&&◌, List, [], ◌∷◌, subst, sym, refl, inl, inr}
+use Rattle.std.proofs.Common.{◌≡◌, Bool, true, false, cond, List, [], ◌∷◌, subst, sym, refl, inl, inr}
 use Rattle.std.specs.Prelude.{Option, Some, None}
 use Rattle.std.specs.FinMap.{FinMap}
-use Rattle.std.proofs.lemmas.Bool.{and_parts}
 use Rattle.events.specs.After.{after, next, next_by}
 use Rattle.events.specs.Fits.{FitsBy}
 use Rattle.events.specs.Legal.{Legal, LegalFrom, state_after, state_from}
-use Rattle.events.specs.Refusals.{if_known, is_placed, or_else, refusal, refusal_in_place, refused_if, suits_job}
+use Rattle.events.specs.Refusals.{refusal}
 use Rattle.events.specs.State.{State, first}
 use Rattle.events.specs.declared.Event.{Event}
 use Rattle.events.specs.declared.Head.{Head}
 use Rattle.events.specs.declared.Head.TheVariants.{Fine, Working, Finished, Unrouted, Unresolved, Silent, Refused}
 use Rattle.events.specs.declared.Refusal.{Refusal}
-use Rattle.events.specs.declared.Refusal.TheVariants.{Misplaced}
 use Rattle.events.specs.declared.Reply.{Reply}
 use Rattle.net_types.specs.Keys.{pair_cmp}
 use Rattle.net_types.specs.Sets.{Member}
@@ -20,31 +18,9 @@ use Rattle.net_types.specs.declared.rule.Rule.{Rule}
 
 -- ---- no refusal
 
-pub not_stopped : (b : Bool) (why : Refusal) → refused_if b why ≡ None → b ≡ false
-not_stopped true why e = absurd (cc)
-not_stopped false why e = refl
-
-pub neither : (a b : Option Refusal) → or_else a b ≡ None → (a ≡ None) × (b ≡ None)
-neither None b e = (refl, e)
-neither (Some x) b e = absurd (cc)
-
 pub not_before : {A : Type 0} (b : Bool) (x : A) (o : Option A) → cond b (Some x) o ≡ None → o ≡ None
 not_before true x o e = absurd (cc)
 not_before false x o e = e
-
-pub known : {X : Type 0} (o : Option X) (f : X → Option Refusal) → if_known o f ≡ None → (x : X) × (o ≡ Some x) × (f x ≡ None)
-known None f e = absurd (cc)
-known (Some x) f e = (x, refl, e)
-
-in_place : (b : Bool) (o : Option Refusal) → cond b o (Some Misplaced) ≡ None → (b ≡ true) × (o ≡ None)
-in_place true o e = (refl, e)
-in_place false o e = absurd (cc)
-
--- what no refusal stops is in place, and none of its own stops it
-pub passes : (s : State) (e : Event) → refusal s e ≡ None → (is_placed s.phase e ≡ true) × (refusal_in_place s e ≡ None)
-passes s e none =
-    let there = in_place (suits_job s.owed e && is_placed s.phase e) (refusal_in_place s e) none in
-    ((and_parts (suits_job s.owed e) (is_placed s.phase e) there.0).1, there.1)
 
 -- ---- runs
 

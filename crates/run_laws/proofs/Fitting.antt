@@ -1,7 +1,7 @@
 -- Each route of a state that a legal run reaches can be told in a message, and so can whatever is present.
-use Rattle.std.proofs.Common.{◌≡◌, ◌⊎◌, ℕ, ◌+◌, ◌-◌, ◌/◌, ◌≤◌, Bool, true, false, cond, ◌&&◌, nat_eq, nat_lt, not, List, [], ◌∷◌, ◌++◌, length, take, sym, ap, subst, ◌∙◌, refl, inl, inr, arith}
+use Rattle.std.proofs.Common.{◌≡◌, ◌⊎◌, ℕ, ◌+◌, ◌-◌, ◌/◌, ◌≤◌, Bool, true, false, cond, ◌&&◌, nat_lt, List, [], ◌∷◌, ◌++◌, length, take, sym, ap, subst, ◌∙◌, refl, inl, inr, arith}
 use Rattle.std.specs.Prelude.{Option, Some, None, Result, Ok, Err, slice_set, min}
-use Rattle.std.specs.FinMap.{FinMap, get, get-empty, get-insert, get-remove, get-retain_keys, insert, remove}
+use Rattle.std.specs.FinMap.{FinMap, get, get-empty, get-insert, insert}
 use Rattle.std.specs.List.{list_any}
 use Rattle.std.specs.Option.{option_and_then, option_map, option_map_or}
 use Rattle.std.specs.Ordering.{eq_by_cmp}
@@ -22,6 +22,7 @@ use Rattle.events.specs.declared.Event.TheVariants.{Bad, Exchange, Participant, 
 use Rattle.events.specs.declared.Refusal.{Refusal}
 use Rattle.events.specs.declared.Refusal.TheVariants.{Oversize}
 use Rattle.events.specs.declared.Reply.{Reply}
+use Rattle.exchange_laws.proofs.Rerouted.{neither, not_gone, not_stopped, passes, still_there}
 use Rattle.grammar.specs.TextReading.{Fault as Misread}
 use Rattle.net_types.proofs.FindLemmas.{any_at, not_there}
 use Rattle.net_types.proofs.MapLemmas.{get-tabulate}
@@ -53,7 +54,7 @@ use Rattle.net_types.specs.declared.route.PortInfo.{PortInfo}
 use Rattle.net_types.specs.declared.update.Fault.{Fault}
 use Rattle.net_types.specs.declared.update.Update.{Update as Message}
 use Rattle.run_laws.proofs.Answered.{answered}
-use Rattle.run_laws.proofs.Carried.{neither, not_stopped, passes, runs_hold}
+use Rattle.run_laws.proofs.Carried.{runs_hold}
 use Rattle.run_laws.specs.Promises.{AdvertsFitMessages}
 
 -- ---- messages
@@ -91,17 +92,6 @@ RoutesFit s = (who : Pid) (p : Prefix) (a : Attrs) → route s.routing who p ≡
 abbrev pub RoutesOf : Type 0
 RoutesOf = FinMap route_cmp Attrs
 
--- a route that stays was there
-pub still_there : (from : Pid) (ps : List Prefix) (m : RoutesOf) (k : RouteKey) (a : Attrs) → get (withdrawn from ps m) k ≡ Some a → get m k ≡ Some a
-still_there from [] m k a e = e
-still_there from (p ∷ ps) m k a e =
-    let key : RouteKey = record { from = from; prefix = p } in
-    by (eq_by_cmp route_cmp k key) (sym (get-remove routes_total m key k) ∙ still_there from ps (remove m key) k a e)
-  where
-    by : (b : Bool) → cond b None (get m k) ≡ Some a → get m k ≡ Some a
-    by true is = absurd (cc)
-    by false is = is
-
 -- a route that is there after an announcement was there, or is the announcer's, of the announced prefixes
 pub set_or_there : (from : Pid) (attrs : Attrs) (ps : List Prefix) (m : RoutesOf) (k : RouteKey) (a : Attrs) → get (announced_by from attrs ps m) k ≡ Some a → (get m k ≡ Some a) ⊎ ((k.from ≡ from) × (attrs ≡ a) × Member k.prefix ps)
 set_or_there from attrs [] m k a e = inl e
@@ -120,13 +110,6 @@ set_or_there from attrs (p ∷ ps) m k a e =
         let same : k ≡ record { from = from; prefix = p } = same_from_tie route_cmp route_cmp-IsAntisymmetric k (record { from = from; prefix = p }) is in
         inr (ap (λ (x : RouteKey). x.from) same, some_of attrs a e, inl (ap (λ (x : RouteKey). x.prefix) same))
     by false is e = inl e
-
-pub not_gone : (from : Pid) (m : RoutesOf) (k : RouteKey) (a : Attrs) → get (changes.without_routes from m) k ≡ Some a → get m k ≡ Some a
-not_gone from m k a e = by (not (nat_eq k.from.0 from.0)) (sym (get-retain_keys m (λ (x : RouteKey). not (nat_eq x.from.0 from.0)) k (λ x tie. ap (λ (y : RouteKey). not (nat_eq y.from.0 from.0)) (sym (route_cmp-IsAntisymmetric k x tie)))) ∙ e)
-  where
-    by : (b : Bool) → cond b (get m k) None ≡ Some a → get m k ≡ Some a
-    by true is = is
-    by false is = absurd (cc)
 
 -- an update that isn't refused announces what can be told
 announced_fit : (a : Attrs) (ps : List Prefix) → list_any (λ p. nat_lt 4096 (length (announcement p a a.next_hop))) ps ≡ false → (p : Prefix) → Member p ps → length (announcement p a a.next_hop) ≤ 4096

@@ -1,6 +1,6 @@
 -- What a kept signature offers was exported in the state in which a prefix got the tag.
 use Rattle.std.proofs.Common.{◌≡◌, ◌⊎◌, ◌-◌, ℕ, zero, suc, Bool, true, false, cond, ◌&&◌, not, List, [], ◌∷◌, ◌++◌, filter, ap, sym, subst, ◌∙◌, refl, inl, inr}
-use Rattle.std.specs.Prelude.{Option, Some, None, Result, Ok, Err, find, is_some, nat_eq, nat_lt, slice_get, slice_set, take, unwrap_or}
+use Rattle.std.specs.Prelude.{Option, Some, None, Result, Ok, Err, find, is_some, nat_eq, nat_lt, slice_get, take, unwrap_or}
 use Rattle.std.specs.FinMap.{FinMap, contains_key-keys, empty, get, get-empty, get-retain_keys, keys, values}
 use Rattle.std.specs.List.{list_any}
 use Rattle.std.specs.Option.{option_and_then, option_map, option_map_or}
@@ -8,6 +8,7 @@ use Rattle.std.specs.Ordering.{eq_by_cmp}
 use Rattle.std.proofs.lemmas.Bool.{and_from, and_parts, eqb-true, or_left, or_right}
 use Rattle.grammar.specs.TextReading.{Fault as Misread}
 use Rattle.events.proofs.Candidates.{candidate_exported}
+use Rattle.events.proofs.Drained.{some_cond}
 use Rattle.events.proofs.Reached.{step_sound, first_sound}
 use Rattle.events.proofs.Routed.{best_offered, part_with}
 use Rattle.events.specs.After.{after, bound_read, least_tag, merged, next, next_by, received_by, ruled, running, sent_by, settled, taken, updated, with_known, with_named, with_outbound, with_port, with_told, without_from, worked}
@@ -26,6 +27,7 @@ use Rattle.events.specs.declared.Head.{Head}
 use Rattle.events.specs.declared.Head.TheVariants.{Fine, Working, Finished, Unrouted, Unresolved, Silent, Refused}
 use Rattle.events.specs.declared.Reply.{Reply}
 use Rattle.events.specs.declared.TagChange.{TagChange}
+use Rattle.exchange_laws.proofs.ToldAnew.{get_set}
 use Rattle.net_types.proofs.EqualLemmas.{IsEqualityTest, from_itself, option_test}
 use Rattle.net_types.proofs.FindLemmas.{any_at, find-IsFound, slice_get-Member}
 use Rattle.net_types.proofs.MapLemmas.{get-tabulate}
@@ -59,7 +61,7 @@ use Rattle.net_types.specs.declared.route.Offer.{Offer}
 use Rattle.net_types.specs.declared.route.Part.{Part}
 use Rattle.net_types.specs.declared.update.Fault.{Fault}
 use Rattle.net_types.specs.declared.update.Update.{Update as Message}
-use Rattle.run_laws.proofs.Answering.{Kind, answer_is, fresh_dead, kind_of, resolved_is, some_cond}
+use Rattle.run_laws.proofs.Answering.{Kind, answer_is, fresh_dead, kind_of, resolved_is}
 use Rattle.run_laws.proofs.Sharing.{change_of, given_by}
 use Rattle.run_laws.proofs.Taking.{Entries, all_news_at}
 use Rattle.run_laws.specs.Given.{IsGivenIn, IsHeld, KeptOffersWereExported, OffersExporters, given_from, gives}
@@ -225,13 +227,6 @@ settled_kept s t sig is =
 
 -- ---- what participants are told
 
-set_either : {A : Type 0} (xs : List A) (k j : ℕ) (x d : A) → (unwrap_or (slice_get (slice_set xs k x) j) d ≡ unwrap_or (slice_get xs j) d) ⊎ ((j ≡ k) × (unwrap_or (slice_get (slice_set xs k x) j) d ≡ x))
-set_either [] k j x d = inl refl
-set_either (y ∷ xs) zero zero x d = inr (refl, refl)
-set_either (y ∷ xs) zero (suc j) x d = inl refl
-set_either (y ∷ xs) (suc k) zero x d = inl refl
-set_either (y ∷ xs) (suc k) (suc j) x d = elim (set_either xs k j x d) [ inl same ↦ inl same | inr here ↦ inr (ap suc here.0, here.1) ]
-
 at_more : {A : Type 0} (xs : List A) (k : ℕ) (none : A) → unwrap_or (slice_get (xs ++ none ∷ []) k) none ≡ unwrap_or (slice_get xs k) none
 at_more [] zero none = refl
 at_more [] (suc k) none = refl
@@ -252,7 +247,7 @@ present_tag s who p entry e =
 
 told_leaves : (s : State) (who : Pid) (m : Entries) → ((p : Prefix) (entry : Entry) → get m p ≡ Some entry → (get (told_to s who) p ≡ Some entry) ⊎ (get s.tag p ≡ Some entry.tag)) → Leaves s (settled (running (with_told s who m)))
 told_leaves s who m news = record {
-  told = λ w p entry is. elim (set_either s.told who.0 w.0 m empty) [
+  told = λ w p entry is. elim (get_set s.told who.0 w.0 m empty) [
     | inl same ↦ inl (ap (λ (x : Entries). get x p) (sym same) ∙ is)
     | inr here ↦ subst (λ n. (get (unwrap_or (slice_get s.told n) empty) p ≡ Some entry) ⊎ (get s.tag p ≡ Some entry.tag)) (sym here.0) (news p entry (ap (λ (x : Entries). get x p) (sym here.1) ∙ is))
   ];

@@ -8,6 +8,7 @@ use Rattle.std.specs.Option.{option_map, option_map_or}
 use Rattle.std.specs.Ordering.{eq_by_cmp}
 use Rattle.std.proofs.lemmas.Bool.{and_parts, eq-eqb, eqb-true, false_from_ne_true, or_left, or_right}
 use Rattle.events.proofs.Candidates.{candidate_exported}
+use Rattle.events.proofs.Drained.{some_cond}
 use Rattle.events.proofs.Routed.{part_with}
 use Rattle.events.specs.After.{after, bound_read, least_tag, merged, received_by, ruled, running, sent_by, settled, taken, trimmed_kept, updated, with_known, with_named, with_outbound, with_port, with_told, with_update, without_from, worked}
 use Rattle.events.specs.Forms.{IsWellFormed}
@@ -22,8 +23,9 @@ use Rattle.events.specs.declared.Event.TheVariants.{Bad, Exchange, Participant a
 use Rattle.events.specs.declared.Refusal.{Refusal}
 use Rattle.events.specs.declared.Refusal.TheVariants.{Clash, NextHop}
 use Rattle.events.specs.declared.Reply.{Reply}
+use Rattle.exchange_laws.proofs.Rerouted.{neither, not_gone, not_stopped, passes, still_there}
 use Rattle.grammar.specs.TextReading.{Fault as Misread}
-use Rattle.net_types.proofs.FindLemmas.{any_at, find-IsFound}
+use Rattle.net_types.proofs.FindLemmas.{any_at, find-IsFound, not_there}
 use Rattle.net_types.proofs.MapLemmas.{get-tabulate}
 use Rattle.net_types.proofs.OrderLemmas.{tags_total}
 use Rattle.net_types.proofs.PassLemmas.{find_last, find_more}
@@ -58,9 +60,8 @@ use Rattle.net_types.specs.declared.route.Part.{Part}
 use Rattle.net_types.specs.declared.route.PortInfo.{PortInfo}
 use Rattle.net_types.specs.declared.update.Fault.{Fault}
 use Rattle.net_types.specs.declared.update.Update.{Update as Message}
-use Rattle.run_laws.proofs.Answering.{some_cond}
-use Rattle.run_laws.proofs.Carried.{neither, not_stopped, passes, written_runs_hold}
-use Rattle.run_laws.proofs.Fitting.{RoutesOf, not_gone, set_or_there, still_there}
+use Rattle.run_laws.proofs.Carried.{written_runs_hold}
+use Rattle.run_laws.proofs.Fitting.{RoutesOf, set_or_there}
 use Rattle.run_laws.proofs.Giving.{found, settled_kept, trimmed_narrower}
 use Rattle.run_laws.proofs.Sharing.{given_by}
 
@@ -348,14 +349,11 @@ after_owned s Recompile formed none is = is
 after_owned s (Work units) formed none is = known_owned s s.owed (worked s units) is (λ owed. worked_owned s units owed (nat_lt units owed) is)
 after_owned s Table formed none is = is
 
-nowhere : {A : Type 0} (o : Option A) (x : A) → o ≡ None → o ≡ Some x → ⊥
-nowhere o x none some = cc
-
 first_owned : IsOwned first
 first_owned = record {
   apart = record { numbers = λ q m. absurd m; addresses = λ q m. absurd m; small = λ q m. absurd m };
-  hops = λ k a e. absurd (nowhere _ a (get-empty route_cmp k) e);
-  offers = λ t sig e. absurd (nowhere _ sig (get-empty tag_cmp t) e);
+  hops = λ k a e. absurd (not_there _ a (get-empty route_cmp k) e);
+  offers = λ t sig e. absurd (not_there _ sig (get-empty tag_cmp t) e);
 }
 
 -- after any legal run of lines that can be written

@@ -1,10 +1,10 @@
 -- What inbound policies that passed isolation let leave: by ports of their own participants alone.
-use Rattle.std.proofs.Common.{◌≡◌, ℕ, Bool, true, false, cond, nat_eq, List, [], ◌∷◌, ◌++◌, sym, ap, subst, ◌∙◌, refl, inl, inr}
-use Rattle.std.specs.Prelude.{Option, Some, None}
-use Rattle.std.proofs.lemmas.Bool.{eqb-true}
+use Rattle.exchange_laws.proofs.OwnPorts.{own_port}
+use Rattle.std.proofs.Common.{◌≡◌, ℕ, Bool, true, false, cond, List, [], ◌∷◌, ◌++◌, sym, ap, subst, ◌∙◌, refl, inl, inr}
+use Rattle.std.specs.Prelude.{Option, Some}
 use Rattle.net_types.proofs.SetLemmas.{Member-append_cases, union-Member}
 use Rattle.net_types.specs.Answers.{Leaving, Policies, answer_by, leaves_by, or_default, or_unchanged, policy_of, received, received_at, sent, sent_to}
-use Rattle.net_types.specs.Isolation.{broken, in_faults, port_faults}
+use Rattle.net_types.specs.Isolation.{in_faults}
 use Rattle.net_types.specs.Policies.{Policy, Packet, Name, Number, Drop, Pass, Block, Fwd, Match, Set, Both, Then, den, holds}
 use Rattle.net_types.specs.Sets.{Member, union_over}
 use Rattle.net_types.specs.declared.address.Pid.{Pid}
@@ -12,22 +12,11 @@ use Rattle.net_types.specs.declared.address.PortNo.{PortNo}
 use Rattle.net_types.specs.declared.headers.Headers.{Headers}
 use Rattle.net_types.specs.declared.headers.Loc.{Loc}
 use Rattle.net_types.specs.declared.headers.Loc.TheVariants.{Stay, To, Out, Nowhere}
-use Rattle.net_types.specs.declared.headers.Span.{Span}
 use Rattle.net_types.specs.declared.isolation.IsolateFault.{IsolateFault}
-use Rattle.net_types.specs.declared.isolation.Kind.TheVariants.{ForeignPort}
 
 no_more : (xs ys : List IsolateFault) → xs ++ ys ≡ [] → (xs ≡ []) × (ys ≡ [])
 no_more [] ys e = (refl, e)
 no_more (x ∷ xs) ys e = absurd (cc)
-
--- a port in an inbound policy without faults is the participant's
-own_port : (me : Pid) (o : Option Pid) (span : Span) → port_faults me o span ≡ [] → o ≡ Some me
-own_port me None span e = absurd (cc)
-own_port me (Some who) span e = by (nat_eq who.0 me.0) refl e
-  where
-    by : (b : Bool) → nat_eq who.0 me.0 ≡ b → cond b [] (broken ForeignPort span) ≡ [] → Some who ≡ Some me
-    by true same free = let equal : who.0 ≡ me.0 = eqb-true who.0 me.0 same in λ i. Some (record { 0 = equal i })
-    by false other free = absurd (cc)
 
 module _ (names : List ℕ → Option Pid) (owner_of : PortNo → Option Pid) (me : Pid) where
   -- a port is the participant's; other places are no ports

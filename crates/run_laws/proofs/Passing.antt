@@ -1,14 +1,15 @@
 -- The texts of the policies are read as policies that passed isolation, in every state that a legal run reaches.
-use Rattle.std.proofs.Common.{◌≡◌, ◌⊎◌, ℕ, zero, suc, Bool, true, false, cond, ◌&&◌, nat_lt, List, [], ◌∷◌, ◌++◌, length, sym, ap, subst, ◌∙◌, refl, inl, inr, arith}
+use Rattle.std.proofs.Common.{◌≡◌, ℕ, zero, suc, Bool, true, false, cond, ◌&&◌, nat_lt, List, [], ◌∷◌, ◌++◌, length, sym, ap, subst, ◌∙◌, refl, inl, inr}
 use Rattle.std.specs.Prelude.{◌+◌, map, take, Option, Some, None, Result, Ok, Err, codes, slice_get, slice_set, unwrap_or, ◌-◌}
 use Rattle.std.specs.FinMap.{FinMap}
 use Rattle.std.specs.Option.{option_map_or}
 use Rattle.std.proofs.lemmas.List.{length-append}
 use Rattle.events.proofs.DropText.{drop_is_read}
+use Rattle.events.proofs.Reached.{set_length}
 use Rattle.events.specs.After.{after, bound_read, merged, received_by, ruled, running, sent_by, settled, taken, updated, with_known, with_named, with_outbound, with_participant, with_port, with_told, without_from, worked}
 use Rattle.events.specs.Legal.{state_after}
 use Rattle.events.specs.Pending.{pending}
-use Rattle.events.specs.Refusals.{if_known, if_short, inbound_refusal, is_placed, isolation_refusal, outbound_refusal, policy_refusal, refusal, refused_if, tags_refusal}
+use Rattle.events.specs.Refusals.{if_known, if_short, inbound_refusal, is_placed, outbound_refusal, policy_refusal, refusal, tags_refusal}
 use Rattle.events.specs.Resolving.{is_pool_request, port_place, resolved_at, unresolved, with_answer, with_resolved}
 use Rattle.events.specs.State.{State, AreRead, IsRead, first, owner_of, port_of, present}
 use Rattle.events.specs.Tags.{retagged}
@@ -17,7 +18,10 @@ use Rattle.events.specs.declared.Event.TheVariants.{Bad, Exchange, Participant a
 use Rattle.events.specs.declared.Phase.{Phase}
 use Rattle.events.specs.declared.Phase.TheVariants.{Start, Declaring, Running}
 use Rattle.events.specs.declared.Refusal.{Refusal}
-use Rattle.events.specs.declared.Refusal.TheVariants.{TextLong, TooWide}
+use Rattle.events.specs.declared.Refusal.TheVariants.{TextLong}
+use Rattle.exchange_laws.proofs.LineSteps.{at_start, declares_participant, no_fault}
+use Rattle.exchange_laws.proofs.PassedSteps.{set_both, set_read}
+use Rattle.exchange_laws.proofs.Rerouted.{neither, passes}
 use Rattle.grammar.specs.TextReading.{Fault as Misread}
 use Rattle.net_types.proofs.ValueLemmas.{no_entries}
 use Rattle.net_types.specs.Answers.{policy_of}
@@ -32,18 +36,16 @@ use Rattle.net_types.specs.Octets.{same_octets}
 use Rattle.net_types.specs.Policies.{Policy, Drop}
 use Rattle.net_types.specs.PolicyReading.{policy_of_text}
 use Rattle.net_types.specs.UpdateReading.{decoded}
-use Rattle.net_types.specs.Widths.{is_too_wide}
 use Rattle.net_types.specs.declared.address.Ip.{Ip}
 use Rattle.net_types.specs.declared.address.Pid.{Pid}
 use Rattle.net_types.specs.declared.address.PortNo.{PortNo}
 use Rattle.net_types.specs.declared.export.ExportRule.{ExportRule}
-use Rattle.net_types.specs.declared.isolation.IsolateFault.{IsolateFault}
 use Rattle.net_types.specs.declared.route.Participant.{Participant}
 use Rattle.net_types.specs.declared.route.PortInfo.{PortInfo}
 use Rattle.net_types.specs.declared.update.Fault.{Fault}
 use Rattle.net_types.specs.declared.update.Update.{Update as Message}
 use Rattle.net_types.specs.declared.rule.Rule.{Rule}
-use Rattle.run_laws.proofs.Carried.{neither, not_before, passes, runs_hold}
+use Rattle.run_laws.proofs.Carried.{not_before, runs_hold}
 use Rattle.run_laws.specs.Promises.{PoliciesHavePassed}
 
 -- ---- lists
@@ -59,22 +61,6 @@ at_more [] (suc k) none = refl
 at_more (x ∷ xs) zero none = refl
 at_more (x ∷ xs) (suc k) none = at_more xs k none
 
-set_length : {A : Type 0} (xs : List A) (k : ℕ) (x : A) → length (slice_set xs k x) ≡ length xs
-set_length [] k x = refl
-set_length (y ∷ xs) zero x = refl
-set_length (y ∷ xs) (suc k) x = ap suc (set_length xs k x)
-
--- lists that are alike in length, with other members at a place: there stand these, and elsewhere what stood there
-set_both : {A B : Type 0} (xs : List A) (ys : List B) (k j : ℕ) (x d : A) (y e : B) → length ys ≡ length xs
-    → ((at (slice_set xs k x) j d ≡ at xs j d) × (at (slice_set ys k y) j e ≡ at ys j e)) ⊎ ((j ≡ k) × (at (slice_set xs k x) j d ≡ x) × (at (slice_set ys k y) j e ≡ y))
-set_both [] [] k j x d y e same = inl (refl, refl)
-set_both [] (b ∷ ys) k j x d y e same = absurd (omega arith)
-set_both (a ∷ xs) [] k j x d y e same = absurd (omega arith)
-set_both (a ∷ xs) (b ∷ ys) zero zero x d y e same = inr (refl, refl, refl)
-set_both (a ∷ xs) (b ∷ ys) zero (suc j) x d y e same = inl (refl, refl)
-set_both (a ∷ xs) (b ∷ ys) (suc k) zero x d y e same = inl (refl, refl)
-set_both (a ∷ xs) (b ∷ ys) (suc k) (suc j) x d y e same = elim (set_both xs ys k j x d y e (omega arith)) [ inl stays ↦ inl stays | inr here ↦ inr (ap suc here.0, here.1, here.2) ]
-
 -- ---- texts
 
 more_read : (texts : List (List ℕ)) (ps : List Policy) (text : List ℕ) (p : Policy) → AreRead texts ps → IsRead text p → AreRead (texts ++ text ∷ []) (ps ++ p ∷ [])
@@ -82,13 +68,6 @@ more_read [] [] text p read is = (is, tt)
 more_read [] (q ∷ ps) text p read is = absurd read
 more_read (t ∷ texts) [] text p read is = absurd read
 more_read (t ∷ texts) (q ∷ ps) text p read is = (read.0, more_read texts ps text p read.1 is)
-
-set_read : (texts : List (List ℕ)) (ps : List Policy) (k : ℕ) (text : List ℕ) (p : Policy) → AreRead texts ps → IsRead text p → AreRead (slice_set texts k text) (slice_set ps k p)
-set_read [] [] k text p read is = tt
-set_read [] (q ∷ ps) k text p read is = absurd read
-set_read (t ∷ texts) [] k text p read is = absurd read
-set_read (t ∷ texts) (q ∷ ps) zero text p read is = (is, read.1)
-set_read (t ∷ texts) (q ∷ ps) (suc k) text p read is = (read.0, set_read texts ps k text p read.1 is)
 
 -- ---- states
 
@@ -144,16 +123,6 @@ not_at_start phase e f = cc
 
 not_declaring : (phase : Phase) → phase ≡ Declaring → phase ≡ Running → ⊥
 not_declaring phase e f = cc
-
-at_start : (phase : Phase) (base : Ip) (size capacity : ℕ) → is_placed phase (Exchange base size capacity) ≡ true → phase ≡ Start
-at_start Start base size capacity e = refl
-at_start Declaring base size capacity e = cc
-at_start Running base size capacity e = cc
-
-declares_participant : (phase : Phase) (name : List ℕ) (asn : ℕ) (id : Ip) → is_placed phase (DeclaresParticipant name asn id) ≡ true → phase ≡ Declaring
-declares_participant Start name asn id e = cc
-declares_participant Declaring name asn id e = refl
-declares_participant Running name asn id e = cc
 
 declares_port : (phase : Phase) (name : List ℕ) (q : PortInfo) → is_placed phase (DeclaresPort name q.number q.ip q.mac) ≡ true → phase ≡ Declaring
 declares_port Start name q e = cc
@@ -290,14 +259,6 @@ answer_keeps s q frame = by (is_pool_request s frame && same_octets (asker_mac f
 
 -- ---- policies
 
--- a policy that isn't refused for isolation has no faults
-no_faults : (faults : List IsolateFault) → isolation_refusal faults ≡ None → faults ≡ []
-no_faults [] e = refl
-no_faults (fault ∷ faults) e = absurd (cc)
-
-free : (faults : List IsolateFault) (p : Policy) → policy_refusal faults p ≡ None → faults ≡ []
-free faults p none = no_faults faults (neither (isolation_refusal faults) (refused_if (is_too_wide p) TooWide) none).0
-
 same_pid : (w who : Pid) → w.0 ≡ who.0 → who ≡ w
 same_pid w who same = λ i. record { 0 = sym same i }
 
@@ -306,7 +267,7 @@ sent_passing s who text (Err fault) read none is = absurd (cc)
 sent_passing s who text (Ok p) read none is =
     let names : List Pid = named_in (pid_of s.routing) p in
     let clear : out_faults (pid_of s.routing) (owner_of s) who p ≡ [] =
-    free (out_faults (pid_of s.routing) (owner_of s) who p) p (neither (policy_refusal (out_faults (pid_of s.routing) (owner_of s) who p) p) (tags_refusal (with_outbound s who text names) (with_named s.routing who names)) none).0 in
+    no_fault (out_faults (pid_of s.routing) (owner_of s) who p) p (neither (policy_refusal (out_faults (pid_of s.routing) (owner_of s) who p) p) (tags_refusal (with_outbound s who text names) (with_named s.routing who names)) none).0 in
     let there = λ (w : Pid). set_both is.outbound s.routing.named who.0 w.0 p Drop names [] is.as_many in record {
       outbound = slice_set is.outbound who.0 p;
       inbound = is.inbound;
@@ -329,7 +290,7 @@ sent_passing s who text (Ok p) read none is =
 received_passing : (s : State) (who : Pid) (text : List ℕ) (o : Result Policy Misread) → policy_of_text text ≡ o → inbound_refusal s who o ≡ None → IsPassing s → IsPassing (received_by s who text o)
 received_passing s who text (Err fault) read none is = absurd (cc)
 received_passing s who text (Ok p) read none is =
-    let clear : in_faults (owner_of s) who p ≡ [] = free (in_faults (owner_of s) who p) p none in
+    let clear : in_faults (owner_of s) who p ≡ [] = no_fault (in_faults (owner_of s) who p) p none in
     let there = λ (w : Pid). set_both is.inbound is.inbound who.0 w.0 p Drop p Drop refl in record {
       outbound = is.outbound;
       inbound = slice_set is.inbound who.0 p;

@@ -1,36 +1,36 @@
 -- By a tag that was told, stale or not, a frame leaves by ports of participants that exported the prefix when the tag was given.
-use Rattle.std.proofs.Common.{◌≡◌, ℕ, ◌^◌, ◌<◌, ◌≤◌, Bool, true, false, nat_eq, List, [], ◌∷◌, map, sym, ap, subst, ◌∙◌, refl, inr, arith}
+use Rattle.std.proofs.Common.{◌≡◌, ℕ, ◌^◌, ◌<◌, ◌≤◌, Bool, true, false, nat_eq, List, [], map, sym, ap, subst, ◌∙◌, refl, inr, arith}
 use Rattle.std.specs.Prelude.{Option, Some, None, MatchOption, Result, Ok, Err, find, slice_index, unwrap_or}
 use Rattle.std.specs.FinMap.{get}
-use Rattle.std.specs.Option.{option_and_then, option_map, option_map_or}
+use Rattle.std.specs.Option.{option_and_then, option_map_or}
 use Rattle.std.proofs.lemmas.Bool.{eq-eqb, eqb-true, or_left}
-use Rattle.std.proofs.lemmas.Option.{cond_some}
 use Rattle.grammar.specs.TextReading.{Fault as Misread}
 use Rattle.events.proofs.Reached.{runs_sound}
 use Rattle.events.proofs.Routed.{valid_headers}
 use Rattle.events.specs.Forms.{IsWellFormed}
 use Rattle.events.specs.Legal.{Legal, state_after}
 use Rattle.events.specs.Sound.{IsSound, owners_part, part_of}
-use Rattle.events.specs.State.{State, AreRead, ArePolicies, owner_of, port_of, present, told_to}
+use Rattle.events.specs.State.{State, ArePolicies, owner_of, port_of, present, told_to}
 use Rattle.events.specs.Table.{actions_on, done_by, first_match, tag_at}
 use Rattle.events.specs.Tags.{is_live_for, is_live_pair, same_tag, tells}
 use Rattle.events.specs.declared.Entry.{Entry}
 use Rattle.events.specs.declared.Event.{Event}
 use Rattle.events.specs.declared.Reply.{Reply}
+use Rattle.exchange_laws.proofs.Answering.{inport_of, owned}
+use Rattle.exchange_laws.proofs.ReadPolicies.{one_reading}
 use Rattle.net_types.proofs.FindLemmas.{find-IsFound}
 use Rattle.net_types.proofs.OrderLemmas.{prefixes_total}
 use Rattle.net_types.proofs.PassLemmas.{is_some-any, some_there}
 use Rattle.net_types.proofs.ValueLemmas.{any_value}
 use Rattle.net_types.specs.Answers.{Leaving, Policies, is_offered, offered_hole, offered_port, part_answer, policy_of}
 use Rattle.net_types.specs.Exports.{exports}
-use Rattle.net_types.specs.Frames.{has_headers, headers_of}
+use Rattle.net_types.specs.Frames.{headers_of}
 use Rattle.net_types.specs.Headers.{IsValid}
 use Rattle.net_types.specs.Isolation.{in_faults}
 use Rattle.net_types.specs.Keys.{prefix_cmp}
 use Rattle.net_types.specs.Policies.{Policy, Drop}
 use Rattle.net_types.specs.Sets.{Member}
 use Rattle.net_types.specs.declared.address.Pid.{Pid}
-use Rattle.net_types.specs.declared.address.PortNo.{PortNo}
 use Rattle.net_types.specs.declared.address.Tag.{Tag}
 use Rattle.net_types.specs.declared.headers.Headers.{Headers}
 use Rattle.net_types.specs.declared.prefix.Prefix.{Prefix}
@@ -51,17 +51,6 @@ abbrev policy_or_drop : Result Policy Misread → Policy
 policy_or_drop (Ok p) = p
 policy_or_drop (Err fault) = Drop
 
-read_once : (texts : List (List ℕ)) (ps qs : List Policy) → AreRead texts ps → AreRead texts qs → ps ≡ qs
-read_once [] [] [] r t = refl
-read_once [] (p ∷ ps) qs r t = absurd r
-read_once [] [] (q ∷ qs) r t = absurd t
-read_once (text ∷ texts) [] qs r t = absurd r
-read_once (text ∷ texts) (p ∷ ps) [] r t = absurd t
-read_once (text ∷ texts) (p ∷ ps) (q ∷ qs) r t =
-    let here : p ≡ q = ap policy_or_drop (sym r.0 ∙ t.0) in
-    let later : ps ≡ qs = read_once texts ps qs r.1 t.1 in
-    λ i. here i ∷ later i
-
 -- ---- what is kept of the sender
 
 -- the part of a sender in a signature that is kept
@@ -77,13 +66,6 @@ kept_part s q t part at e =
     by : (o : Option (List Part)) → get s.kept t ≡ o → option_and_then (λ sig. part_of sig q.owner) o ≡ Some part → IsKeptPart s t q.owner part
     by None kept e = absurd (cc)
     by (Some sig) kept e = record { signature = sig; kept = kept; is = e }
-
-inport_of : (port : PortNo) (frame : List ℕ) (h : Headers) → headers_of port frame ≡ Some h → h.inport ≡ port
-inport_of port frame h e = let parts = cond_some (has_headers frame) _ h e in ap (λ (x : Headers). x.inport) (sym parts.1)
-
-owned : (o : Option PortInfo) (who : Pid) (test : Pid → Bool) → option_map (λ (x : PortInfo). x.owner) o ≡ Some who → test who ≡ true → MatchOption o ⊥ (λ x. test x.owner ≡ true)
-owned None who test e t = absurd (cc)
-owned (Some x) who test e t = let same : x.owner ≡ who = cc in ap test same ∙ t
 
 -- a participant that stands among the offers, with its offer
 record IsOffer (offers : List Offer) (who : Pid) : Type 0 where
@@ -133,7 +115,7 @@ module _ (es : List Event) (rs : List Reply) (formed : (e : Event) → Member e 
   passed : (ps : Policies) → ArePolicies s ps → (who : Pid) → in_faults (owner_of s) who (policy_of ps.inbound who) ≡ []
   passed ps are who =
       let all = policies_have_passed es rs legal in
-      let same : all.0.inbound ≡ ps.inbound = read_once s.inbound all.0.inbound ps.inbound all.1.inbound are.inbound in
+      let same : all.0.inbound ≡ ps.inbound = one_reading s.inbound all.0.inbound ps.inbound all.1.inbound are.inbound in
       ap (λ policies. in_faults (owner_of s) who (policy_of policies who)) (sym same) ∙ all.2.inbound who
 
   by_part : (ps : Policies) → ArePolicies s ps → (part : Part) → IsKeptPart s told.tag q.owner part → (h : Headers) (l : Leaving) → Member l (part_answer ps part h) → Reaches l

@@ -1,4 +1,6 @@
 -- Which prefixes are given a tag, and which share one.
+use Rattle.events.proofs.Candidates.{first_Member}
+use Rattle.events.proofs.Drained.{some_cond}
 use Rattle.std.proofs.Common.{◌≡◌, Bool, true, false, not, List, [], ◌∷◌, filter, ap, sym, subst, ◌∙◌, refl, inl, inr}
 use Rattle.std.specs.Prelude.{Option, Some, None}
 use Rattle.std.specs.FinMap.{FinMap, get}
@@ -16,6 +18,7 @@ use Rattle.events.specs.declared.Event.{Event}
 use Rattle.events.specs.declared.Head.TheVariants.{Fine, Finished}
 use Rattle.events.specs.declared.Reply.{Reply}
 use Rattle.events.specs.declared.TagChange.{TagChange}
+use Rattle.exchange_laws.proofs.Answering.{some_same}
 use Rattle.net_types.proofs.EqualLemmas.{signature_test}
 use Rattle.net_types.proofs.MapLemmas.{get-tabulate}
 use Rattle.net_types.proofs.OrderLemmas.{prefix_tie, prefixes_total, tags_total}
@@ -28,12 +31,12 @@ use Rattle.net_types.proofs.TieLemmas.{same_from_tie, tag_cmp-IsAntisymmetric}
 use Rattle.net_types.specs.Attributes.{same_option, same_signature}
 use Rattle.net_types.specs.Keys.{prefix_cmp, tag_cmp}
 use Rattle.net_types.specs.Maps.{ordered}
-use Rattle.net_types.specs.Routes.{announced, first_of_list}
+use Rattle.net_types.specs.Routes.{announced}
 use Rattle.net_types.specs.Sets.{Member}
 use Rattle.net_types.specs.Signatures.{signature}
 use Rattle.net_types.specs.declared.address.Tag.{Tag}
 use Rattle.net_types.specs.declared.prefix.Prefix.{Prefix}
-use Rattle.run_laws.proofs.Answering.{Kind, kind_of, some_cond}
+use Rattle.run_laws.proofs.Answering.{Kind, kind_of}
 use Rattle.run_laws.specs.Sharing.{AlikeShare, FreshTagsWereDead, HasLike, IsGivenTag, SharedTagsShareSignatures, TagsTell}
 
 -- ---- changes of tags
@@ -61,10 +64,6 @@ change_of old new c m =
         let clash : false ≡ true = ap not (sym alike) ∙ apart in cc
 
 -- ---- the end of a job
-
-pub first_Member : {A : Type 0} (xs : List A) (x : A) → first_of_list xs ≡ Some x → Member x xs
-first_Member [] x e = cc
-first_Member (y ∷ xs) x e = inl (let same : y ≡ x = cc in sym same)
 
 -- a member of what a function gives of some, with what it comes from
 pub record IsGivenBy {A B : Type 0} (f : A → Option B) (xs : List A) (y : B) : Type 0 where
@@ -122,12 +121,9 @@ fresh_tags_were_dead es rs legal e r fits c t m is = let s : State = state_after
 
 -- ---- prefixes that share a tag
 
-kept_same : {A : Type 0} (o : Option A) (x y : A) → o ≡ Some x → o ≡ Some y → x ≡ y
-kept_same o x y e f = cc
-
 tags_tell : (s : State) → IsSound s → TagsTell s
 tags_tell s sound p q t here there =
-    (signature_test (signature s.routing p) (signature s.routing q)).1 (kept_same (get s.kept t) (signature s.routing p) (signature s.routing q) (sound.kept p t here) (sound.kept q t there))
+    (signature_test (signature s.routing p) (signature s.routing q)).1 (some_same (get s.kept t) (signature s.routing p) (signature s.routing q) (sound.kept p t here) (sound.kept q t there))
 
 alike_share : (s s1 : State) → IsSound s1 → s1 ≡ record (merged s) { table = s1.table } → AlikeShare s1
 alike_share s s1 sound leaves p q first second alike =
@@ -137,7 +133,7 @@ alike_share s s1 sound leaves p q first second alike =
     let there = some_there (get s1.tag q) (sound.tagged q ∙ second) in
     let same : signature s.routing p ≡ signature s.routing q = (signature_test (signature s.routing p) (signature s.routing q)).0 (ap (λ x. same_signature (signature x p) (signature x q)) (sym routing) ∙ alike) in
     let least : least_tag s (signature s.routing q) ≡ Some here.0 = ap (least_tag s) (sym same) ∙ least_is s s1 p here.0 tags here.1 in
-    let one : there.0 ≡ here.0 = kept_same (least_tag s (signature s.routing q)) there.0 here.0 (least_is s s1 q there.0 tags there.1) least in
+    let one : there.0 ≡ here.0 = some_same (least_tag s (signature s.routing q)) there.0 here.0 (least_is s s1 q there.0 tags there.1) least in
     (here.0, here.1, there.1 ∙ ap Some one)
 
 at_end : (s : State) (e : Event) (r : Reply) → IsSound (next s e r) → Kind s e r → r.head ≡ Finished → TagsTell (next s e r) × AlikeShare (next s e r)

@@ -1,12 +1,12 @@
 -- An exchange with its job: what a line does to both.
-use Rattle.std.proofs.Common.{◌≡◌, ℕ, ◌+◌, ◌-◌, ◌<◌, ◌≤◌, Bool, true, false, sym, ap, subst, ◌∙◌, refl}
+use Rattle.std.proofs.Common.{◌≡◌, ℕ, ◌+◌, ◌-◌, ◌<◌, ◌≤◌, true, false, sym, ap, subst, ◌∙◌, refl}
 use Rattle.std.specs.Prelude.{Option, Some, None, is_some, List, [], length, Result, Ok, Err, IfOk, OnErr}
 use Rattle.std.specs.Option.{option_map}
 use Rattle.std.specs.FinMap.{FinMap, entries, keys}
 use Rattle.events.specs.After.{all_units, next, running}
 use Rattle.events.specs.Fits.{Fits, FitsBy, IsStep, bare, is_of_job}
 use Rattle.events.specs.Forms.{IsWellFormed}
-use Rattle.events.specs.Refusals.{is_placed, refusal}
+use Rattle.events.specs.Refusals.{refusal}
 use Rattle.events.specs.State.{State}
 use Rattle.events.specs.Tags.{capped}
 use Rattle.events.specs.declared.Event.{Event}
@@ -26,10 +26,8 @@ use Rattle.job_laws.specs.Jobs.{IsSteadyInJob, without_job}
 use Rattle.job_laws.specs.Steps.{AllStepsStaySteady, JobsLeaveLines}
 use Rattle.job_laws.specs.Units.{RecompilesAreAccepted, WorksAreAccepted, owing}
 use Rattle.job_upkeep.specs.Upkeep.{HasJob, JobsBegin}
-use Rattle.net_types.specs.Keys.{pair_cmp, prefix_cmp, tag_cmp}
-use Rattle.net_types.specs.declared.address.Tag.{Tag}
+use Rattle.net_types.specs.Keys.{pair_cmp}
 use Rattle.net_types.specs.declared.memory.Memory.{Memory}
-use Rattle.net_types.specs.declared.route.Part.{Part}
 use Rattle.net_types.specs.declared.rule.Rule.{Rule}
 use Rattle.prefix_classes.specs.Classes.{Classes}
 use Rattle.recompile.specs.Changing.{CoversListed}

@@ -2,7 +2,8 @@
 
 ghost use Rattle.std.specs.Prelude.{◌≡◌, ◌<◌, ◌≤◌, ◌^◌, ◌∷◌, [], sum_by, true, IfOk, IfSome};
 ghost use Rattle.net_types.specs.Paths.{hops_of};
-ghost use Rattle.net_types.specs.SoundUpdates.{AreSoundAttrs, Each, IsSoundSegment, IsSoundNextHop, IsSoundUpdate};
+ghost use Rattle.net_types.specs.Sets.{Each};
+ghost use Rattle.net_types.specs.SoundUpdates.{AreSoundAttrs, IsSoundSegment, IsSoundNextHop, IsSoundUpdate};
 ghost use Rattle.net_types.specs.UpdateSpelling.{is_before};
 
 use crate::wrong::Wrong;

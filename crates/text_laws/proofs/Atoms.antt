@@ -5,12 +5,11 @@ use Rattle.net_types.specs.Cubes.{agrees, cube_of, meet_cubes, meet_values, pull
 use Rattle.net_types.specs.Meets.{IsMeet, behind, behind_one, cons_some}
 use Rattle.net_types.specs.Policies.{Test, Inport, Src, Dst, Proto, Sport, Dport, Pred, Yes, Is, Not, And, Or, Policy, Drop, Pass, Block, Fwd, Match, Set, Both, Then, atoms, atoms_where_plain, meet_optional, mods, one_more, part_atoms, plain, pred_atoms, test_cube}
 use Rattle.net_types.specs.Prefixes.{meet_prefixes}
-use Rattle.net_types.specs.Sets.{union_over}
+use Rattle.net_types.specs.Sets.{Each, union_over}
 use Rattle.net_types.specs.declared.address.PortNo.{PortNo}
 use Rattle.net_types.specs.declared.cube.Cube.{Cube}
 use Rattle.net_types.specs.declared.headers.Assign.{Assign}
 use Rattle.net_types.specs.declared.prefix.Prefix.{Prefix}
-use Rattle.text_laws.specs.Widths.{Each}
 use Rattle.text_laws.proofs.Fields.{each_append}
 
 -- ---- fields

@@ -7,7 +7,7 @@ use Rattle.net_types.proofs.RisingLemmas.{filter-Member}
 use Rattle.net_types.specs.Arp.{arp_reply, asked_ip, asker_ip, asker_mac}
 use Rattle.net_types.specs.Exports.{pid_of}
 use Rattle.net_types.specs.Routes.{longest_of}
-use Rattle.net_types.specs.Sets.{Member, union_over}
+use Rattle.net_types.specs.Sets.{Each, Member, union_over}
 use Rattle.net_types.specs.declared.cube.Cube.{Cube}
 use Rattle.net_types.specs.declared.address.Pid.{Pid}
 use Rattle.net_types.specs.declared.prefix.Prefix.{Prefix}
@@ -31,7 +31,7 @@ use Rattle.exchange_laws.specs.Steady.{IsSteady}
 use Rattle.job_laws.specs.Jobs.{without_job}
 use Rattle.net_types.specs.Cubes.{IsInRange}
 use Rattle.text_laws.specs.Naming.{IsOfNoPort}
-use Rattle.text_laws.specs.Widths.{Each, IsAction, IsCube, IsNumber, IsPair}
+use Rattle.text_laws.specs.Widths.{IsAction, IsCube, IsNumber, IsPair}
 use Rattle.text_laws.proofs.Counts.{IsSmall, small_pair}
 use Rattle.text_laws.proofs.Fields.{each_append}
 use Rattle.text_laws.proofs.LegalRules.{sound_free}

@@ -5,9 +5,10 @@ use Rattle.std.proofs.lemmas.Bool.Decides.{nat_tests}
 use Rattle.std.proofs.lemmas.List.{append_cancel_left}
 use Rattle.events.specs.Text.{address_field, address_text, number_field, prefix_field, prefix_text}
 use Rattle.net_types.proofs.PrefixLemmas.{prefix_ext}
+use Rattle.net_types.specs.Sets.{Each}
 use Rattle.net_types.specs.declared.address.Ip.{Ip}
 use Rattle.net_types.specs.declared.prefix.Prefix.{Prefix}
-use Rattle.text_laws.specs.Widths.{Each, IsAddress, IsNumber}
+use Rattle.text_laws.specs.Widths.{IsAddress, IsNumber}
 use Rattle.text_laws.proofs.Alike.{Alike, Over, decimal_tells, over_append, over_decimal, over_more}
 use Rattle.text_laws.proofs.Numbers.{addresses, prefixes}
 

@@ -3,7 +3,7 @@ use Rattle.std.proofs.Common.{◌≡◌, ℕ, ◌<◌, Bool, true, false, nat_eq
 use Rattle.std.proofs.lemmas.List.{append_cancel_left}
 use Rattle.std.proofs.lemmas.Bool.Decides.{nat_tests}
 use Rattle.events.specs.Text.{joined}
-use Rattle.text_laws.specs.Widths.{Each}
+use Rattle.net_types.specs.Sets.{Each}
 use Rattle.text_laws.proofs.Alike.{Over, spans, true_false}
 
 head_of : {X : Type 0} (c d : X) (cs ds : List X) → c ∷ cs ≡ d ∷ ds → c ≡ d

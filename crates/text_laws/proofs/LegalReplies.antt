@@ -20,9 +20,9 @@ use Rattle.events.specs.declared.Reply.{Reply}
 use Rattle.exchange_laws.specs.Steady.{PortsAreNumbered}
 use Rattle.job_laws.proofs.AllSteps.{all_steps_stay_steady, first_steady}
 use Rattle.job_laws.specs.Jobs.{IsSteadyInJob}
-use Rattle.net_types.specs.Sets.{Member}
+use Rattle.net_types.specs.Sets.{Each, Member}
 use Rattle.text_laws.specs.Naming.{AddsNoPort, IsOfNoPort, IsWritable, TextsNameReplies}
-use Rattle.text_laws.specs.Widths.{Each, HasActionWidths, IsHead, IsPair}
+use Rattle.text_laws.specs.Widths.{HasActionWidths, IsHead, IsPair}
 use Rattle.text_laws.proofs.Counts.{cells_written}
 use Rattle.text_laws.proofs.Details.{DetailsFit, FlowFits, details_fit, plain_flows}
 use Rattle.text_laws.proofs.Determined.{AreAlike, building_fine, building_keeps, determined}

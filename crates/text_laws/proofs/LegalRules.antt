@@ -13,7 +13,7 @@ use Rattle.net_types.specs.Arp.{arp_reply, asked_ip, asker_ip, asker_mac}
 use Rattle.net_types.specs.Exports.{pid_of}
 use Rattle.net_types.specs.Keys.{pair_cmp}
 use Rattle.net_types.specs.Routes.{longest_of}
-use Rattle.net_types.specs.Sets.{Member, union_over}
+use Rattle.net_types.specs.Sets.{Each, Member, union_over}
 use Rattle.net_types.specs.declared.prefix.Prefix.{Prefix}
 use Rattle.net_types.specs.declared.route.PortInfo.{PortInfo}
 use Rattle.net_types.specs.declared.rule.Pair.{Pair}
@@ -38,7 +38,6 @@ use Rattle.exchange_laws.proofs.ReadPolicies.{policies_are_one}
 use Rattle.run_laws.proofs.OneMore.{legal_more, state_more}
 use Rattle.run_laws.proofs.Passing.{policies_have_passed}
 use Rattle.text_laws.specs.Naming.{AddsNoPort, IsOfNoPort, LegalRulesAreOfNoPort}
-use Rattle.text_laws.specs.Widths.{Each}
 use Rattle.text_laws.proofs.Fields.{each_append}
 use Rattle.text_laws.proofs.Portless.{right_rules_are_of_no_port}
 

@@ -10,12 +10,13 @@ use Rattle.events.specs.declared.Exchange.{Exchange as ArpExchange}
 use Rattle.events.specs.declared.Flow.{Flow}
 use Rattle.events.specs.declared.Frame.{Frame as Leaves}
 use Rattle.events.specs.declared.TagChange.{TagChange}
+use Rattle.net_types.specs.Sets.{Each}
 use Rattle.net_types.specs.declared.address.Tag.{Tag}
 use Rattle.net_types.specs.declared.prefix.Prefix.{Prefix}
 use Rattle.net_types.specs.declared.rule.Pair.{Pair}
 use Rattle.net_types.specs.declared.rule.Rule.{Rule}
 use Rattle.text_laws.specs.Naming.{IsOfNoPort}
-use Rattle.text_laws.specs.Widths.{Each, IsFlow, IsFrame, IsNumber, IsPair, IsTagChange}
+use Rattle.text_laws.specs.Widths.{IsFlow, IsFrame, IsNumber, IsPair, IsTagChange}
 use Rattle.text_laws.proofs.Alike.{Alike, Anything, behind, closed, decimals, gives, is_hex, next, starts}
 use Rattle.text_laws.proofs.Joined.{cons_is}
 use Rattle.text_laws.proofs.Numbers.{octets, pairs, prefixes}

@@ -5,7 +5,7 @@ use Rattle.net_types.specs.Answers.{policy_of}
 use Rattle.net_types.specs.Cells.{cell_atoms, freed, freed_from}
 use Rattle.net_types.specs.Isolation.{in_faults, in_test, pred_faults}
 use Rattle.net_types.specs.Policies.{Test, Inport, Src, Dst, Proto, Sport, Dport, Pred, Yes, Is, Not, And, Or, Policy, Drop, Pass, Block, Fwd, Match, Set, Both, Then, atoms}
-use Rattle.net_types.specs.Sets.{Member, union_over}
+use Rattle.net_types.specs.Sets.{Each, Member, union_over}
 use Rattle.net_types.specs.declared.address.Pid.{Pid}
 use Rattle.net_types.specs.declared.address.PortNo.{PortNo}
 use Rattle.net_types.specs.declared.cube.Cube.{Cube}
@@ -17,7 +17,6 @@ use Rattle.events.specs.Sound.{cubes_of}
 use Rattle.events.specs.State.{owner_of}
 use Rattle.replay_text.proofs.Formed.{any_holds}
 use Rattle.text_laws.specs.Naming.{IsOfNoPort, RightRulesAreOfNoPort}
-use Rattle.text_laws.specs.Widths.{Each}
 use Rattle.text_laws.proofs.Atoms.{OfCube, OfPolicy, OfPred, OfTest, atoms_hold, meets_hold, union_holds}
 use Rattle.text_laws.proofs.Fields.{each_append}
 

@@ -7,13 +7,12 @@ use Rattle.net_types.specs.Cells.{cell_atoms, freed, freed_from}
 use Rattle.net_types.specs.Cubes.{IsInRange}
 use Rattle.net_types.specs.Meets.{IsMeet}
 use Rattle.net_types.specs.Policies.{Policy, Drop, atoms}
-use Rattle.net_types.specs.Sets.{Member, union_over}
+use Rattle.net_types.specs.Sets.{Each, Member, union_over}
 use Rattle.net_types.specs.declared.address.PortNo.{PortNo}
 use Rattle.net_types.specs.declared.cube.Cube.{Cube}
 use Rattle.net_types.specs.declared.route.Offer.{Offer}
 use Rattle.net_types.specs.declared.route.Part.{Part}
 use Rattle.events.specs.State.{State, ArePolicies, AreRead}
-use Rattle.text_laws.specs.Widths.{Each}
 use Rattle.text_laws.proofs.Atoms.{OfCube, atoms_hold, meets_hold, union_holds}
 use Rattle.text_laws.proofs.Fields.{each_append}
 use Rattle.text_laws.proofs.Read.{OctetFits, PolicyFits, PortFits, WordFits, read_fits}

@@ -9,9 +9,10 @@ use Rattle.events.specs.declared.Frame.{Frame as Leaves}
 use Rattle.events.specs.declared.Head.{Head}
 use Rattle.events.specs.declared.Reply.{Reply}
 use Rattle.events.specs.declared.TagChange.{TagChange}
+use Rattle.net_types.specs.Sets.{Each}
 use Rattle.net_types.specs.declared.rule.Pair.{Pair}
 use Rattle.text_laws.specs.Naming.{AddsNoPort, IsOfNoPort, IsWritable, WritableTextsNameReplies}
-use Rattle.text_laws.specs.Widths.{Each, IsFrame, IsHead, IsPair, IsTagChange}
+use Rattle.text_laws.specs.Widths.{IsFrame, IsHead, IsPair, IsTagChange}
 use Rattle.text_laws.proofs.Alike.{Alike, Anything, behind, closed, is_hex, number_starts, starts}
 use Rattle.text_laws.proofs.Heads.{heads}
 use Rattle.text_laws.proofs.Joined.{cons_is}

@@ -3,13 +3,14 @@ use Rattle.std.proofs.Common.{◌≡◌, ℕ, ◌<◌, ◌≤◌, Bool, true, fa
 use Rattle.std.specs.Prelude.{Option, Some, None}
 use Rattle.std.proofs.lemmas.List.{append_cancel_left}
 use Rattle.events.specs.Text.{action_text, address_field, address_text, cube_text, in_brackets, joined, number_field, or_none, or_star, prefix_field, prefix_text, rule_text}
+use Rattle.net_types.specs.Sets.{Each}
 use Rattle.net_types.specs.declared.actions.Action.{Action}
 use Rattle.net_types.specs.declared.address.Ip.{Ip}
 use Rattle.net_types.specs.declared.address.PortNo.{PortNo}
 use Rattle.net_types.specs.declared.cube.Cube.{Cube}
 use Rattle.net_types.specs.declared.prefix.Prefix.{Prefix}
 use Rattle.net_types.specs.declared.rule.Rule.{Rule}
-use Rattle.text_laws.specs.Widths.{Each, IsAction, IsCube, IsRule}
+use Rattle.text_laws.specs.Widths.{IsAction, IsCube, IsRule}
 use Rattle.text_laws.proofs.Alike.{Alike, Begins, Nothing, Over, Stops, both, closed, decimals, gives, is_hex, next, number_starts, over_append, over_decimal, over_more, starts, true_false}
 use Rattle.text_laws.proofs.Fields.{address_field_over, address_told, closed_is, dark_digit, each_append, is_dark, is_plain, number_over, number_told, plain_digit, prefix_field_over, prefix_told}
 use Rattle.text_laws.proofs.Joined.{IsField, cons_is, field_told, first_rank, list_told, rank_over}

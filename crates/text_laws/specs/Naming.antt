@@ -1,7 +1,7 @@
 -- The octets that are written name the replies (this exchange's own rule).
 use Rattle.std.specs.Prelude.{◌≡◌, ℕ, List, [], ◌∷◌, None}
 use Rattle.net_types.specs.Answers.{Policies}
-use Rattle.net_types.specs.Sets.{Member}
+use Rattle.net_types.specs.Sets.{Each, Member}
 use Rattle.net_types.specs.declared.address.PortNo.{PortNo}
 use Rattle.net_types.specs.declared.cube.Cube.{Cube}
 use Rattle.net_types.specs.declared.route.Part.{Part}
@@ -15,7 +15,7 @@ use Rattle.events.specs.Text.{text}
 use Rattle.events.specs.declared.Event.{Event}
 use Rattle.events.specs.declared.Flow.{Flow}
 use Rattle.events.specs.declared.Reply.{Reply}
-use Rattle.text_laws.specs.Widths.{Each, HasActionWidths, HasWidths}
+use Rattle.text_laws.specs.Widths.{HasActionWidths, HasWidths}
 
 -- a reply for each line
 abbrev pub HasAsMany : List Numbered → List Reply → Type 0

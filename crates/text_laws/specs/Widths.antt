@@ -1,5 +1,5 @@
 -- Which numbers replies have (this exchange's own rule).
-use Rattle.std.specs.Prelude.{ℕ, ◌^◌, ◌<◌, List, [], ◌∷◌, IfSome}
+use Rattle.std.specs.Prelude.{ℕ, ◌^◌, ◌<◌, IfSome}
 use Rattle.net_types.specs.declared.address.Ip.{Ip}
 use Rattle.net_types.specs.declared.address.Tag.{Tag}
 use Rattle.net_types.specs.declared.actions.Action.{Action}
@@ -14,11 +14,7 @@ use Rattle.events.specs.declared.Refusal.{Refusal}
 use Rattle.events.specs.declared.Refusal.TheVariants.{BadLine, Misplaced, Unknown, Clash, Full, BadUpdate, FirstAs, NextHop, Oversize, TextLong, Syntax, TooDeep, Isolate, TooWide, NoNextHop, TableFull, BadPacket}
 use Rattle.events.specs.declared.Reply.{Reply}
 use Rattle.events.specs.declared.TagChange.{TagChange}
-
--- all of them have it
-abbrev pub Each : {X : Type 0} → (X → Type 0) → List X → Type 0
-Each P [] = Unit {0}
-Each P (x ∷ xs) = P x × Each P xs
+use Rattle.net_types.specs.Sets.{Each}
 
 -- A number of at most 63 digits. Of one with more than 64 the last 64 alone are written, as of one that has 64.
 abbrev pub IsNumber : ℕ → Type 0

@@ -1,10 +1,10 @@
-use Rattle.std.proofs.Common.{◌≡◌, length, sym, ap, subst, ◌∙◌, arith}
+use Rattle.std.proofs.Common.{◌≡◌, sym, ap, ◌∙◌}
 use Rattle.std.specs.Prelude.{Some, None, unwrap_or}
 use Rattle.std.specs.FinMap.{get}
 use Rattle.std.specs.FinMap.Entries.{find}
 use Rattle.net_types.specs.Keys.{prefix_cmp}
-use Rattle.advert_queue.proofs.ChangedMaps.{get_change, get_changed, noted_few, noted_news, noted_present}
-use Rattle.advert_queue.specs.Changes.{AreNews, changed, noted, tag_in}
+use Rattle.advert_queue.proofs.ChangedMaps.{get_change, get_changed, noted_is}
+use Rattle.advert_queue.specs.Changes.{tag_in}
 use Rattle.advert_queue.proofs.changes.note.Goals as goal
 
 pub returns-in-Some-clause-before : goal.returns-in-Some-clause-before
@@ -13,27 +13,13 @@ returns-in-Some-clause-before c =
     c.tag_of.ensures ∙ ap tag_in (c.as_ref.ensures.value ∙ sym (get_change c.args.told.now.map c.args.news.now.items c.args.prefix c.in-Some.before c.requires.rising there))
 
 pub returns-in-Some-clause-differ : goal.returns-in-Some-clause-differ
-returns-in-Some-clause-differ c =
-    let told = c.args.told.now.map in
-    let cs = c.args.news.now.items in
-    let items : c.put_news.new.news.items ≡ noted (get told c.args.prefix) c.args.prefix c.args.entry cs = c.put_news.ensures.items ∙ ap (λ was. noted was c.args.prefix c.args.entry cs) c.get-told.ensures in
-    subst (AreNews told) (sym items) (noted_news told cs c.args.prefix c.args.entry c.requires.rising c.requires.differ)
+returns-in-Some-clause-differ c = (noted_is c.args.told.now.map c.args.prefix c.args.entry _ c.args.news.now.items _ c.requires.rising c.requires.differ c.get-told.ensures c.put_news.ensures.items).differ
 
 pub returns-in-Some-clause-present : goal.returns-in-Some-clause-present
-returns-in-Some-clause-present c =
-    let told = c.args.told.now.map in
-    let cs = c.args.news.now.items in
-    let items : c.put_news.new.news.items ≡ noted (get told c.args.prefix) c.args.prefix c.args.entry cs = c.put_news.ensures.items ∙ ap (λ was. noted was c.args.prefix c.args.entry cs) c.get-told.ensures in
-    ap (changed told) items ∙ noted_present told cs c.args.prefix c.args.entry c.requires.rising
+returns-in-Some-clause-present c = (noted_is c.args.told.now.map c.args.prefix c.args.entry _ c.args.news.now.items _ c.requires.rising c.requires.differ c.get-told.ensures c.put_news.ensures.items).present
 
 pub returns-in-Some-clause-few : goal.returns-in-Some-clause-few
-returns-in-Some-clause-few c =
-    let told = c.args.told.now.map in
-    let cs = c.args.news.now.items in
-    let items : c.put_news.new.news.items ≡ noted (get told c.args.prefix) c.args.prefix c.args.entry cs = c.put_news.ensures.items ∙ ap (λ was. noted was c.args.prefix c.args.entry cs) c.get-told.ensures in
-    let few = noted_few told cs c.args.prefix c.args.entry c.requires.rising in
-    let len = ap length items in
-    omega (arith, few, len)
+returns-in-Some-clause-few c = (noted_is c.args.told.now.map c.args.prefix c.args.entry _ c.args.news.now.items _ c.requires.rising c.requires.differ c.get-told.ensures c.put_news.ensures.items).few
 
 pub returns-in-None-clause-before : goal.returns-in-None-clause-before
 returns-in-None-clause-before c =
@@ -42,24 +28,10 @@ returns-in-None-clause-before c =
     ∙ ap tag_in (c.get-told.ensures ∙ sym (ap (λ o. unwrap_or o (get c.args.told.now.map c.args.prefix)) absent) ∙ sym (get_changed c.args.told.now.map c.args.news.now.items c.args.prefix c.requires.rising))
 
 pub returns-in-None-clause-differ : goal.returns-in-None-clause-differ
-returns-in-None-clause-differ c =
-    let told = c.args.told.now.map in
-    let cs = c.args.news.now.items in
-    let items : c.put_news.new.news.items ≡ noted (get told c.args.prefix) c.args.prefix c.args.entry cs = c.put_news.ensures.items ∙ ap (λ was. noted was c.args.prefix c.args.entry cs) c.get-told.ensures in
-    subst (AreNews told) (sym items) (noted_news told cs c.args.prefix c.args.entry c.requires.rising c.requires.differ)
+returns-in-None-clause-differ c = (noted_is c.args.told.now.map c.args.prefix c.args.entry _ c.args.news.now.items _ c.requires.rising c.requires.differ c.get-told.ensures c.put_news.ensures.items).differ
 
 pub returns-in-None-clause-present : goal.returns-in-None-clause-present
-returns-in-None-clause-present c =
-    let told = c.args.told.now.map in
-    let cs = c.args.news.now.items in
-    let items : c.put_news.new.news.items ≡ noted (get told c.args.prefix) c.args.prefix c.args.entry cs = c.put_news.ensures.items ∙ ap (λ was. noted was c.args.prefix c.args.entry cs) c.get-told.ensures in
-    ap (changed told) items ∙ noted_present told cs c.args.prefix c.args.entry c.requires.rising
+returns-in-None-clause-present c = (noted_is c.args.told.now.map c.args.prefix c.args.entry _ c.args.news.now.items _ c.requires.rising c.requires.differ c.get-told.ensures c.put_news.ensures.items).present
 
 pub returns-in-None-clause-few : goal.returns-in-None-clause-few
-returns-in-None-clause-few c =
-    let told = c.args.told.now.map in
-    let cs = c.args.news.now.items in
-    let items : c.put_news.new.news.items ≡ noted (get told c.args.prefix) c.args.prefix c.args.entry cs = c.put_news.ensures.items ∙ ap (λ was. noted was c.args.prefix c.args.entry cs) c.get-told.ensures in
-    let few = noted_few told cs c.args.prefix c.args.entry c.requires.rising in
-    let len = ap length items in
-    omega (arith, few, len)
+returns-in-None-clause-few c = (noted_is c.args.told.now.map c.args.prefix c.args.entry _ c.args.news.now.items _ c.requires.rising c.requires.differ c.get-told.ensures c.put_news.ensures.items).few

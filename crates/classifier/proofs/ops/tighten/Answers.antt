@@ -2,7 +2,7 @@ use Rattle.std.proofs.Common.{◌≡◌, ◌≤◌, List, [], ◌+◌, length, s
 use Rattle.net_types.specs.Sets.{Member}
 use Rattle.classifier.specs.declared.line.Line.{Line}
 use Rattle.classifier.specs.Lines.{tightened}
-use Rattle.classifier.specs.Meaning.{HasDistinctCubes, ends_with_everything, IsTight}
+use Rattle.classifier.specs.Meaning.{HasDistinctCubes, ends_with_everything, AreTightLines}
 use Rattle.classifier.specs.Meaning as lines
 use Rattle.classifier.specs.Classifiers.{lines_of}
 use Rattle.classifier.proofs.TightLemmas.{distinct-tightened, ends-tightened, tight-tightened, length-tightened, each-tightened, decide-tightened}
@@ -23,7 +23,7 @@ pub returns-clause-same : goal.returns-clause-same
 returns-clause-same c = λ h l. ap (λ x. lines.meaning x h l) (c.from_vec.ensures ∙ c.in_ok-lines.ensures ∙ ap (tightened []) c.lines.ensures.rules) ∙ meaning-same (tightened [] (lines_of c.args.a.now)) (lines_of c.args.a.now) h l (decide-tightened [] (lines_of c.args.a.now) h)
 
 pub returns-clause-tight : goal.returns-clause-tight
-returns-clause-tight c = subst IsTight (sym (c.from_vec.ensures ∙ c.in_ok-lines.ensures ∙ ap (tightened []) c.lines.ensures.rules)) (tight-tightened [] (lines_of c.args.a.now) tt)
+returns-clause-tight c = subst AreTightLines (sym (c.from_vec.ensures ∙ c.in_ok-lines.ensures ∙ ap (tightened []) c.lines.ensures.rules)) (tight-tightened [] (lines_of c.args.a.now) tt)
 
 pub returns-clause-fewer : goal.returns-clause-fewer
 returns-clause-fewer c =

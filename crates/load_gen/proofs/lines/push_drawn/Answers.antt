@@ -1,4 +1,4 @@
-use Rattle.std.proofs.Common.{◌≡◌, ◌++◌, ◌∙◌, ◌%◌, ap, sym, subst, codes, OnOk}
+use Rattle.std.proofs.Common.{◌≡◌, ◌++◌, ◌∙◌, ap, sym, subst, codes, OnOk}
 use Rattle.std.specs.Prelude.{string_bytes}
 use Rattle.events.specs.Text.{hex_text}
 use Rattle.net_types.specs.Updates.{canonical}

@@ -1,9 +1,10 @@
 -- One tag is placed, or one pair is built, or nothing is left to do.
+use Rattle.net_types.proofs.PassLemmas.{some_there}
 use Rattle.std.proofs.Common.{◌∙◌, sym, ap, subst, refl}
 use Rattle.std.specs.Prelude.{is_some}
 use Rattle.std.specs.FinMap.{get}
 use Rattle.net_types.specs.Maps.{put_option}
-use Rattle.recompile.proofs.CoverLemmas.{built_kept, built_needs, placed_kept, placed_needs, shortened_kept, some_of}
+use Rattle.recompile.proofs.CoverLemmas.{built_kept, built_needs, placed_kept, placed_needs, shortened_kept}
 use Rattle.recompile.specs.Covering.{IsKeptUp}
 use Rattle.recompile.specs.Setting.{Setting, setting}
 use Rattle.recompile.specs.Underway.{Underway}
@@ -23,7 +24,7 @@ returns-in-Some-clause-kept g c =
     let s : Setting = setting c.args.classes.now (g.B.Blocks.installed c.args.switch.now).table in
     let i = c.self.inside in
     let was : Underway = record { owed = i.owed; placed = i.placed; built = i.built; tags = i.tags.items; pairs = i.pairs.items } in
-    let sig = some_of (get c.args.classes.now.kept c.in-Some.tag) c.place.ensures.kept in
+    let sig = some_there (get c.args.classes.now.kept c.in-Some.tag) c.place.ensures.kept in
     placed_kept s was (record was { placed = c.place.new.self; tags = c.tag_to_do.new.tags.items }) c.in-Some.tag sig.0 c.in-Some.ensures.one sig.1
     (c.in_ok-place.ensures.placed ∙ ap (λ o. put_option c.in-Some.tag o i.placed) sig.1) refl c.tag_to_do.ensures.kept refl
     (subst (IsKeptUp s) (sym c.self.view_is) c.requires)
@@ -34,7 +35,7 @@ returns-in-Some-clause-done g c = λ more.
     let i = c.self.inside in
     let was : Underway = record { owed = i.owed; placed = i.placed; built = i.built; tags = i.tags.items; pairs = i.pairs.items } in
     let now : Underway = record was { placed = c.place.new.self; tags = c.tag_to_do.new.tags.items } in
-    let sig = some_of (get c.args.classes.now.kept c.in-Some.tag) c.place.ensures.kept in
+    let sig = some_there (get c.args.classes.now.kept c.in-Some.tag) c.place.ensures.kept in
     subst (λ j. NeedsFewer s 1 j now) c.self.view_is
     (placed_needs s was now c.in-Some.tag sig.0 c.in-Some.ensures.one sig.1 (c.in_ok-place.ensures.placed ∙ ap (λ o. put_option c.in-Some.tag o i.placed) sig.1) refl c.tag_to_do.ensures.kept refl)
 

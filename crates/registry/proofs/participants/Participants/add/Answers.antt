@@ -1,4 +1,4 @@
-use Rattle.std.proofs.Common.{sym, ap, ◌∙◌, Vec, ℕ, ◌≡◌, false, nat_eq, None}
+use Rattle.std.proofs.Common.{ap, ◌∙◌, nat_eq}
 use Rattle.std.specs.List.{position_from, list_any}
 use Rattle.std.specs.Cmp.Lexicographic.{pointwise}
 use Rattle.net_types.specs.Octets.{same_octets}

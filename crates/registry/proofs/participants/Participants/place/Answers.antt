@@ -1,4 +1,4 @@
-use Rattle.std.proofs.Common.{sym, ap, ◌∙◌}
+use Rattle.std.proofs.Common.{ap, ◌∙◌}
 use Rattle.net_types.specs.declared.route.Participant.{Participant}
 use Rattle.std.specs.List.{position_from}
 use Rattle.net_types.specs.Octets.{same_octets}

@@ -1,7 +1,7 @@
-use Rattle.std.proofs.Common.{ap, ◌∙◌, sym, nat_eq, ◌||◌, List, ℕ}
+use Rattle.std.proofs.Common.{ap, ◌∙◌, sym, nat_eq, ◌||◌, List}
 use Rattle.std.specs.List.{list_any}
 use Rattle.std.specs.Cmp.{nat_eq_equiv}
-use Rattle.std.specs.Cmp.Lexicographic.{pointwise, nat_list_eq_equiv}
+use Rattle.std.specs.Cmp.Lexicographic.{nat_list_eq_equiv}
 use Rattle.net_types.specs.Octets.{same_octets}
 use Rattle.net_types.specs.declared.route.PortInfo.{PortInfo}
 use Rattle.registry.proofs.IndexLemmas.{keyed_is, any_three}

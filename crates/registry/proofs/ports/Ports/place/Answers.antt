@@ -1,5 +1,4 @@
-use Rattle.std.proofs.Common.{◌<◌, nat_eq, length, map, ap, ◌∙◌, subst}
-use Rattle.std.specs.Prelude.{IfSome}
+use Rattle.std.proofs.Common.{nat_eq, ap, ◌∙◌}
 use Rattle.std.specs.List.{position_from}
 use Rattle.net_types.specs.declared.route.PortInfo.{PortInfo}
 use Rattle.registry.proofs.IndexLemmas.{number_place}

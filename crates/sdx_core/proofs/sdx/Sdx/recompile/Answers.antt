@@ -1,4 +1,4 @@
-use Rattle.std.proofs.Common.{◌≡◌, ◌+◌, true, [], ap, length, subst, sym, refl, ◌∙◌}
+use Rattle.std.proofs.Common.{◌≡◌, ◌+◌, [], ap, length, subst, sym, refl, ◌∙◌}
 use Rattle.std.specs.FinMap.{entries, keys}
 use Rattle.std.specs.Prelude.{None, Some}
 use Rattle.events.specs.Fits.{IsStep, bare}
