@@ -49,8 +49,8 @@ fn pairs_after(alloc: Global, switch: &Switch, plan: &Plan) -> Result<Pairs, Mem
     requires { IsRising is_pair_before plan.now.drops }
     ensures { IfOk result (λ pairs. pairs ≡ pairs_with switch.now.table plan.now) }
 {
-    let mut pairs = pairs_beside(alloc, switch, plan.drops.items())?;
-    pairs.extend_from_slice(plan.added.items())?;
+    let mut pairs = pairs_beside(alloc, switch, plan.dropped())?;
+    pairs.extend_from_slice(plan.added())?;
     Ok(Items::from_vec(pairs))
 }
 
@@ -62,8 +62,7 @@ fn tell_changes(names: &Registry, fresh: &[Tag], plan: &Plan, job: &mut Job) -> 
     ensures unchanged { OnErr result (job.new ≡ job.old) }
 {
     let ports = names.ports().len() as u64;
-    let added = plan.added.items();
-    job.on_changes(plan.newly, ports, fresh, &plan.emptied, added)
+    job.on_changes(plan.newly(), ports, fresh, plan.emptied(), plan.added())
 }
 
 /// A job is told that a plan comes of another policy.
@@ -103,7 +102,7 @@ pub fn tell_job(
     let Some(job) = job else {
         return Ok(());
     };
-    let fresh = tags_of(alloc, &plan.fresh)?;
+    let fresh = tags_of(alloc, plan.fresh())?;
     match change {
         PolicyChange::Stay => tell_changes(names, &fresh, plan, job),
         _ => tell_policy(alloc, classes, switch, &fresh, plan, job),

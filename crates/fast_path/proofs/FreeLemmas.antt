@@ -5,11 +5,18 @@ use Rattle.std.proofs.lemmas.List.{length-append}
 use Rattle.net_types.proofs.RisingLemmas.{filter-IsRising}
 use Rattle.net_types.specs.declared.address.Tag.{Tag}
 use Rattle.exchange_laws.proofs.FreshTags.{below, next_greater, tags_rise}
+use Rattle.fast_path.proofs.CommittedMaps.{take-IsRising}
+use Rattle.fast_path.specs.Planned.{is_tag_below}
+use Rattle.net_types.specs.Sets.{IsRising}
 use Rattle.next_hop_pool.specs.Free.{Tags, free_tags, is_above, is_taken}
 
 -- behind each comes the least greater one
 pub next_above : (p : Tags) (k : ℕ) (t : Tag) → slice_get (free_tags p) k ≡ Some t → find (is_above (Some t)) (free_tags p) ≡ slice_get (free_tags p) (k + 1)
 next_above p k t at = sym (next_greater (free_tags p) (filter-IsRising below (λ u. not (is_taken p u)) _ (tags_rise 1 (length p.taken))) k t at)
+
+-- the first ones ascend
+pub free_rise : (p : Tags) (n : ℕ) → IsRising is_tag_below (take n (free_tags p))
+free_rise p n = take-IsRising is_tag_below n (free_tags p) (filter-IsRising below (λ u. not (is_taken p u)) _ (tags_rise 1 (length p.taken)))
 
 -- the first is found where none comes before
 pub first_above : (ts : List Tag) → find (is_above None) ts ≡ slice_get ts 0

@@ -7,13 +7,13 @@ use Rattle.net_types.proofs.OrderedLemmas.{ordered_rises, ordered_same}
 use Rattle.events.specs.State.{State, port_of, present, told_to}
 use Rattle.events.specs.Tags.{is_live_pair, retagged, tells}
 use Rattle.exchange_laws.proofs.Lists.{clash, some_of}
-use Rattle.exchange_laws.proofs.LivePairs.{live_at, live_from, port_Member, present_tag}
+use Rattle.exchange_laws.proofs.LivePairs.{live_at, live_from, port_Member, present_from, present_tag}
 use Rattle.exchange_laws.proofs.OwnHops.{numbered_port}
 use Rattle.exchange_laws.proofs.TagsAfter.{live_of, live_tags_stay, signatures_are_kept}
 use Rattle.exchange_laws.specs.Steady.{PortsDiffer}
 use Rattle.exchange_laws.specs.Listed.{AreLiveOnly}
 use Rattle.exchange_laws.specs.Rules.{IsChange, OwnersAreDeclared}
-use Rattle.fast_path.proofs.PortsAndTags.{IsPortOf, found_number, has_prefix_of, number_listed, port_listed, prefix_with, present_from, tie}
+use Rattle.fast_path.proofs.PortsAndTags.{IsPortOf, found_number, has_prefix_of, number_listed, port_listed, prefix_with, tie}
 use Rattle.fast_path.proofs.SignatureParts.{has_part, part_senders, same_senders}
 use Rattle.fast_path.specs.LiveOnly.{AreEmptied, has_prefix, registered}
 use Rattle.fast_path.specs.Pairs.{gone_pairs, pair_at, part_pairs, tag_pairs, was_told}

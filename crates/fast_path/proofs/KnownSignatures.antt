@@ -6,12 +6,11 @@ use Rattle.std.specs.Option.{option_and_then, option_map}
 use Rattle.events.specs.Sound.{part_of}
 use Rattle.events.specs.State.{first}
 use Rattle.exchange_laws.proofs.Bases.{get_trimmed}
-use Rattle.fast_path.specs.Grouping.{is_kept_sig, known_by, part_by}
+use Rattle.fast_path.specs.Grouping.{Known, known_by, part_by}
 use Rattle.net_types.specs.Attributes.{same_option, same_signature}
 use Rattle.net_types.specs.Signatures.{counts}
 use Rattle.net_types.specs.declared.address.Pid.{Pid}
 use Rattle.net_types.specs.declared.address.Tag.{Tag}
-use Rattle.net_types.specs.declared.prefix.Prefix.{Prefix}
 use Rattle.net_types.specs.declared.route.Offer.{Offer}
 use Rattle.net_types.specs.declared.route.Part.{Part}
 use Rattle.prefix_classes.specs.Classes.{Classes}
@@ -63,11 +62,9 @@ part_in_known named c t who = ap (option_and_then (λ sig. part_of sig who)) (kn
     by None = refl
     by (Some sig) = part_known named who sig
 
--- whether a signature is the one of the prefix's tag
-pub kept_known : (named : Names) (c : Classes) (p : Prefix) (sig : List Part) → is_kept_sig (known_by named c) p sig ≡ same_option same_signature (option_and_then (λ t. option_map (map (part_by named)) (get c.kept t)) (get c.tag p)) (Some sig)
-kept_known named c p sig =
-    ap (λ o. same_option same_signature o (Some sig)) (by (get c.tag p))
-  where
-    by : (o : Option Tag) → option_and_then (get (known_by named c).kept) o ≡ option_and_then (λ t. option_map (map (part_by named)) (get c.kept t)) o
-    by None = refl
-    by (Some t) = known_kept named c t
+-- whether a signature is the one that is kept for a tag
+pub kept_known : (named : Names) (c : Classes) (k : Known) (tag : Option Tag) (t : Tag) (kept : Option (List Part)) (sig : List Part) → known_by named c ≡ k → tag ≡ Some t → get c.kept t ≡ kept → same_option same_signature (option_and_then (get k.kept) tag) (Some sig) ≡ same_option same_signature (option_map (map (part_by named)) kept) (Some sig)
+kept_known named c k tag t kept sig is has at =
+    ap (λ o. same_option same_signature (option_and_then (get k.kept) o) (Some sig)) has
+    ∙ ap (λ (j : Known). same_option same_signature (get j.kept t) (Some sig)) (sym is)
+    ∙ ap (λ o. same_option same_signature o (Some sig)) (known_kept named c t ∙ ap (option_map (map (part_by named))) at)

@@ -11,6 +11,7 @@ pub mod Loops
 pub mod CountedTags
 pub mod EmptiedLoop
 pub mod GroupLemmas
+pub mod GroupPlaces
 pub mod FreeLemmas
 pub mod TagsPlanned
 pub mod CommitLemmas
@@ -27,6 +28,7 @@ pub mod CommittedSteps
 pub mod TagOrder
 pub mod KnownSignatures
 pub mod ClassSearch
+pub mod ClassMembers
 pub mod BlockLemmas
 pub mod TrimmedKept
 pub mod CountedOffers

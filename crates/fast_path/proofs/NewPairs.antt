@@ -12,7 +12,7 @@ use Rattle.events.specs.Tags.{Group, carried, free_tags, fresh_tag, group_of, gr
 use Rattle.events.specs.declared.TagChange.{TagChange}
 use Rattle.exchange_laws.proofs.FreshTags.{by_place, fresh_free, group_listed}
 use Rattle.exchange_laws.proofs.Lists.{clash, place_of, some_of}
-use Rattle.exchange_laws.proofs.LivePairs.{live_at, live_from, live_tag, port_Member, present_tag}
+use Rattle.exchange_laws.proofs.LivePairs.{live_at, live_from, live_tag, port_Member, present_from, present_tag}
 use Rattle.exchange_laws.proofs.OwnHops.{numbered_port}
 use Rattle.exchange_laws.proofs.Parts.{signature_whole}
 use Rattle.exchange_laws.proofs.RulesAfter.{part_kept}
@@ -22,7 +22,7 @@ use Rattle.exchange_laws.specs.Rules.{IsChange}
 use Rattle.exchange_laws.specs.Steady.{PortsDiffer}
 use Rattle.exchange_laws.specs.Whole.{IsWhole, KeptAreWhole}
 use Rattle.fast_path.proofs.ListPlaces.{get_mapped, get_taken, mapped_at, taken_at}
-use Rattle.fast_path.proofs.PortsAndTags.{IsPortOf, found_number, number_listed, port_listed, present_from}
+use Rattle.fast_path.proofs.PortsAndTags.{IsPortOf, found_number, number_listed, port_listed}
 use Rattle.fast_path.proofs.SignatureParts.{IsSenders, has_part, part_senders, same_senders}
 use Rattle.fast_path.specs.Building.{is_class_of, part_at, sig_after}
 use Rattle.fast_path.specs.Committing.{Kept, class_of, classes_of, kept_of}

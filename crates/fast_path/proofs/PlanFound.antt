@@ -91,7 +91,7 @@ emptied_rise m cs = filter-IsRising is_tag_below (is_left m cs) (ordered tag_cmp
 
 -- ---- fresh tags ascend
 
-tags_before : (ts : List Tag) → IsRising below ts → IsRising (before tag_cmp) ts
+pub tags_before : (ts : List Tag) → IsRising below ts → IsRising (before tag_cmp) ts
 tags_before [] rises = tt
 tags_before (t ∷ ts) rises = (
   λ u m. let less : t.0 < u.0 = ltb-true t.0 u.0 (rises.0 u m) in ap is_lt (sym (nat_cmp_is t.0 u.0 Less less)),
@@ -101,7 +101,7 @@ tags_before (t ∷ ts) rises = (
 free_rise : (s : State) → IsRising (before tag_cmp) (events.free_tags s)
 free_rise s = filter-IsRising (before tag_cmp) (λ t. not (is_live s t)) (tags s) (tags_before (tags s) (tags_rise 1 s.size))
 
-classes_rise : (cs : List TagChange) (ts : List Tag) (sigs : List (List Part)) → IsRising (before tag_cmp) ts → AreInOrder (classes_of cs (kept_of ts sigs))
+pub classes_rise : (cs : List TagChange) (ts : List Tag) (sigs : List (List Part)) → IsRising (before tag_cmp) ts → AreInOrder (classes_of cs (kept_of ts sigs))
 classes_rise cs [] sigs rises = tt
 classes_rise cs (t ∷ ts) [] rises = tt
 classes_rise cs (t ∷ ts) (sig ∷ sigs) rises = (

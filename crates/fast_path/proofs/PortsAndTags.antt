@@ -1,26 +1,21 @@
 -- The ports of a participant, and the prefixes that have a tag.
 use Rattle.std.proofs.Common.{◌≡◌, true, filter, nat_eq, sym, ap, ◌∙◌}
-use Rattle.std.specs.Prelude.{Some, is_some}
+use Rattle.std.specs.Prelude.{Some}
 use Rattle.std.specs.FinMap.{get}
-use Rattle.std.specs.Option.{option_and_then, option_map}
 use Rattle.std.specs.Ordering.{eq_by_cmp}
 use Rattle.std.proofs.lemmas.Bool.{eqb-true}
-use Rattle.events.specs.State.{State, port_of, present}
-use Rattle.events.specs.Tags.{same_tag, tells}
-use Rattle.events.specs.declared.Entry.{Entry}
-use Rattle.exchange_laws.proofs.LivePairs.{present_is}
+use Rattle.events.specs.State.{State, port_of}
+use Rattle.events.specs.Tags.{same_tag}
 use Rattle.exchange_laws.proofs.Sames.{tag_itself, tag_same}
 use Rattle.fast_path.specs.LiveOnly.{has_prefix, registered}
 use Rattle.net_types.proofs.FindLemmas.{find-IsFound}
 use Rattle.net_types.proofs.OrderLemmas.{prefixes_total}
-use Rattle.net_types.proofs.PassLemmas.{some_there}
 use Rattle.net_types.proofs.RisingLemmas.{Member-filter, filter-Member}
 use Rattle.net_types.proofs.SameLemmas.{nat_itself}
 use Rattle.net_types.proofs.SetLemmas.{Member-map, map-Member}
 use Rattle.net_types.proofs.TieLemmas.{pair_cmp-IsAntisymmetric, same_from_tie}
 use Rattle.net_types.proofs.ValueLemmas.{any_value, value_at}
 use Rattle.net_types.specs.Keys.{pair_cmp, prefix_cmp}
-use Rattle.net_types.specs.Routes.{Candidate, best}
 use Rattle.net_types.specs.Sets.{Member}
 use Rattle.net_types.specs.declared.address.Pid.{Pid}
 use Rattle.net_types.specs.declared.address.PortNo.{PortNo}
@@ -75,14 +70,3 @@ prefix_with s t has =
 
 pub has_prefix_of : (s : State) (p : Prefix) (t : Tag) → get s.tag p ≡ Some t → has_prefix s t ≡ true
 has_prefix_of s p t is = any_value prefix_cmp prefixes_total (same_tag t) s.tag p t is (tag_itself t)
-
--- a best route and a tag make an entry present
-pub present_from : (s : State) (who : Pid) (p : Prefix) (t : Tag) → is_some (best s.routing who p) ≡ true → get s.tag p ≡ Some t → tells (present s who) t ≡ true
-present_from s who p t routed tagged =
-    let chosen = some_there (best s.routing who p) routed in
-    let e : Entry = record { attrs = chosen.0.attrs; tag = t } in
-    any_value prefix_cmp prefixes_total (λ (x : Entry). same_tag x.tag t) (present s who) p e
-    (present_is s who p
-    ∙ ap (λ b. option_and_then (λ (c : Candidate). option_map (λ u. let x : Entry = record { attrs = c.attrs; tag = u } in x) (get s.tag p)) b) chosen.1
-    ∙ ap (λ o. option_map (λ u. let x : Entry = record { attrs = chosen.0.attrs; tag = u } in x) o) tagged)
-    (tag_itself t)

@@ -3,8 +3,10 @@ pub mod LiveOnly
 pub mod Newly
 pub mod Emptied
 pub mod Grouping
+pub mod GroupOrder
 pub mod Shown
 pub mod Offers
+pub mod Members
 pub mod Committing
 pub mod Plans
 pub mod Planned

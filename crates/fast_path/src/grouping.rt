@@ -1,17 +1,89 @@
 //! The groups of the touched prefixes that need a fresh tag: those with the same tag before and the same signature after
 //! share one.
 
-ghost use Rattle.std.specs.Prelude.{◌≡◌, [], ◌∷◌, IfOk, OnOk};
-ghost use Rattle.std.specs.List.{list_any, position_from};
+ghost use Rattle.std.specs.Prelude.{◌≡◌, [], ◌∷◌, IfOk, OnOk, length};
+ghost use Rattle.std.specs.List.{position_from};
 ghost use Rattle.net_types.specs.Attributes.{same_option};
-ghost use Rattle.events.specs.Tags.{same_group, same_tag};
-ghost use Rattle.fast_path.specs.Grouping.{groups_of, is_moved, more_groups, moved_groups, one_more, same_class};
+ghost use Rattle.events.specs.Tags.{same_tag};
+ghost use Rattle.fast_path.specs.Grouping.{groups_of, more_groups, moved_groups, one_more, same_class};
 
 use crate::fresh::Fresh;
+use crate::group_key::GroupKey;
 use crate::known::KnownClasses;
-use net_types::{Memory, Prefix, Sig, Tag, TryCopy, same_items};
+use net_types::{Memory, Prefix, Sig, Tag, TryCopy};
+use ordered_map::OrderedMap;
 use route_server::Proposal;
 use std::alloc::Global;
+use std::marker::Model;
+
+/// Groups by their first places, each found by its tag before and its signature after. Contracts see the list of them.
+#[derive(Drop)]
+pub struct Groups<'a> {
+    fresh: Vec<Fresh>,
+    places: OrderedMap<GroupKey<'a>, usize>,
+}
+
+impl<'a> Model for Groups<'a> {
+    ghost use Rattle.std.specs.Prelude.{List};
+    ghost use Rattle.fast_path.specs.Grouping.{groups_of};
+    ghost use Rattle.fast_path.specs.GroupOrder.{ArePlaces};
+    ghost use Rattle.fast_path.specs.declared.fresh.Fresh.{Fresh};
+
+    ghost Value = { List Fresh };
+
+    ghost view = { λ a. a.fresh.items };
+
+    ghost invariant = { λ a. ArePlaces (groups_of a.fresh.items) a.places.items };
+}
+
+impl<'a> Groups<'a> {
+    /// No group.
+    fn new(alloc: Global) -> Groups<'a>
+        ensures { result ≡ [] }
+    {
+        Groups {
+            fresh: Vec::new(alloc),
+            places: OrderedMap::new(alloc),
+        }
+    }
+
+    /// How many groups there are.
+    pub fn len(&self) -> usize
+        ensures { result ≡ length self.now }
+    {
+        self.fresh.len()
+    }
+
+    /// The place of the group with this tag before and this signature after.
+    pub fn place(&self, before: Option<Tag>, sig: &'a Sig) -> Option<usize>
+        ensures { result ≡ position_from (same_class before sig.now) 0 self.now }
+    {
+        self.places.get(&GroupKey::new(before, sig)).copied()
+    }
+
+    /// A group behind the others, where it isn't among them.
+    fn add(&mut self, before: Option<Tag>, sig: &'a Sig) -> Result<(), Memory>
+        ensures { OnOk result (groups_of self.new ≡ one_more (groups_of self.old) (record { before = before; after = sig.now })) }
+    {
+        let key = GroupKey::new(before, sig);
+        if self.places.get(&key).is_some() {
+            return Ok(());
+        }
+        let own = sig.copy()?;
+        self.places.reserve(1)?;
+        let place = self.fresh.len();
+        self.fresh.push(Fresh { before, sig: own })?;
+        self.places.put(key, place);
+        Ok(())
+    }
+
+    /// The groups alone.
+    pub fn into_fresh(self) -> Vec<Fresh>
+        ensures { result.items ≡ self.entry }
+    {
+        self.fresh
+    }
+}
 
 /// Whether two tags are the same, or both absent.
 pub fn same_tags(one: Option<Tag>, other: Option<Tag>) -> bool
@@ -29,72 +101,34 @@ pub fn same_tags(one: Option<Tag>, other: Option<Tag>) -> bool
     }
 }
 
-/// Whether a carried prefix gets another tag: its signature isn't the one kept for its tag.
-fn is_moved(known: &KnownClasses<'_>, prefix: Prefix, sig: &Sig) -> bool
-    ensures { result ≡ is_moved known.now prefix sig.now }
-{
-    if sig.is_empty() {
-        return false;
-    }
-    !known.is_kept(prefix, sig)
-}
-
-/// Whether a group has this tag before and this signature after.
-fn is_of(before: Option<Tag>, sig: &Sig, group: &Fresh) -> bool
-    ensures { result ≡ same_class before sig.now group.now }
-{
-    same_tags(before, group.before) && same_items(sig.items(), group.sig.items())
-}
-
-/// The place of the group with this tag before and this signature after.
-pub fn group_place(groups: &[Fresh], before: Option<Tag>, sig: &Sig) -> Option<usize>
-    ensures { result ≡ position_from (same_class before sig.now) 0 groups.now }
-{
-    groups.iter().position(|group| is_of(before, sig, group))
-}
-
-/// Whether there is a group with this tag before and this signature after.
-fn has(groups: &[Fresh], before: Option<Tag>, sig: &Sig) -> bool
-    ensures { result ≡ list_any (same_class before sig.now) groups.now }
-{
-    groups.iter().any(|group| is_of(before, sig, group))
-}
-
-/// A group behind others, where it isn't among them.
-fn add(groups: &mut Vec<Fresh>, before: Option<Tag>, sig: &Sig) -> Result<(), Memory>
-    ensures { OnOk result (groups_of groups.new.items ≡ one_more (groups_of groups.old.items) (record { before = before; after = sig.now })) }
-{
-    if !has(groups, before, sig) {
-        let own = sig.copy()?;
-        groups.push(Fresh { before, sig: own })?;
-    }
-    Ok(())
-}
-
 /// The groups with that of a further prefix, where it moves.
-fn consider(
-    groups: &mut Vec<Fresh>,
+fn consider<'a>(
+    groups: &mut Groups<'a>,
     known: &KnownClasses<'_>,
     prefix: Prefix,
-    sig: &Sig,
+    sig: &'a Sig,
 ) -> Result<(), Memory>
-    ensures { OnOk result (groups_of groups.new.items ≡ more_groups (groups_of groups.old.items) (moved_groups known.now (prefix ∷ []) (sig.now ∷ []))) }
+    ensures { OnOk result (groups_of groups.new ≡ more_groups (groups_of groups.old) (moved_groups known.now (prefix ∷ []) (sig.now ∷ []))) }
 {
-    if is_moved(known, prefix, sig) {
-        add(groups, known.tag_of(prefix), sig)?;
+    if sig.is_empty() {
+        return Ok(());
+    }
+    let before = known.tag_of(prefix);
+    if !known.is_kept(before, sig) {
+        groups.add(before, sig)?;
     }
     Ok(())
 }
 
 /// The groups of the touched prefixes that move, by their first places.
-pub fn groups(
+pub fn groups_for<'a>(
     alloc: Global,
     known: &KnownClasses<'_>,
-    proposal: &Proposal,
-) -> Result<Vec<Fresh>, Memory>
-    ensures { IfOk result (λ groups. groups_of groups.items ≡ more_groups [] (moved_groups known.now proposal.now.touched proposal.now.sigs)) }
+    proposal: &'a Proposal,
+) -> Result<Groups<'a>, Memory>
+    ensures { IfOk result (λ groups. groups_of groups ≡ more_groups [] (moved_groups known.now proposal.now.touched proposal.now.sigs)) }
 {
-    let mut groups = Vec::new(alloc);
+    let mut groups = Groups::new(alloc);
     for (at, prefix) in proposal.touched().iter().enumerate() {
         let sig = proposal.sig(at);
         consider(&mut groups, known, *prefix, sig)?;

@@ -1,16 +1,16 @@
 //! The tags of prefixes and the signatures of tags, as a line finds them.
 
-ghost use Rattle.std.specs.Prelude.{◌≡◌, false, List, IfOk, filter, map, nat_eq, option_copied, slice_get};
+ghost use Rattle.std.specs.Prelude.{◌≡◌, false, List, Some, IfOk, filter, map, nat_eq, option_copied, slice_get};
 ghost use Rattle.std.specs.Cmp.Lexicographic.{pointwise};
 ghost use Rattle.std.specs.FinMap.{get};
 ghost use Rattle.std.specs.List.{list_any};
 ghost use Rattle.std.specs.Option.{option_and_then, option_map, option_map_or};
-ghost use Rattle.net_types.specs.Attributes.{same_offer, same_part, same_signature};
+ghost use Rattle.net_types.specs.Attributes.{same_offer, same_option, same_part, same_signature};
 ghost use Rattle.net_types.specs.declared.address.Pid.{Pid as AnyPid};
 ghost use Rattle.net_types.specs.declared.route.Offer.{Offer as AnyOffer};
 ghost use Rattle.net_types.specs.Signatures.{counts, trimmed_part};
 ghost use Rattle.events.specs.Sound.{part_of};
-ghost use Rattle.fast_path.specs.Grouping.{is_kept_sig, known_by, part_by};
+ghost use Rattle.fast_path.specs.Grouping.{known_by, part_by};
 
 use net_types::{Memory, Offer, Part, Pid, Prefix, Same, Sig, Tag, TryCopy};
 use prefix_classes::ClassMap;
@@ -165,11 +165,11 @@ impl<'a> KnownClasses<'a> {
         self.classes.tag_of(prefix)
     }
 
-    /// Whether a signature is the one of the prefix's tag.
-    pub fn is_kept(&self, prefix: Prefix, sig: &Sig) -> bool
-        ensures { result ≡ is_kept_sig self.now prefix sig.now }
+    /// Whether a signature is the one that is kept for a prefix's tag, where it has one.
+    pub fn is_kept(&self, tag: Option<Tag>, sig: &Sig) -> bool
+        ensures { result ≡ same_option same_signature (option_and_then (get self.now.kept) tag) (Some sig.now) }
     {
-        let Some(tag) = self.classes.tag_of(prefix) else {
+        let Some(tag) = tag else {
             return false;
         };
         let Some(kept) = self.classes.sig_of(tag) else {

@@ -5,10 +5,12 @@
 mod ascending;
 mod building;
 mod carried;
+mod classes;
 mod committing;
 mod draft;
 mod emptied;
 mod fresh;
+mod group_key;
 mod grouping;
 mod known;
 mod newly;

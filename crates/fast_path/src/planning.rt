@@ -1,31 +1,28 @@
 //! Planning a line that builds rules: the tags that touched prefixes get, the pairs of the table that go, and the rules of
 //! those that come.
 
-ghost use Rattle.std.specs.Prelude.{◌≡◌, ◌≤◌, ◌<◌, Bool, length, map, IfOk, IfNone, IfSome, MatchResult};
+ghost use Rattle.std.specs.Prelude.{◌≡◌, ◌≤◌, ◌<◌, Bool, length, IfOk, IfNone, IfSome, MatchResult};
 ghost use Rattle.net_types.specs.Exports.{Routing};
 ghost use Rattle.net_types.specs.declared.rule.Pair.{Pair as AnyPair};
 ghost use Rattle.events.specs.State.{State};
-ghost use Rattle.fast_path.specs.Committing.{classes_of, kept_of, members_of};
 ghost use Rattle.fast_path.specs.Drafts.{IsDraft, IsDrafted};
 ghost use Rattle.fast_path.specs.Plans.{IsAsked, IsAskedFor, IsFault, IsPlan, IsWithinSteps};
 ghost use Rattle.next_hop_pool.specs.Free.{free_tags};
-ghost use Rattle.fast_path.specs.declared.fresh.Fresh.{Fresh};
 
 use crate::building::{flows_of, rules_for};
+use crate::classes::with_tags;
 use crate::draft::Draft;
 use crate::emptied::emptied;
-use crate::fresh::Fresh;
-use crate::grouping::{groups, same_tags};
+use crate::grouping::{Groups, groups_for};
 use crate::known::KnownClasses;
 use crate::newly::newly_tagged;
 use crate::offering::offers_of;
 use crate::pairs::{built_pairs, dropped_pairs, gone_pairs, untold};
-use crate::planned::{Class, FastFault, Plan};
+use crate::planned::{FastFault, Plan};
 use crate::tagging::{fresh_tags, tag_changes, tagged};
 use advert_queue::Adverts;
 use block_build::{Block, Blocks, Views};
-use events::TagChange;
-use net_types::{Items, Memory, Pair, Pid, Pids, Prefixes, Steps, Tag, TryCopy};
+use net_types::{Items, Memory, Pair, Pid, Pids, Steps};
 use next_hop_pool::Pool;
 use prefix_classes::ClassMap;
 use registry::Registry;
@@ -34,67 +31,28 @@ use rule_laws::right_rules_are_few;
 use std::alloc::Global;
 use std::sync::ledger::Ledger;
 
-/// The prefixes that get a tag.
-fn members_of(alloc: Global, changes: &[TagChange], tag: Tag) -> Result<Prefixes, Memory>
-    ensures { IfOk result (λ members. members ≡ members_of changes.now tag) }
-{
-    let mut members = Items::new(alloc);
-    for change in changes {
-        if same_tags(change.tag, Some(tag)) {
-            members.push(change.prefix)?;
-        }
-    }
-    Ok(members)
-}
-
-/// The fresh tags with the signatures of their groups and the prefixes that get them.
-fn with_tags(
-    alloc: Global,
-    groups: &[Fresh],
-    tags: &[Tag],
-    changes: &[TagChange],
-) -> Result<Vec<Class>, Memory>
-    ensures { IfOk result (λ fresh. fresh.items ≡ classes_of changes.now (kept_of tags.now (map (λ (f : Fresh). f.sig) groups.now))) }
-{
-    let mut fresh = Vec::new(alloc);
-    for (at, tag) in tags.iter().enumerate() {
-        let Some(group) = groups.get(at) else {
-            return Ok(fresh);
-        };
-        let sig = group.sig.copy()?;
-        let members = members_of(alloc, changes, *tag)?;
-        let class = Class {
-            tag: *tag,
-            sig,
-            members,
-        };
-        fresh.push(class)?;
-    }
-    Ok(fresh)
-}
-
 /// What becomes of tags and pairs by a proposal, by the groups that get fresh tags.
-fn drafted(
+fn drafted<'a>(
     alloc: Global,
     names: &Registry,
     classes: &ClassMap,
     pool: &Pool,
     adverts: &Adverts,
-    proposal: &Proposal,
-    groups: &[Fresh],
+    proposal: &'a Proposal,
+    groups: Groups<'a>,
     rebuild: &[Pair],
 ) -> Result<Draft, Memory>
-    requires { length groups.now ≤ length (free_tags pool.now) }
-    ensures { IfOk result (IsDraft names.now classes.now pool.now adverts.now.told proposal.now groups.now rebuild.now) }
+    requires { length groups ≤ length (free_tags pool.now) }
+    ensures { IfOk result (IsDraft names.now classes.now pool.now adverts.now.told proposal.now groups.entry rebuild.now) }
 {
     let known = KnownClasses::of(classes, proposal);
     let given = fresh_tags(alloc, pool, groups.len())?;
-    let after = tagged(alloc, &known, proposal, groups, &given)?;
+    let after = tagged(alloc, &known, proposal, &groups, &given)?;
     let tags = tag_changes(alloc, &known, after.items())?;
     let left = emptied(alloc, classes, tags.items())?;
     let gone = gone_pairs(alloc, names, classes, adverts, &left)?;
     let drops = dropped_pairs(alloc, gone.items(), rebuild)?;
-    let fresh = with_tags(alloc, groups, &given, tags.items())?;
+    let fresh = with_tags(alloc, groups.into_fresh(), &given, tags.items())?;
     let built = built_pairs(alloc, names, &fresh, gone.items(), rebuild)?;
     let dead = untold(alloc, adverts, &left)?;
     let offers = offers_of(alloc, names, proposal, after.items())?;
@@ -112,7 +70,7 @@ fn drafted(
 }
 
 /// How many fresh tags are needed and how many are free, where these are fewer.
-fn shortage(pool: &Pool, groups: &[Fresh]) -> Option<(u64, u32)>
+fn shortage(pool: &Pool, groups: &Groups<'_>) -> Option<(u64, u32)>
     ensures short { IfSome result (λ x. (x.0 ≡ length groups.now) × (x.1 ≡ length (free_tags pool.now)) × (x.1 < x.0)) }
     ensures enough { IfNone result (length groups.now ≤ length (free_tags pool.now)) }
 {
@@ -185,12 +143,12 @@ pub fn plan<B: Blocks, L: Ledger>(
 {
     right_rules_are_few();
     let known = KnownClasses::of(classes, proposal);
-    let groups = groups(alloc, &known, proposal)?;
+    let groups = groups_for(alloc, &known, proposal)?;
     if let Some((need, free)) = shortage(pool, &groups) {
         return Err(FastFault::NoNextHop { need, free });
     }
     let draft = drafted(
-        alloc, names, classes, pool, adverts, proposal, &groups, rebuild,
+        alloc, names, classes, pool, adverts, proposal, groups, rebuild,
     )?;
     let drops = draft.drops.items();
     let built = draft.built.items();

@@ -5,8 +5,7 @@ ghost use Rattle.next_hop_pool.specs.Free.{free_tags};
 ghost use Rattle.fast_path.specs.Grouping.{tag_after};
 ghost use Rattle.fast_path.specs.Offers.{others, tagged};
 
-use crate::fresh::Fresh;
-use crate::grouping::{group_place, same_tags};
+use crate::grouping::{Groups, same_tags};
 use crate::known::KnownClasses;
 use events::{TagChange, TagChanges};
 use net_types::{Items, Memory, Prefix, Sig, Tag};
@@ -33,12 +32,12 @@ pub fn fresh_tags(alloc: Global, pool: &Pool, count: usize) -> Result<Vec<Tag>, 
 
 /// The tag of a prefix with this signature: the one that it has where the signature is kept for it, or else that of its
 /// class; none where nobody has a best route.
-fn tag_after(
+fn tag_after<'a>(
     known: &KnownClasses<'_>,
-    groups: &[Fresh],
+    groups: &Groups<'a>,
     tags: &[Tag],
     prefix: Prefix,
-    sig: &Sig,
+    sig: &'a Sig,
 ) -> Option<Tag>
     ensures { result ≡ tag_after known.now groups.now tags.now prefix sig.now }
 {
@@ -46,19 +45,19 @@ fn tag_after(
         return None;
     }
     let before = known.tag_of(prefix);
-    if known.is_kept(prefix, sig) {
+    if known.is_kept(before, sig) {
         return before;
     }
-    let place = group_place(groups, before, sig)?;
+    let place = groups.place(before, sig)?;
     tags.get(place).copied()
 }
 
 /// The touched prefixes, each with its tag afterwards, in order.
-pub fn tagged(
+pub fn tagged<'a>(
     alloc: Global,
     known: &KnownClasses<'_>,
-    proposal: &Proposal,
-    groups: &[Fresh],
+    proposal: &'a Proposal,
+    groups: &Groups<'a>,
     tags: &[Tag],
 ) -> Result<TagChanges, Memory>
     ensures { IfOk result (λ all. all ≡ tagged known.now groups.now tags.now proposal.now.touched proposal.now.sigs) }

@@ -21,3 +21,4 @@ pub use laws::{
     tags_after_changes,
 };
 pub use moves::Moves;
+pub use placed::compare_sigs;

@@ -4,7 +4,7 @@ ghost use Rattle.std.specs.Prelude.{◌≡◌, true, IfOk, refl};
 ghost use Rattle.std.specs.Cmp.{eq_by_cmp_equiv, partial_equiv_from_equiv, partial_order_from_total};
 ghost use Rattle.std.specs.Cmp.Lexicographic.{slice_cmp};
 ghost use Rattle.std.specs.Ordering.{as_partial_cmp, eq_by_cmp};
-ghost use Rattle.prefix_classes.specs.Placed.{offer_cmp, part_cmp, placed_cmp};
+ghost use Rattle.prefix_classes.specs.Placed.{offer_cmp, part_cmp, placed_cmp, sig_cmp};
 ghost use Rattle.prefix_classes.specs.PlacedLaws.{placed_total};
 ghost use Rattle.std.specs.declared.cmp.Ordering.{Ordering as AnyOrdering};
 
@@ -121,6 +121,13 @@ fn rank_items<T: Ranked>(one: &[T], other: &[T]) -> Ordering
         return Ordering::Less;
     }
     Ordering::Equal
+}
+
+/// Which of two signatures comes first, by the first part that differs.
+pub fn compare_sigs(one: &Sig, other: &Sig) -> Ordering
+    ensures { result ≡ sig_cmp one.now other.now }
+{
+    rank_items(one.items(), other.items())
 }
 
 impl Ord for Placed {

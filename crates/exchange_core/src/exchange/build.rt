@@ -96,7 +96,7 @@ impl Core {
             &mut self.classes,
             &mut self.adverts,
         )?;
-        self.switch.reserve(plan.blocks.len())?;
+        self.switch.reserve(plan.pair_count())?;
         tell_job(
             self.alloc,
             &self.registry,

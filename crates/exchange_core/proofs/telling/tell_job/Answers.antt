@@ -1,5 +1,5 @@
-use Rattle.std.proofs.Common.{◌≡◌, ap, length, subst, sym, ◌∙◌}
-use Rattle.std.specs.Prelude.{OnErr, OnOk, Some}
+use Rattle.std.proofs.Common.{ap, length, subst, sym, ◌∙◌}
+use Rattle.std.specs.Prelude.{OnOk, Some}
 use Rattle.std.proofs.lemmas.Result.{on_err_weaker, on_ok_weaker}
 use Rattle.exchange_core.specs.Jobs.{IsTold}
 use Rattle.exchange_core.proofs.Told.{told_changes, told_policy}

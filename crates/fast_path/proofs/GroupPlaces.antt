@@ -1,0 +1,102 @@
+-- What ties in the order of groups is one group; where groups are found once there is one more.
+use Rattle.std.proofs.Common.{◌≡◌, ℕ, ◌+◌, Bool, true, false, cond, ◌||◌, List, [], ◌∷◌, ◌++◌, length, sym, ap, ◌∙◌, refl, arith}
+use Rattle.std.specs.Prelude.{Option, Some, None, is_some, option_copied}
+use Rattle.std.specs.Borrow.{Bor}
+use Rattle.std.specs.FinMap.Entries.{find, put, find-put}
+use Rattle.std.specs.List.{list_any, position_from}
+use Rattle.std.specs.Option.{option_cmp}
+use Rattle.std.specs.Ordering.{eq_by_cmp}
+use Rattle.std.specs.declared.cmp.Ordering.TheVariants.{Equal}
+use Rattle.events.specs.Tags.{Group, same_group}
+use Rattle.exchange_laws.proofs.Sames.{group_itself, group_same}
+use Rattle.net_types.proofs.TieLemmas.{first_tie, second_tie, same_from_tie, tag_cmp-IsAntisymmetric, ties_itself}
+use Rattle.net_types.specs.Keys.{tag_cmp}
+use Rattle.net_types.specs.declared.address.Tag.{Tag}
+use Rattle.prefix_classes.proofs.PlacedLemmas.{sig_cmp-IsAntisymmetric}
+use Rattle.prefix_classes.specs.Placed.{sig_cmp}
+use Rattle.fast_path.specs.GroupOrder.{ArePlaces, group_cmp, groups_total}
+use Rattle.fast_path.specs.Grouping.{one_more}
+
+-- ---- the order
+
+befores_tie : (a b : Option Tag) → option_cmp tag_cmp a b ≡ Equal → a ≡ b
+befores_tie None None e = refl
+befores_tie None (Some u) e = cc
+befores_tie (Some t) None e = cc
+befores_tie (Some t) (Some u) e = ap (λ x. Some x) (tag_cmp-IsAntisymmetric t u e)
+
+groups_tie : (a b : Group) → group_cmp a b ≡ Equal → a ≡ b
+groups_tie a b e =
+    let first = option_cmp tag_cmp a.before b.before in
+    let rest = sig_cmp a.after b.after in
+    λ i. record {
+      before = befores_tie a.before b.before (first_tie first rest e) i;
+      after = sig_cmp-IsAntisymmetric a.after b.after (second_tie first rest e) i;
+    }
+
+same_as_tied : (a b : Group) → eq_by_cmp group_cmp a b ≡ same_group a b
+same_as_tied a b = by (eq_by_cmp group_cmp a b) (same_group a b) refl refl
+  where
+    by : (x y : Bool) → eq_by_cmp group_cmp a b ≡ x → same_group a b ≡ y → x ≡ y
+    by true true tie same = refl
+    by false false tie same = refl
+    by true false tie same = sym (group_itself a) ∙ ap (same_group a) (same_from_tie group_cmp groups_tie a b tie) ∙ same
+    by false true tie same = sym tie ∙ ap (eq_by_cmp group_cmp a) (sym (group_same a b same)) ∙ ties_itself groups_total a
+
+-- ---- places
+
+pub is_copied : {A : Type 0} (o : Option (Bor A)) → is_some (option_copied o) ≡ is_some o
+is_copied None = refl
+is_copied (Some x) = refl
+
+-- an element stands in a list where it has a place
+pub any_placed : {A : Type 0} (p : A → Bool) (n : ℕ) (xs : List A) → list_any p xs ≡ is_some (position_from p n xs)
+any_placed p n [] = refl
+any_placed p n (x ∷ xs) = ap (λ b. p x || b) (any_placed p (n + 1) xs) ∙ by (p x) (position_from p (n + 1) xs)
+  where
+    by : (b : Bool) (o : Option ℕ) → (b || is_some o) ≡ is_some (cond b (Some n) o)
+    by true o = refl
+    by false o = refl
+
+-- the place in a list with one more element
+placed_last : {A : Type 0} (p : A → Bool) (n : ℕ) (xs : List A) (x : A) → position_from p n (xs ++ x ∷ []) ≡ cond (is_some (position_from p n xs)) (position_from p n xs) (cond (p x) (Some (n + length xs)) None)
+placed_last p n [] x = let none : n ≡ n + 0 = omega arith in ap (λ k. cond (p x) (Some k) None) none
+placed_last p n (y ∷ xs) x =
+    let more : n + 1 + length xs ≡ n + length (y ∷ xs) = omega arith in
+    ap (cond (p y) (Some n)) (placed_last p (n + 1) xs x ∙ ap (λ k. cond (is_some (position_from p (n + 1) xs)) (position_from p (n + 1) xs) (cond (p x) (Some k) None)) more)
+    ∙ by (p y) (position_from p (n + 1) xs) (cond (p x) (Some (n + length (y ∷ xs))) None)
+  where
+    by : (b : Bool) (o last : Option ℕ) → cond b (Some n) (cond (is_some o) o last) ≡ cond (is_some (cond b (Some n) o)) (cond b (Some n) o) last
+    by true o last = refl
+    by false o last = refl
+
+pub no_places : (es : List (Group × ℕ)) → es ≡ [] → ArePlaces [] es
+no_places es none = λ g. ap (find group_cmp g) none
+
+-- one more group at the end, where it has no place yet
+pub place_more : (gs : List Group) (es : List (Group × ℕ)) (g : Group) (n : ℕ) → ArePlaces gs es → is_some (find group_cmp g es) ≡ false → n ≡ length gs → ArePlaces (gs ++ g ∷ []) (put group_cmp g n es)
+place_more gs es g n are new at = λ q.
+    find-put group_cmp groups_total q g n es
+    ∙ ap (λ b. cond b (Some n) (find group_cmp q es)) (same_as_tied q g)
+    ∙ by q (same_group q g) refl
+    ∙ sym (placed_last (same_group q) 0 gs g)
+  where
+    either : (o : Option ℕ) → o ≡ cond (is_some o) o None
+    either None = refl
+    either (Some k) = refl
+
+    by : (q : Group) (b : Bool) → same_group q g ≡ b → cond b (Some n) (find group_cmp q es) ≡ cond (is_some (position_from (same_group q) 0 gs)) (position_from (same_group q) 0 gs) (cond (same_group q g) (Some (0 + length gs)) None)
+    by q true same =
+        let it : is_some (position_from (same_group q) 0 gs) ≡ false = ap (λ h. is_some (position_from (same_group h) 0 gs)) (group_same q g same) ∙ ap is_some (sym (are g)) ∙ new in
+        let here : n ≡ 0 + length gs = omega arith in
+        ap (λ k. Some k) here
+        ∙ sym (ap (λ b. cond b (position_from (same_group q) 0 gs) (cond (same_group q g) (Some (0 + length gs)) None)) it ∙ ap (λ b. cond b (Some (0 + length gs)) None) same)
+    by q false other =
+        are q ∙ either (position_from (same_group q) 0 gs) ∙ ap (λ b. cond (is_some (position_from (same_group q) 0 gs)) (position_from (same_group q) 0 gs) (cond b (Some (0 + length gs)) None)) (sym other)
+
+-- a group that has a place is none more, and one that has none is one more
+pub found_there : (gs : List Group) (es : List (Group × ℕ)) (g : Group) → ArePlaces gs es → is_some (find group_cmp g es) ≡ true → gs ≡ one_more gs g
+found_there gs es g are there = sym (ap (λ b. cond b gs (gs ++ g ∷ [])) (any_placed (same_group g) 0 gs ∙ ap is_some (sym (are g)) ∙ there))
+
+pub added_there : (gs : List Group) (es : List (Group × ℕ)) (g : Group) → ArePlaces gs es → is_some (find group_cmp g es) ≡ false → gs ++ g ∷ [] ≡ one_more gs g
+added_there gs es g are new = sym (ap (λ b. cond b gs (gs ++ g ∷ [])) (any_placed (same_group g) 0 gs ∙ ap is_some (sym (are g)) ∙ new))
