@@ -22,6 +22,7 @@ use Rattle.registry.specs.Registered.{Registered}
 use Rattle.route_server.specs.Edits.{IsEdit}
 use Rattle.net_types.specs.declared.export.ExportRule.{ExportRule}
 use Rattle.route_server.specs.Effects.{AreRowsOf, routing_after}
+use Rattle.route_server.specs.Listed.{StandAmong}
 use Rattle.route_server.specs.Rows.{look}
 use Rattle.route_server.specs.Served.{AreAll, AreDeclared, AreOwned, Carries, CarryAny, owns, routes_of}
 use Rattle.route_server.specs.declared.change.Change.{Change}
@@ -49,13 +50,13 @@ keys_are_all rows ps m is same = record {
       ∙ row_there (get rows k.prefix) k.from.0 (ap is_some (sym (get-routes_of rows k) ∙ ap (λ n. get n k) same) ∙ e)));
 }
 
-pub carries : (m : FinMap route_cmp Attrs) (from : Pid) (all ps : List Prefix) → AreAll m all → ps ≡ filter (λ p. is_some (get m (record { from = from; prefix = p }))) all → Carries m from ps
+pub carries : (m : FinMap route_cmp Attrs) (from : Pid) (all ps : List Prefix) → StandAmong m from all → ps ≡ filter (λ p. is_some (get m (record { from = from; prefix = p }))) all → Carries m from ps
 carries m from all ps are is =
     let t : Prefix → Bool = λ p. is_some (get m (record { from = from; prefix = p })) in
     subst (Carries m from) (sym is) (record {
       rising = filter-IsRising _ t all are.rising;
       some = λ p k. (filter-Member t all p k).passes;
-      all = λ p e. Member-filter t all p (are.all (record { from = from; prefix = p }) e) e;
+      all = λ p e. Member-filter t all p (are.all p e) e;
     })
 
 any_passes : {A : Type 0} (f : A → Bool) (xs : List A) → list_any f xs ≡ true → (x : A) × (f x ≡ true)

@@ -14,3 +14,4 @@ mod CompareSteps
 mod BestLaws
 mod ShortPaths
 mod NameLaws
+mod ListedLaws

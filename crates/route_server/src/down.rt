@@ -26,13 +26,13 @@ pub fn has(row: &[Held], from: Pid) -> bool
     false
 }
 
-/// The prefixes for which a participant has a route, in ascending order. It walks over all prefixes.
+/// The prefixes for which a participant has a route, in ascending order. It looks at those that are listed of it.
 pub fn prefixes_from(server: &RouteServer, from: Pid) -> Result<Vec<Prefix>, Memory>
     ensures { IfOk result (λ prefixes. Carries server.now.routes from prefixes.items) }
 {
     let mut prefixes = Vec::new(server.allocator());
-    let all = server.prefixes()?;
-    for prefix in all.as_slice() {
+    let listed = server.listed(from)?;
+    for prefix in listed.as_slice() {
         if has(server.row(*prefix), from) {
             prefixes.push(*prefix)?;
         }
@@ -52,6 +52,6 @@ impl RouteServer {
         let prefixes = prefixes_from(self, from)?;
         let changes = withdrawals(self, from, prefixes.as_slice())?;
         let proposal = Proposal::of(self, names, changes, None)?;
-        Ok(proposal)
+        Ok(proposal.with_list(from, 0))
     }
 }

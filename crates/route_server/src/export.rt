@@ -112,6 +112,6 @@ impl RouteServer {
         let before = self.rules();
         let after = with_rules(self.allocator(), before, from, rules.into_rules())?;
         let proposal = Proposal::of(self, names, changes, Some(after))?;
-        Ok(proposal)
+        Ok(proposal.with_list(from, 0))
     }
 }

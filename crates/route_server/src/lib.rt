@@ -2,6 +2,7 @@
 #![tactic(auto)]
 
 mod admission;
+mod announced;
 mod bests;
 mod change;
 mod choices;

@@ -29,6 +29,8 @@ use std::marker::Model;
 /// The rows, rules and names afterwards, and what is another then. It changes nothing until it is committed.
 #[derive(Drop)]
 pub struct Proposal {
+    /// Whose list of prefixes it is made from or changes, and how many may come into the list.
+    list: Option<(Pid, usize)>,
     changes: Vec<Change>,
     rules: Option<Vec<ExportRules>>,
     named: Option<(Pid, Pids)>,
@@ -80,6 +82,7 @@ impl Proposal {
         ensures { result ≡ record { changes = []; rules = None; named = None; touched = []; sigs = []; bests = [] } }
     {
         Proposal {
+            list: None,
             changes: Vec::new(alloc),
             rules: None,
             named: None,
@@ -100,6 +103,7 @@ impl Proposal {
     {
         let touched = touched_by(alloc, effects.as_slice())?;
         Ok(Proposal {
+            list: None,
             changes,
             rules,
             named,
@@ -178,6 +182,20 @@ impl Proposal {
             Some((who, named)) => Some((*who, named.items())),
             None => None,
         }
+    }
+
+    /// The same, made from or changing a participant's list of prefixes, into which so many may come.
+    pub(crate) fn with_list(self, from: Pid, new: usize) -> Proposal
+        ensures { result ≡ self }
+    {
+        let mut proposal = self;
+        proposal.list = Some((from, new));
+        proposal
+    }
+
+    /// Whose list of prefixes it is made from or changes, and how many may come into the list.
+    pub(crate) fn list(&self) -> Option<(Pid, usize)> {
+        self.list
     }
 
     /// The changes, the rules and the names.

@@ -13,6 +13,7 @@ ghost use Rattle.route_server.specs.Proposed.{IsProposal, named_with};
 ghost use Rattle.route_server.specs.Served.{routing, AreDeclared, AreOwned, Reaches};
 
 use crate::admission::refusal;
+use crate::down::prefixes_from;
 use crate::fault::RouteFault;
 use crate::proposal::Proposal;
 use crate::server::RouteServer;
@@ -39,7 +40,31 @@ fn proposed_update(
     let _declared = names.participants();
     let changes = update_changes(server, from, update)?;
     let proposal = Proposal::of(server, names, changes, None)?;
-    Ok(proposal)
+    Ok(proposal.with_list(from, update.announced.len()))
+}
+
+/// Makes a participant's list of prefixes anew where more than half of it is out of date.
+fn tidy(server: &mut RouteServer, from: Pid) -> Result<(), Memory>
+    ensures { server.new ≡ server.old }
+{
+    if server.is_stale(from) {
+        let prefixes = prefixes_from(server, from)?;
+        server.relist(from, prefixes);
+    }
+    Ok(())
+}
+
+/// Makes room in the list of prefixes that a proposal changes.
+fn reserve_list(server: &mut RouteServer, proposal: &Proposal) -> Result<(), Memory>
+    ensures { server.new ≡ server.old }
+{
+    match proposal.list() {
+        Some((from, new)) => {
+            tidy(server, from)?;
+            server.reserve_list(from, new)
+        }
+        None => Ok(()),
+    }
 }
 
 impl RouteServer {
@@ -79,6 +104,7 @@ impl RouteServer {
         ensures rules { self.new.rules ≡ self.old.rules }
         ensures named { self.new.named ≡ self.old.named }
     {
+        reserve_list(self, proposal)?;
         self.reserve_rows(proposal.rows())
     }
 

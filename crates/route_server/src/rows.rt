@@ -4,7 +4,6 @@ ghost use Rattle.std.specs.Prelude.{◌≡◌, ◌≤◌, ◌<◌, length, nat_e
 ghost use Rattle.std.specs.List.{list_any};
 ghost use Rattle.std.specs.Option.{option_and_then, option_map, option_copied};
 ghost use Rattle.net_types.specs.Exports.{is_in_path, is_given, asn_of};
-ghost use Rattle.net_types.specs.Paths.{asns};
 ghost use Rattle.net_types.specs.Routes.{best_of, candidate};
 ghost use Rattle.net_types.specs.Routes as definition;
 ghost use Rattle.decision.specs.Seen.{seen};
@@ -18,7 +17,7 @@ use net_types::{Attrs, Ip, Pid, Prefix, Segment};
 use registry::Registry;
 
 /// How many participants there are at most.
-const MOST: usize = 256;
+pub const MOST: usize = 256;
 
 /// What stands in the array where there is no route.
 const NOTHING: Candidate = Candidate {
@@ -30,15 +29,6 @@ const NOTHING: Candidate = Candidate {
     peer: Ip(0),
 };
 
-fn asns_of(segment: &Segment) -> &[u32]
-    ensures { result.now ≡ asns segment.now }
-{
-    match segment {
-        Segment::Set(asns) => asns.items(),
-        Segment::Sequence(asns) => asns.items(),
-    }
-}
-
 fn stands_in(asn: u32, asns: &[u32]) -> bool
     ensures { result ≡ list_any (nat_eq asn) asns.now }
 {
@@ -48,7 +38,7 @@ fn stands_in(asn: u32, asns: &[u32]) -> bool
 fn is_in_path(asn: u32, path: &[Segment]) -> bool
     ensures { result ≡ is_in_path asn path.now }
 {
-    path.iter().any(|segment| stands_in(asn, asns_of(segment)))
+    path.iter().any(|segment| stands_in(asn, segment.asns()))
 }
 
 /// The AS of a participant; 0 where it is not declared.

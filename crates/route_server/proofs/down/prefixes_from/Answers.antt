@@ -24,5 +24,5 @@ loop-prefix-preserved c =
 pub returns : goal.returns
 returns c =
     let t : Prefix → Bool = λ p. is_some (get c.args.server.now.routes (record { from = c.args.from; prefix = p })) in
-    carries c.args.server.now.routes c.args.from c.in_ok-all.all.items c.loop-prefix.prefixes.items c.in_ok-all.ensures
+    carries c.args.server.now.routes c.args.from c.in_ok-listed.listed.items c.loop-prefix.prefixes.items c.in_ok-listed.ensures
     (c.loop-prefix.invariant ∙ ap (filter t) (take_all c.loop-prefix.prefix-index c.as_slice-prefix-items.result.now c.loop-prefix-test.false ∙ c.as_slice-prefix-items.ensures.value))

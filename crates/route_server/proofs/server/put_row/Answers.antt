@@ -1,19 +1,20 @@
-use Rattle.std.proofs.Common.{ap, ◌∙◌, refl, sym, length}
-use Rattle.std.specs.Prelude.{Some, None}
-use Rattle.std.specs.FinMap.{get}
-use Rattle.std.proofs.lemmas.Bool.{eqb-true}
-use Rattle.route_server.proofs.ServedLaws.{rows_update, route_update, get-put, get-taken, look-empty}
+use Rattle.std.proofs.Common.{◌≡◌, length, take, map, arith, ap, subst, sym, ◌∙◌}
+use Rattle.net_types.specs.Sets.{Member}
+use Rattle.net_types.specs.declared.address.Pid.{Pid}
+use Rattle.route_server.specs.declared.held.Held.{Held}
+use Rattle.route_server.proofs.ListedLaws.{among_participants, listed_after, row_listed}
+use Rattle.route_server.proofs.RowLaws.{rising_short}
 use Rattle.route_server.proofs.server.put_row.Goals as goal
 
-pub returns-then-is_empty-clause-rows : goal.returns-then-is_empty-clause-rows
-returns-then-is_empty-clause-rows c = rows_update c.args.rows.now.map c.remove.new.self.map c.args.change.prefix None (λ q. ap (λ m. get m q) c.remove.ensures.map ∙ get-taken c.args.rows.now.map c.args.change.prefix q) c.requires.rows tt
+pub put_participants-requires : goal.put_participants-requires
+put_participants-requires c = let short = rising_short 0 256 c.args.change.row (omega arith) c.args.change.rising in let same = ap length c.items.ensures in omega (arith, short, same)
 
-pub returns-then-is_empty-clause-routes : goal.returns-then-is_empty-clause-routes
-returns-then-is_empty-clause-routes c = route_update c.args.rows.now.map c.remove.new.self.map c.args.change None (λ q. ap (λ m. get m q) c.remove.ensures.map ∙ get-taken c.args.rows.now.map c.args.change.prefix q)
-    (λ n. look-empty c.args.change.row n (eqb-true (length c.args.change.row) 0 (sym c.is_empty.ensures ∙ c.if-is_empty.true)))
+pub note_row-requires : goal.note_row-requires
+note_row-requires c = row_listed c.args.rows.now.map c.args.announced.now c.args.change.prefix c.swap_row-old.result c.requires.listed c.swap_row-old.ensures.before
 
-pub returns-else-is_empty-clause-rows : goal.returns-else-is_empty-clause-rows
-returns-else-is_empty-clause-rows c = rows_update c.args.rows.now.map c.put.new.self.map c.args.change.prefix (Some c.args.change.row) (λ q. ap (λ m. get m q) c.put.ensures.map ∙ get-put c.args.rows.now.map c.args.change.prefix c.args.change.row q) c.requires.rows c.args.change.rising
-
-pub returns-else-is_empty-clause-routes : goal.returns-else-is_empty-clause-routes
-returns-else-is_empty-clause-routes c = route_update c.args.rows.now.map c.put.new.self.map c.args.change (Some c.args.change.row) (λ q. ap (λ m. get m q) c.put.ensures.map ∙ get-put c.args.rows.now.map c.args.change.prefix c.args.change.row q) (λ n. refl)
+pub returns-clause-listed : goal.returns-clause-listed
+returns-clause-listed c =
+    let all : take c.len-count.result c.put_participants.new.pids ≡ map (λ (h : Held). h.from) c.args.change.row =
+    ap (λ n. take n c.put_participants.new.pids) (c.len-count.ensures ∙ ap length (sym c.items.ensures)) ∙ c.put_participants.ensures ∙ ap (map (λ (h : Held). h.from)) c.items.ensures in
+    listed_after c.args.rows.now.map c.swap_row-old.new.rows.map c.args.change c.args.announced.now c.note_row.new.announced c.swap_row-old.ensures.routes c.requires.listed c.note_row.ensures.kept
+    (λ n there. let who : Pid = record { 0 = n } in c.note_row.ensures.listed who (subst (Member who) (sym all) (among_participants c.args.change.row n there)))

@@ -12,7 +12,7 @@ returns-in-Some-clause-routes c from =
     ∙ ap (option_and_then (λ row. look row from.0)) (sym c.in-Some.ensures) ∙ ap (λ row. look row from.0) (sym c.items.ensures)
 
 pub returns-in-Some-clause-rising : goal.returns-in-Some-clause-rising
-returns-in-Some-clause-rising c = rw c.items.ensures (rows_rise c.self.inside.rows.map c.args.prefix _ c.self.invariant c.in-Some.ensures)
+returns-in-Some-clause-rising c = rw c.items.ensures (rows_rise c.self.inside.rows.map c.args.prefix _ c.self.invariant.0 c.in-Some.ensures)
 
 pub returns-in-None-clause-routes : goal.returns-in-None-clause-routes
 returns-in-None-clause-routes c from =

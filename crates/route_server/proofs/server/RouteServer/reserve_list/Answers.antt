@@ -1,0 +1,4 @@
+use Rattle.route_server.proofs.server.RouteServer.reserve_list.Goals as goal
+
+pub invariant_of-self : goal.invariant_of-self
+invariant_of-self c = (c.self.invariant.0, λ k there. c.reserve.ensures k.from.0 k.prefix (c.self.invariant.1 k there))
