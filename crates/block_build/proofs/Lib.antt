@@ -10,6 +10,8 @@ pub mod BoundLemmas
 pub mod ExitLemmas
 pub mod GroupLemmas
 pub mod PastLemmas
+pub mod AloneLemmas
+pub mod ClosedLemmas
 pub mod PortLemmas
 pub mod InportLemmas
 pub mod TightLemmas

@@ -22,7 +22,7 @@ pub same_cube_exact : (a b : Cube) → same_cube a b ≡ true → a ≡ b
 same_cube_exact a b same = let p = and_parts (lies_within_cube a b) (lies_within_cube b a) same in cubes_antisym a b p.0 p.1
 
 -- the cube alone decides whether a rule is reached
-shadowed-cube : (xs : List Line) (is js : List Item) (c : Cube) → is_shadowed xs (line is c) ≡ is_shadowed xs (line js c)
+pub shadowed-cube : (xs : List Line) (is js : List Item) (c : Cube) → is_shadowed xs (line is c) ≡ is_shadowed xs (line js c)
 shadowed-cube [] is js c = refl
 shadowed-cube (x ∷ xs) is js c = ap (λ b. (same_cube x.cube c || lies_within_cube everything x.cube) || b) (shadowed-cube xs is js c)
 

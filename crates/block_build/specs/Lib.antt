@@ -8,6 +8,7 @@ pub mod Receivers
 pub mod Spreads
 pub mod Given
 pub mod Bounds
+pub mod Closed
 pub mod Rules
 pub mod Tight
 pub mod Installed

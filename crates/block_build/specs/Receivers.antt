@@ -1,5 +1,5 @@
 -- The rules of receivers, as ports to leave by.
-use Rattle.std.specs.Prelude.{Option, Some, None, List, [], ◌∷◌, map, if◌then◌else◌}
+use Rattle.std.specs.Prelude.{◌≡◌, Option, Some, None, List, [], ◌∷◌, map, if◌then◌else◌}
 use Rattle.classifier.specs.Items.{Item, add}
 use Rattle.classifier.specs.Lines.{line}
 use Rattle.classifier.specs.declared.line.Line.{Line}
@@ -52,7 +52,21 @@ receiver inbound o = record { who = o.exporter; lines = if o.hole then discardin
 abbrev pub receivers : (Pid → List Line) → List Offer → List Receiver
 receivers inbound offers = map (receiver inbound) offers
 
+-- the rules as ports to leave by, with the port of the NEXT_HOP, none for a hole
+abbrev pub lines_by : Option PortNo → List Line → List Line
+lines_by None ys = discarding
+lines_by (Some hop) ys = received_lines hop ys
+
 -- a participant with its rules and the port of its NEXT_HOP, none for a hole
 abbrev pub receiver_by : Pid → Option PortNo → List Line → Receiver
-receiver_by who None ys = record { who = who; lines = discarding }
-receiver_by who (Some hop) ys = record { who = who; lines = received_lines hop ys }
+receiver_by who hop ys = record { who = who; lines = lines_by hop ys }
+
+-- the one rule that there is, for all headers, where its items are given
+abbrev pub IsAlone : Option (List Item) → List Line → Type 0
+IsAlone None ys = Unit {0}
+IsAlone (Some items) ys = ys ≡ line items everything ∷ []
+
+-- what is kept of a receiver: the one rule that there may be, and its rules in groups
+pub record IsArranged (only : Option (List Item)) (hop : Option PortNo) (ys grouped : List Line) : Type 0 where
+  pub alone : IsAlone only (lines_by hop grouped)
+  pub same : grouped ≡ ys

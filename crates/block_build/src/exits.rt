@@ -1,43 +1,52 @@
 //! The rules of a receiver, as ports to leave by.
 
-ghost use Rattle.std.specs.Prelude.{◌≡◌, ◌∷◌, [], IsTrue, IfOk, OnOk, if◌then◌else◌, Some, None};
+ghost use Rattle.std.specs.Prelude.{◌≡◌, ◌∷◌, [], IsTrue, IfOk, OnOk, if◌then◌else◌, Some, None, option_copied};
 ghost use Rattle.classifier.specs.Items.{add_all};
 ghost use Rattle.classifier.specs.Lines.{add_line, add_lines, line, row};
 ghost use Rattle.classifier.specs.Runs.{lines_in};
 ghost use Rattle.classifier.specs.Seen.{Agrees};
 ghost use Rattle.classifier.specs.declared.join.Join.TheVariants.{Union};
-ghost use Rattle.block_build.specs.Bounds.{IsPast};
+ghost use Rattle.block_build.specs.Bounds.{AreMeets, IsPast};
+ghost use Rattle.block_build.specs.Closed.{AreClosed};
 ghost use Rattle.block_build.specs.Groups.{lines_within};
-ghost use Rattle.block_build.specs.Receivers.{discarding, received_items, received_lines, receiver};
+ghost use Rattle.block_build.specs.Receivers.{IsAlone, discarding, received_items, received_lines, receiver};
 ghost use Rattle.block_build.specs.Views.{inbound_of};
 
+use crate::alone::alone_of;
 use crate::group::Group;
 use crate::groups::groups_of;
 use crate::receive::received_beside;
+use crate::tested::tests_of;
+use crate::uncut::push_uncut;
 use crate::view::View;
-use classifier::{Line, Run, is_hidden, push_line, push_reached};
+use classifier::{Line, Results, Run, is_hidden, push_line, push_reached};
 use net_types::{Cube, Memory, Offer, Pid, PortNo, TryCopy};
 use std::alloc::Global;
 use std::collections::HashSet;
 use std::marker::Model;
 
 /// A participant in the offers, with its rules in groups of runs and the port of its NEXT_HOP, none where its route is a hole.
-/// Contracts see its rules as ports to leave by; none of them is made before it is needed.
+/// Contracts see its rules as ports to leave by; none of them is made before it is needed, but one that stands alone.
 #[derive(Drop)]
 pub struct Exits<'v> {
     who: Pid,
+    place: usize,
     hop: Option<PortNo>,
+    lines: &'v [Line],
     groups: Vec<Group<'v>>,
+    alone: Option<Results>,
 }
 
 impl<'v> Model for Exits<'v> {
     ghost use Rattle.block_build.specs.Groups.{lines_within};
-    ghost use Rattle.block_build.specs.Receivers.{receiver_by};
+    ghost use Rattle.block_build.specs.Receivers.{IsArranged, receiver_by};
     ghost use Rattle.block_build.specs.declared.receive.Receiver.{Receiver};
 
     ghost Value = { Receiver };
 
     ghost view = { λ e. receiver_by e.who e.hop (lines_within e.groups.items) };
+
+    ghost invariant = { λ e. IsArranged e.alone e.hop e.lines.now (lines_within e.groups.items) };
 }
 
 /// Puts the rule of a cube that joins a rule with one of a receiver last, where it can be reached.
@@ -217,14 +226,26 @@ fn hop_of(offer: &Offer) -> Option<PortNo>
 }
 
 impl<'v> Exits<'v> {
-    /// The participant of an offer, with its rules or those of a hole.
-    pub(crate) fn new(alloc: Global, view: &'v View<'_>, offer: &Offer) -> Result<Exits<'v>, Memory>
+    /// The participant of the offer at a place, with its rules or those of a hole.
+    pub(crate) fn new(
+        alloc: Global,
+        view: &'v View<'_>,
+        offer: &Offer,
+        place: usize,
+    ) -> Result<Exits<'v>, Memory>
         ensures { IfOk result (λ e. e ≡ receiver (inbound_of view.now) offer.now) }
     {
+        let hop = hop_of(offer);
+        let lines = view.inbound(offer.exporter);
+        let groups = groups_of(alloc, lines)?;
+        let alone = alone_of(alloc, hop, lines)?;
         Ok(Exits {
             who: offer.exporter,
-            hop: hop_of(offer),
-            groups: groups_of(alloc, view.inbound(offer.exporter))?,
+            place,
+            hop,
+            lines,
+            groups,
+            alone,
         })
     }
 
@@ -233,6 +254,49 @@ impl<'v> Exits<'v> {
         ensures { result ≡ self.now.who }
     {
         self.who
+    }
+
+    /// The place of its offer among the offers. Nothing rests on it but how soon a result is found.
+    pub(crate) fn place(&self) -> usize {
+        self.place
+    }
+
+    /// What it makes of every packet, where its one rule is for all headers.
+    pub(crate) fn alone(&self) -> Option<&Results>
+        ensures { IsAlone (option_copied result) self.now.lines }
+    {
+        self.alone.as_ref()
+    }
+
+    /// Tested cubes of which the cubes of its rules are meets.
+    pub(crate) fn tests(&self, alloc: Global) -> Result<Vec<Cube>, Memory>
+        ensures { IfOk result (λ tests. AreMeets tests.items self.now.lines) }
+    {
+        let tests = tests_of(alloc, self.lines)?;
+        Ok(tests)
+    }
+
+    /// Adds a rule joined with each of the receiver's where these don't cut it otherwise than the rules that are there. Answers
+    /// whether it did.
+    pub(crate) fn push_uncut(
+        &self,
+        alloc: Global,
+        lines: &mut Vec<Line>,
+        seen: &mut HashSet<Cube>,
+        x: &Line,
+        tests: &[Cube],
+    ) -> Result<bool, Memory>
+        requires agrees { Agrees lines.old.items seen.old }
+        requires closed { AreClosed tests.now lines.old.items }
+        requires meets { AreMeets tests.now self.now.lines }
+        ensures lines { IfOk result (λ done. lines.new.items ≡ (if done then add_lines lines.old.items (row Union x.now self.now.lines) else lines.old.items)) }
+        ensures agrees { OnOk result (Agrees lines.new.items seen.new) }
+        ensures closed { OnOk result (AreClosed tests.now lines.new.items) }
+    {
+        match self.hop {
+            Some(hop) => push_uncut(alloc, lines, seen, x, hop, &self.groups, tests),
+            None => Ok(false),
+        }
     }
 
     /// Adds a rule joined with each of the receiver's.

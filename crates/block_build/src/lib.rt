@@ -2,17 +2,21 @@
 #![tactic(auto)]
 
 mod actions;
+mod alone;
 mod block;
 mod blocks;
 mod building;
 mod exits;
 mod group;
 mod groups;
+mod holding;
 mod laws;
 mod offers;
 mod receive;
 mod spread;
+mod tested;
 mod tight;
+mod uncut;
 mod view;
 mod views;
 

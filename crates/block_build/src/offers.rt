@@ -52,6 +52,17 @@ fn has_one_for(best: Pid, who: Pid, items: &[(Assign, Loc)]) -> bool
     false
 }
 
+/// The same, with the results from a place on looked at first.
+fn has_one_from(place: usize, best: Pid, who: Pid, items: &[(Assign, Loc)]) -> bool
+    ensures { result ≡ has_one_for best who items.now }
+{
+    let (front, back) = items.split_at(place.min(items.len()));
+    if has_one_for(best, who, back) {
+        return true;
+    }
+    has_one_for(best, who, front)
+}
+
 /// Whether one of the results isn't taken out.
 pub(crate) fn has_one_left(offers: &[Offer], items: &[(Assign, Loc)]) -> bool
     ensures { result ≡ has_one_left offers.now items.now }
@@ -64,12 +75,19 @@ pub(crate) fn has_one_left(offers: &[Offer], items: &[(Assign, Loc)]) -> bool
     false
 }
 
-/// Whether the results send a packet to a participant in the offers: to the best one where none is left.
-pub(crate) fn goes_to(left: bool, best: Pid, items: &[(Assign, Loc)], who: Pid) -> bool
+/// Whether the results send a packet to a participant in the offers, which has this place among them: to the best one where none
+/// is left. Results often stand in the order of the offers.
+pub(crate) fn goes_to(
+    left: bool,
+    best: Pid,
+    items: &[(Assign, Loc)],
+    who: Pid,
+    place: usize,
+) -> bool
     ensures { result ≡ goes_to left best items.now who }
 {
     if left {
-        has_one_for(best, who, items)
+        has_one_from(place, best, who, items)
     } else {
         best.0 == who.0
     }

@@ -60,7 +60,11 @@ fn unchanged(alloc: Global, hop: PortNo) -> Result<Results, Memory>
 }
 
 /// How the results leave, and the packet as it is where there are none.
-fn received_results(alloc: Global, hop: PortNo, results: &Results) -> Result<Results, Memory>
+pub(crate) fn received_results(
+    alloc: Global,
+    hop: PortNo,
+    results: &Results,
+) -> Result<Results, Memory>
     ensures { IfOk result (λ r. r ≡ received_items hop results.now) }
 {
     if results.is_empty() {

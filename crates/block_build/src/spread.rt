@@ -1,15 +1,18 @@
 //! The rules of a sender, spread over the receivers that they send to.
 
-ghost use Rattle.std.specs.Prelude.{◌≡◌, ◌≤◌, ◌∷◌, [], IfOk, OnOk, length, map};
+ghost use Rattle.std.specs.Prelude.{◌≡◌, ◌≤◌, ◌∷◌, [], IfOk, OnOk, length, map, true, IsTrue};
 ghost use Rattle.std.specs.Option.{option_to_list};
-ghost use Rattle.classifier.specs.Lines.{add_lines, line};
+ghost use Rattle.classifier.specs.Lines.{add_lines, line, row};
 ghost use Rattle.classifier.specs.Seen.{Agrees};
+ghost use Rattle.classifier.specs.declared.join.Join.TheVariants.{Union};
 ghost use Rattle.net_types.specs.Cells.{freed};
-ghost use Rattle.block_build.specs.Bounds.{IsAdded, IsEnd, IsGrown, IsReached, IsSome, IsSomeBeside};
+ghost use Rattle.block_build.specs.Bounds.{AreMeets, IsAdded, IsEnd, IsGrown, IsReached, IsSome, IsSomeBeside};
+ghost use Rattle.block_build.specs.Closed.{AreClosed};
 ghost use Rattle.block_build.specs.Receivers.{receivers};
 ghost use Rattle.block_build.specs.Spreads.{are_for_any_port, blocks, built, restricted, spread, within_rule};
 ghost use Rattle.block_build.specs.Views.{inbound_of};
 
+use crate::alone::beside_alone;
 use crate::exits::Exits;
 use crate::offers::{goes_to, has_one_left};
 use crate::view::View;
@@ -17,6 +20,9 @@ use classifier::{Line, Results, push_line};
 use net_types::{Assign, Cube, Loc, Memory, Offer, Part, Pid, PortNo, TryCopy};
 use std::alloc::Global;
 use std::collections::HashSet;
+
+/// So many rules are joined with a receiver's one by one, which is no more work than to find what these test.
+const FEW: usize = 4096;
 
 /// The cube of what comes in by a port, with its inport freed; none where it has another.
 fn freed(port: PortNo, cube: &Cube) -> Option<Cube>
@@ -64,8 +70,63 @@ fn restricted(alloc: Global, port: PortNo, xs: &[Line]) -> Result<Vec<Line>, Mem
     Ok(lines)
 }
 
+/// Adds a rule joined with each of a receiver's. Answers whether the rules are closed.
+fn push_next(
+    alloc: Global,
+    lines: &mut Vec<Line>,
+    seen: &mut HashSet<Cube>,
+    x: &Line,
+    receiver: &Exits<'_>,
+    tests: &[Cube],
+    closed: bool,
+) -> Result<bool, Memory>
+    requires agrees { Agrees lines.old.items seen.old }
+    requires closed { IsTrue closed → AreClosed tests.now lines.old.items }
+    requires meets { AreMeets tests.now receiver.now.lines }
+    ensures lines { OnOk result (lines.new.items ≡ add_lines lines.old.items (row Union x.now receiver.now.lines)) }
+    ensures agrees { OnOk result (Agrees lines.new.items seen.new) }
+    ensures closed { IfOk result (λ still. IsTrue still → AreClosed tests.now lines.new.items) }
+{
+    if !closed {
+        receiver.push_row(alloc, lines, seen, x)?;
+        return Ok(false);
+    }
+    let done = receiver.push_uncut(alloc, lines, seen, x, tests)?;
+    if done {
+        return Ok(true);
+    }
+    receiver.push_row(alloc, lines, seen, x)?;
+    Ok(false)
+}
+
+/// Adds each of many rules joined with each of a receiver's to no rules. Where the receiver's cut none of them otherwise than
+/// those before it, each is joined with the first one that holds it. It stops where there are more than the limit.
+fn push_many(
+    alloc: Global,
+    lines: &mut Vec<Line>,
+    seen: &mut HashSet<Cube>,
+    xs: &[Line],
+    receiver: &Exits<'_>,
+    limit: usize,
+) -> Result<(), Memory>
+    requires empty { lines.old.items ≡ [] }
+    requires agrees { Agrees lines.old.items seen.old }
+    ensures added { OnOk result (IsAdded limit lines.old.items xs.now receiver.now.lines lines.new.items) }
+    ensures agrees { OnOk result (Agrees lines.new.items seen.new) }
+{
+    let tests = receiver.tests(alloc)?;
+    let mut closed = true;
+    for x in xs {
+        closed = push_next(alloc, lines, seen, x, receiver, &tests, closed)?;
+        if lines.len() > limit {
+            return Ok(());
+        }
+    }
+    Ok(())
+}
+
 /// Adds each of some rules joined with each of a receiver's. It stops where there are more than the limit.
-fn push_product(
+fn push_each(
     alloc: Global,
     lines: &mut Vec<Line>,
     seen: &mut HashSet<Cube>,
@@ -86,6 +147,41 @@ fn push_product(
     Ok(())
 }
 
+/// The same, where the rules may be many.
+fn push_product(
+    alloc: Global,
+    lines: &mut Vec<Line>,
+    seen: &mut HashSet<Cube>,
+    xs: &[Line],
+    receiver: &Exits<'_>,
+    limit: usize,
+) -> Result<(), Memory>
+    requires { Agrees lines.old.items seen.old }
+    ensures added { OnOk result (IsAdded limit lines.old.items xs.now receiver.now.lines lines.new.items) }
+    ensures agrees { OnOk result (Agrees lines.new.items seen.new) }
+{
+    if lines.is_empty() && xs.len() > FEW {
+        push_many(alloc, lines, seen, xs, receiver, limit)
+    } else {
+        push_each(alloc, lines, seen, xs, receiver, limit)
+    }
+}
+
+/// The rules beside those of one more receiver. It stops where there are more than the limit.
+fn product_beside(
+    alloc: Global,
+    xs: &[Line],
+    receiver: &Exits<'_>,
+    limit: usize,
+) -> Result<Vec<Line>, Memory>
+    ensures { IfOk result (λ v. IsSomeBeside limit true xs.now receiver.now.lines v.items) }
+{
+    let mut more = Vec::new(alloc);
+    let mut seen = HashSet::new(alloc);
+    push_product(alloc, &mut more, &mut seen, xs, receiver, limit)?;
+    Ok(more)
+}
+
 /// The rules beside those of one more receiver, where they go to it. It stops where there are more than the limit.
 fn beside(
     alloc: Global,
@@ -99,10 +195,16 @@ fn beside(
     if !goes {
         return Ok(lines);
     }
-    let mut more = Vec::new(alloc);
-    let mut seen = HashSet::new(alloc);
-    push_product(alloc, &mut more, &mut seen, &lines, receiver, limit)?;
-    Ok(more)
+    match receiver.alone() {
+        Some(results) if lines.len() == 1 => {
+            let more = beside_alone(lines, results)?;
+            Ok(more)
+        }
+        _ => {
+            let more = product_beside(alloc, &lines, receiver, limit)?;
+            Ok(more)
+        }
+    }
 }
 
 /// The rules within one rule of the sender: what each receiver that its results go to makes of a packet. It stops where there
@@ -120,11 +222,17 @@ fn within_rule(
     let mut lines = vec![in alloc;
         Line {
             cube: x.cube,
-            results: Results::new(alloc)
+            results: Results::with_room(alloc, receivers.len())?
         },
     ]?;
     for receiver in receivers {
-        let goes = goes_to(left, best, x.results.items(), receiver.who());
+        let goes = goes_to(
+            left,
+            best,
+            x.results.items(),
+            receiver.who(),
+            receiver.place(),
+        );
         lines = beside(alloc, goes, lines, receiver, limit)?;
         if lines.len() > limit {
             return Ok(lines);
@@ -139,7 +247,7 @@ fn ends_unreached(left: bool, best: Pid, items: &[(Assign, Loc)], receivers: &[E
 {
     match receivers.split_last() {
         None => false,
-        Some((last, _)) => !goes_to(left, best, items, last.who()),
+        Some((last, _)) => !goes_to(left, best, items, last.who(), last.place()),
     }
 }
 
@@ -239,7 +347,7 @@ fn exits_of<'v>(
 {
     let mut all = Vec::new(alloc);
     for offer in offers {
-        all.push(Exits::new(alloc, view, offer)?)?;
+        all.push(Exits::new(alloc, view, offer, all.len())?)?;
     }
     Ok(all)
 }

@@ -3,7 +3,7 @@ use Rattle.std.proofs.Common.{◌+◌, arith, ap, ◌∙◌}
 use Rattle.classifier.specs.Lines.{add_lines, row}
 use Rattle.classifier.specs.declared.join.Join.TheVariants.{Union}
 use Rattle.block_build.proofs.BoundLemmas.{added_more}
-use Rattle.block_build.proofs.spread.push_product.Goals as goal
+use Rattle.block_build.proofs.spread.push_each.Goals as goal
 
 pub returns-then-len-limit-clause-added : goal.returns-then-len-limit-clause-added
 returns-then-len-limit-clause-added c = record {
