@@ -1,35 +1,34 @@
--- Rising lists of addresses: what a search in one finds, and one with more addresses.
-use Rattle.std.proofs.Common.{◌≡◌, ℕ, zero, suc, ◌+◌, ◌<◌, ◌≤◌, true, false, List, [], ◌∷◌, ◌++◌, length, Result, Ok, Err, sym, ap, subst, ◌∙◌, refl, arith, inl, inr}
-use Rattle.std.specs.Prelude.{slice_index_or, is_ok, ◌||◌, ◌⊎◌}
-use Rattle.std.specs.List.{list_any, insert}
-use Rattle.std.specs.List.Sorted.{IsBinarySearchResult, IsPartitionPoint, IsPermutation, IsSearchInRange, IsSortedBy}
+-- Sets of addresses: what is found in one, and one with more addresses.
+use Rattle.std.proofs.Common.{◌≡◌, ◌≤◌, arith, Bool, true, false, cond, List, [], ◌∷◌, ◌++◌, sym, ap, subst, ◌∙◌, refl, inl, inr}
+use Rattle.std.specs.Prelude.{is_some, Some, ◌||◌, ◌⊎◌, if◌then◌else◌}
 use Rattle.std.specs.FinMap.{nat_cmp-IsAntisymmetric}
-use Rattle.std.specs.Ordering.{eq_by_cmp, is_eq, is_lt, nat_cmp, ordering_reverse}
-use Rattle.std.specs.declared.cmp.Ordering.{Ordering}
-use Rattle.std.specs.declared.cmp.Ordering.TheVariants.{Less, Equal, Greater}
-use Rattle.std.proofs.lemmas.Bool.{cases_lt, eq-eqb, eqb-true, false≢true, false_from_ne_true}
-use Rattle.std.proofs.lemmas.Cmp.{tied_itself}
+use Rattle.std.specs.FinMap.Entries.{find, find-put, is_some-find, is_sorted, put}
+use Rattle.std.specs.List.{list_any}
+use Rattle.std.specs.Ordering.{eq_by_cmp, nat_cmp}
+use Rattle.std.proofs.lemmas.Bool.{eq-eqb, eqb-true}
 use Rattle.std.proofs.lemmas.List.{append_assoc}
-use Rattle.std.proofs.lemmas.List.Sorted.{IsPermutation-insert, IsPermutation-sym, IsPermutation-to_front, IsPermutation-trans, searchable_from_sorted}
-use Rattle.net_types.proofs.OrderedLemmas.{ordered_is, ordered_rises, ordered_same}
-use Rattle.net_types.specs.Attributes.{same_ip}
-use Rattle.net_types.specs.Keys.{ip_cmp, is_ip_before}
-use Rattle.net_types.specs.Maps.{ordered}
-use Rattle.net_types.specs.Sets.{IsRising, Member, SameMembers}
-use Rattle.net_types.specs.declared.address.Ip.{Ip}
+use Rattle.advert_queue.proofs.RisingEntries.{keys_rise}
 use Rattle.net_types.proofs.FindLemmas.{any_at}
-use Rattle.net_types.proofs.MemberLemmas.{Contains-Member, Member-at, Member-permutation}
-use Rattle.net_types.proofs.RisingLemmas.{before_trans}
-use Rattle.net_types.proofs.SetLemmas.{Member-append_cases, Member-append_left, same_append, same_refl, same_trans, same_eq}
-use Rattle.net_types.proofs.TieLemmas.{tie_Equal}
 use Rattle.net_types.proofs.OrderLemmas.{ips_total}
+use Rattle.net_types.proofs.OrderedLemmas.{any_member, member_any, ordered_is, ordered_rises, ordered_same}
+use Rattle.net_types.proofs.SetLemmas.{Member-append_cases, Member-append_left, Member-append_right, same_append, same_eq, same_refl, same_trans}
+use Rattle.net_types.proofs.TieLemmas.{tie_Equal, ties_itself}
+use Rattle.net_types.specs.Attributes.{same_ip}
+use Rattle.net_types.specs.Keys.{ip_cmp}
+use Rattle.net_types.specs.Maps.{ordered}
+use Rattle.net_types.specs.Sets.{Member, SameMembers}
+use Rattle.net_types.specs.declared.address.Ip.{Ip}
+use Rattle.exchange_core.specs.Addresses.{addresses_in}
+
+abbrev Entries : Type 0
+Entries = List (Ip × Unit {0})
 
 -- ---- the order
 
 pub ips_tie : (x y : Ip) → eq_by_cmp ip_cmp x y ≡ true → x ≡ y
 ips_tie x y e = λ i. record { 0 = nat_cmp-IsAntisymmetric x.0 y.0 (tie_Equal (nat_cmp x.0 y.0) e) i }
 
-pub among_member : (ip : Ip) (xs : List Ip) → list_any (same_ip ip) xs ≡ true → Member ip xs
+among_member : (ip : Ip) (xs : List Ip) → list_any (same_ip ip) xs ≡ true → Member ip xs
 among_member ip [] e = absurd (cc)
 among_member ip (x ∷ xs) e =
     elim (same_ip ip x) as (λ b. same_ip ip x ≡ b → (b || list_any (same_ip ip) xs) ≡ true → Member ip (x ∷ xs)) [
@@ -37,101 +36,61 @@ among_member ip (x ∷ xs) e =
       | false ↦ λ t is. inr (among_member ip xs is)
     ] refl e
 
-pub member_among : (ip : Ip) (xs : List Ip) → Member ip xs → list_any (same_ip ip) xs ≡ true
+member_among : (ip : Ip) (xs : List Ip) → Member ip xs → list_any (same_ip ip) xs ≡ true
 member_among ip xs m = any_at (same_ip ip) xs ip m (eq-eqb ip.0 ip.0 refl)
 
--- ---- search
+-- ---- what is found
 
-backward : (r s : Ordering) → r ≡ ordering_reverse s → is_lt r ≡ true → is_lt s ≡ false
-backward r Less e h = let k : is_lt r ≡ false = ap is_lt e in absurd (false≢true (sym k ∙ h))
-backward r Equal e h = refl
-backward r Greater e h = refl
+-- what has an entry is a member
+found_member : (ip : Ip) (es : Entries) → is_some (find ip_cmp ip es) ≡ true → Member ip (addresses_in es)
+found_member ip es found = any_member ip_cmp ips_total ips_tie ip (addresses_in es) (sym (is_some-find ip_cmp ip es) ∙ found)
 
--- a rising list is sorted
-in_order : (xs : List Ip) → IsRising is_ip_before xs → IsSortedBy (λ x y. is_lt (ip_cmp x y)) xs
-in_order xs r k d low less = go xs r k less
-  where
-    go : (xs : List Ip) → IsRising is_ip_before xs → (k : ℕ) → k + 1 < length xs → is_lt (ip_cmp (slice_index_or xs (k + 1) d) (slice_index_or xs k d)) ≡ false
-    go [] r k less = absurd (omega arith)
-    go (x ∷ []) r k less = absurd (omega arith)
-    go (x ∷ y ∷ ys) r zero less = backward (ip_cmp x y) (ip_cmp y x) (ips_total.antisymm x y) (r.0 y (inl refl))
-    go (x ∷ y ∷ ys) r (suc k) less =
-        let e : suc k + 1 ≡ suc (k + 1) = omega arith in
-        subst (λ (j : ℕ). is_lt (ip_cmp (slice_index_or (x ∷ y ∷ ys) j d) (slice_index_or (y ∷ ys) k d)) ≡ false) (sym e) (go (y ∷ ys) r.1 k (omega arith))
+member_found : (ip : Ip) (es : Entries) → Member ip (addresses_in es) → is_some (find ip_cmp ip es) ≡ true
+member_found ip es m = is_some-find ip_cmp ip es ∙ member_any ip_cmp ips_total ips_tie ip (addresses_in es) m
 
-not_tied : (r : Ordering) → r ≡ Equal → (r ≡ Less) ⊎ (r ≡ Greater) → ⊥
-not_tied r e (inl h) = cc
-not_tied r e (inr h) = cc
+alike : (a b : Bool) → (a ≡ true → b ≡ true) → (b ≡ true → a ≡ true) → a ≡ b
+alike true b to back = sym (to refl)
+alike false true to back = back refl
+alike false false to back = refl
 
--- where a search finds nothing, the place parts the lesser from the greater ones
-pub parted : (xs : List Ip) (ip : Ip) (i : ℕ) → IsRising is_ip_before xs → IsBinarySearchResult (λ y. ip_cmp y ip) xs (Err i) → IsPartitionPoint (λ y. ip_cmp y ip ≡ Less) (λ y. ip_cmp y ip ≡ Greater) xs i
-parted xs ip i rises found = found (searchable_from_sorted ips_total (λ (x : Ip). x) xs ip (in_order xs rises))
-
-pub found_member : (xs : List Ip) (ip : Ip) (i : ℕ) → i < length xs → IsBinarySearchResult (λ y. ip_cmp y ip) xs (Ok i) → Member ip xs
-found_member xs ip i less found = Member-at xs i ip ip less (ips_tie (slice_index_or xs i ip) ip (ap is_eq (found ip)))
-
--- a search in a rising list finds what is there
-pub searched : (xs : List Ip) (ip : Ip) (r : Result ℕ ℕ) → IsRising is_ip_before xs → IsSearchInRange r (length xs) → IsBinarySearchResult (λ y. ip_cmp y ip) xs r → is_ok r ≡ list_any (same_ip ip) xs
-searched xs ip (Ok i) rises less found = sym (member_among ip xs (found_member xs ip i less found))
-searched xs ip (Err i) rises less found = sym (false_from_ne_true (list_any (same_ip ip) xs) (λ among.
-    let c = Contains-Member xs ip (among_member ip xs among) in
-    let halves = parted xs ip i rises found in
-    let tie : ip_cmp (slice_index_or xs c.0 ip) ip ≡ Equal = ap (λ (x : Ip). ip_cmp x ip) c.2 ∙ tied_itself ips_total ip in
-    not_tied (ip_cmp (slice_index_or xs c.0 ip) ip) tie (elim (cases_lt c.0 i) [ inl low ↦ inl (halves.0 c.0 ip (omega arith) low) | inr high ↦ inr (halves.1 c.0 ip high c.1) ])))
+-- an address has an entry where it is among the addresses
+pub found_among : (ip : Ip) (es : Entries) → is_some (find ip_cmp ip es) ≡ list_any (same_ip ip) (addresses_in es)
+found_among ip es = alike (is_some (find ip_cmp ip es)) (list_any (same_ip ip) (addresses_in es)) (λ found. member_among ip (addresses_in es) (found_member ip es found)) (λ among. member_found ip es (among_member ip (addresses_in es) among))
 
 -- ---- one address more
 
--- the same members, in another order
-inserted_same : (xs : List Ip) (i : ℕ) (ip : Ip) → SameMembers (insert xs i ip) (xs ++ ip ∷ [])
-inserted_same xs i ip =
-    let moved : IsPermutation (xs ++ ip ∷ []) (insert xs i ip) = IsPermutation-trans (xs ++ ip ∷ []) (ip ∷ xs) (insert xs i ip) (IsPermutation-to_front xs ip) (IsPermutation-insert xs i ip) in
-    record {
-      onto = λ x m. Member-permutation (insert xs i ip) (xs ++ ip ∷ []) x (IsPermutation-sym (xs ++ ip ∷ []) (insert xs i ip) moved) m;
-      back = λ x m. Member-permutation (xs ++ ip ∷ []) (insert xs i ip) x moved m;
-    }
-
-one_or_old : (xs : List Ip) (ip y : Ip) → Member y (xs ++ ip ∷ []) → Member y xs ⊎ (y ≡ ip)
-one_or_old xs ip y m = elim (Member-append_cases xs (ip ∷ []) y m) [ inl old ↦ inl old | inr new ↦ inr (only new) ]
+put_same : (ip : Ip) (es : Entries) → SameMembers (addresses_in (put ip_cmp ip tt es)) (addresses_in es ++ ip ∷ [])
+put_same ip es = record {
+  onto = λ x m. onto x (eq_by_cmp ip_cmp x ip) refl (sym (ap is_some (find-put ip_cmp ips_total x ip tt es)) ∙ member_found x (put ip_cmp ip tt es) m);
+  back = λ x m. found_member x (put ip_cmp ip tt es) (ap is_some (find-put ip_cmp ips_total x ip tt es) ∙ back x (eq_by_cmp ip_cmp x ip) refl (Member-append_cases (addresses_in es) (ip ∷ []) x m));
+}
   where
-    only : Member y (ip ∷ []) → y ≡ ip
-    only (inl e) = e
-    only (inr n) = absurd n
+    onto : (x : Ip) (b : Bool) → eq_by_cmp ip_cmp x ip ≡ b → is_some (cond b (Some tt) (find ip_cmp x es)) ≡ true → Member x (addresses_in es ++ ip ∷ [])
+    onto x true tie there = Member-append_right (addresses_in es) (ip ∷ []) x (inl (ips_tie x ip tie))
+    onto x false apart there = Member-append_left (addresses_in es) (ip ∷ []) x (found_member x es there)
 
-pub inserted_rises : (xs : List Ip) (i : ℕ) (ip : Ip) → IsRising is_ip_before xs → i ≤ length xs → ((k : ℕ) (d : Ip) → k < i → is_ip_before (slice_index_or xs k d) ip ≡ true) → ((k : ℕ) (d : Ip) → i ≤ k → k < length xs → is_ip_before ip (slice_index_or xs k d) ≡ true) → IsRising is_ip_before (insert xs i ip)
-inserted_rises [] zero ip rises le front back = (λ y m. absurd m, tt)
-inserted_rises [] (suc i) ip rises le front back = absurd (omega arith)
-inserted_rises (x ∷ xs) zero ip rises le front back =
-    let here : is_ip_before ip x ≡ true = back 0 ip (omega arith) (omega arith) in
-    (λ y m. elim m [ inl e ↦ ap (is_ip_before ip) e ∙ here | inr later ↦ before_trans ip_cmp ips_total ip x y here (rises.0 y later) ], rises)
-inserted_rises (x ∷ xs) (suc i) ip rises le front back = (
-  λ y m. elim (one_or_old xs ip y ((inserted_same xs i ip).onto y m)) [ inl old ↦ rises.0 y old | inr new ↦ ap (is_ip_before x) new ∙ front 0 ip (omega arith) ],
-  inserted_rises xs i ip rises.1 (omega arith) (λ k d less. front (suc k) d (omega arith)) (λ k d low less. back (suc k) d (omega arith) (omega arith)),
-)
+    back : (x : Ip) (b : Bool) → eq_by_cmp ip_cmp x ip ≡ b → Member x (addresses_in es) ⊎ Member x (ip ∷ []) → is_some (cond b (Some tt) (find ip_cmp x es)) ≡ true
+    back x true tie either = refl
+    back x false apart (inl old) = member_found x es old
+    back x false apart (inr (inl e)) = let both : true ≡ false = sym (subst (λ y. eq_by_cmp ip_cmp x y ≡ true) e (ties_itself ips_total x)) ∙ apart in cc
+    back x false apart (inr (inr none)) = absurd none
 
-reversed : (r : Ordering) → r ≡ Greater → is_lt (ordering_reverse r) ≡ true
-reversed r e = ap (λ s. is_lt (ordering_reverse s)) e
+pub put_is : (ip : Ip) (es new : Entries) → is_sorted ip_cmp new ≡ true → new ≡ put ip_cmp ip tt es → addresses_in new ≡ ordered ip_cmp (addresses_in es ++ ip ∷ [])
+put_is ip es new sorted is =
+    ordered_is ip_cmp ips_total ips_tie (addresses_in new) (addresses_in es ++ ip ∷ []) (keys_rise ip_cmp ips_total new sorted)
+    (subst (λ (ds : Entries). SameMembers (addresses_in ds) (addresses_in es ++ ip ∷ [])) (sym is) (put_same ip es))
 
-pub placed_rises : (xs : List Ip) (i : ℕ) (ip : Ip) → IsRising is_ip_before xs → i ≤ length xs → IsBinarySearchResult (λ y. ip_cmp y ip) xs (Err i) → IsRising is_ip_before (insert xs i ip)
-placed_rises xs i ip rises le found =
-    let halves = parted xs ip i rises found in
-    inserted_rises xs i ip rises le (λ k d less. ap is_lt (halves.0 k d (omega arith) less)) (λ k d low less. ap is_lt (ips_total.antisymm ip (slice_index_or xs k d)) ∙ reversed (ip_cmp (slice_index_or xs k d) ip) (halves.1 k d low less))
-
-pub placed_is : (xs : List Ip) (i : ℕ) (ip : Ip) → IsRising is_ip_before xs → i ≤ length xs → IsBinarySearchResult (λ y. ip_cmp y ip) xs (Err i) → insert xs i ip ≡ ordered ip_cmp (xs ++ ip ∷ [])
-placed_is xs i ip rises le found = ordered_is ip_cmp ips_total ips_tie (insert xs i ip) (xs ++ ip ∷ []) (placed_rises xs i ip rises le found) (inserted_same xs i ip)
-
--- an address that is there changes nothing
-pub present_is : (xs : List Ip) (ip : Ip) → IsRising is_ip_before xs → Member ip xs → xs ≡ ordered ip_cmp (xs ++ ip ∷ [])
-present_is xs ip rises there = ordered_is ip_cmp ips_total ips_tie xs (xs ++ ip ∷ []) rises (record {
-  onto = λ x m. Member-append_left xs (ip ∷ []) x m;
-  back = λ x m. elim (one_or_old xs ip x m) [ inl old ↦ old | inr new ↦ subst (λ y. Member y xs) (sym new) there ];
-})
+-- a place of the room at most
+pub one_at_most : (b : Bool) → (if b then 0 else 1) ≤ 1
+one_at_most true = omega arith
+one_at_most false = omega arith
 
 -- ---- some addresses more
 
-pub none_more : (xs : List Ip) → IsRising is_ip_before xs → xs ≡ ordered ip_cmp (xs ++ [])
-none_more xs rises = ordered_is ip_cmp ips_total ips_tie xs (xs ++ []) rises (record {
-  onto = λ x m. Member-append_left xs [] x m;
-  back = λ x m. elim (Member-append_cases xs [] x m) [ inl old ↦ old | inr none ↦ absurd none ];
+pub none_more : (es : Entries) → is_sorted ip_cmp es ≡ true → addresses_in es ≡ ordered ip_cmp (addresses_in es ++ [])
+none_more es sorted = ordered_is ip_cmp ips_total ips_tie (addresses_in es) (addresses_in es ++ []) (keys_rise ip_cmp ips_total es sorted) (record {
+  onto = λ x m. Member-append_left (addresses_in es) [] x m;
+  back = λ x m. elim (Member-append_cases (addresses_in es) [] x m) [ inl old ↦ old | inr none ↦ absurd none ];
 })
 
 -- one after some

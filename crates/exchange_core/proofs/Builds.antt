@@ -21,6 +21,7 @@ use Rattle.events.specs.declared.Phase.TheVariants.{Running}
 use Rattle.events.specs.declared.Refusal.{Refusal}
 use Rattle.events.specs.declared.Refusal.TheVariants.{NoNextHop, TableFull}
 use Rattle.events.specs.declared.Reply.{Reply}
+use Rattle.exchange_laws.proofs.LineSteps.{building_other}
 use Rattle.exchange_laws.specs.Editing.{IsEdit}
 use Rattle.exchange_laws.specs.Fitting.{AreWithinCells, FullTablesAreRefused}
 use Rattle.exchange_laws.specs.Fresh.{HasEnoughTags}
@@ -47,7 +48,7 @@ use Rattle.registry.specs.Registered.{Registered}
 use Rattle.route_server.specs.Served.{Served}
 use Rattle.exchange_core.proofs.Compiled.{changed_compiled, inbound_changed, lent_are_of, lent_length, outbound_changed}
 use Rattle.exchange_core.proofs.Requests.{enough_pass}
-use Rattle.exchange_core.proofs.Steps.{not_of_job, refused_step, steady_after}
+use Rattle.exchange_core.proofs.Steps.{refused_step, steady_after}
 use Rattle.exchange_core.specs.Building.{Asks, Leads, base_of}
 use Rattle.exchange_core.specs.Programs.{AreCompiled, IsChangeOf, all_lent, changed, inbound_after, inbound_texts, outbound_after, outbound_texts}
 use Rattle.exchange_core.specs.Steps.{bound_by, built_count, step_bound}
@@ -199,7 +200,7 @@ module _ (law : PlansFitLines) (s : State) (e : Event) (r : Routing) (is_rebuilt
       let of : IsPoolOf s' pool' = subst (λ x. IsPoolOf x pool') (sym then) (subst (IsPoolOf (planned (base_of s q) r plan)) (sym marked) to.pool) in
       let names : pid_of s.routing ≡ pid_of s'.routing = names_alike s.routing r leads.alike.participants ∙ ap (λ (x : State). pid_of x.routing) (sym then) in
       record {
-        steady = steady_after s e reply s' is.steady formed (not_of_job e leads.building) committed_step;
+        steady = steady_after s e reply s' is.steady formed (building_other e leads.building) committed_step;
         free = sym of.free;
         base = of.base;
         size = of.size;

@@ -8,9 +8,9 @@ use Rattle.classifier.specs.Classifiers.{lines_of}
 use Rattle.classifier.specs.Meaning as lines
 use Rattle.classifier.specs.declared.line.Line.{Line}
 use Rattle.events.proofs.DropText.{drop_is_read}
+use Rattle.events.proofs.Reached.{set_length}
 use Rattle.events.specs.State.{State, ArePolicies, AreRead}
 use Rattle.exchange_laws.proofs.OwnHops.{Member_set}
-use Rattle.exchange_laws.proofs.Rerouted.{set_length}
 use Rattle.exchange_laws.specs.Steady.{AllDrop}
 use Rattle.net_types.proofs.FindLemmas.{slice_get-Member}
 use Rattle.net_types.specs.Answers.{Policies}
@@ -30,10 +30,7 @@ use Rattle.exchange_core.specs.declared.programs.PolicyChange.{PolicyChange}
 use Rattle.exchange_core.specs.declared.programs.PolicyChange.TheVariants.{Stay, Outbound, Inbound}
 use Rattle.exchange_core.specs.declared.programs.Program.{Program}
 use Rattle.exchange_core.specs.declared.programs.Programs.{Programs}
-
--- what is read once is read again
-one_policy : {E : Type 0} (read : Result Policy E) (p q : Policy) → read ≡ Ok p → read ≡ Ok q → p ≡ q
-one_policy read p q is again = cc
+use Rattle.exchange_laws.proofs.ReadPolicies.{one_policy}
 
 -- ---- one policy
 

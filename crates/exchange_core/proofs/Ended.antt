@@ -1,11 +1,11 @@
 -- The end of a job, committed to the parts of an exchange.
-use Rattle.std.proofs.Common.{◌≡◌, ℕ, ◌≤◌, true, false, List, length, sym, ap, subst, ◌∙◌, refl, arith}
-use Rattle.std.specs.Prelude.{Option, Some, None, IfOk, Result, Ok, Err}
+use Rattle.std.proofs.Common.{◌≡◌, ℕ, ◌≤◌, true, List, sym, ap, subst, ◌∙◌, refl, arith}
+use Rattle.std.specs.Prelude.{Some, None}
 use Rattle.std.specs.FinMap.{FinMap, keys}
 use Rattle.advert_queue.specs.Advertised.{Advertised}
 use Rattle.block_build.specs.Installed.{Installed}
 use Rattle.events.specs.After.{next}
-use Rattle.events.specs.Fits.{Fits, IsStep, bare}
+use Rattle.events.specs.Fits.{Fits, bare}
 use Rattle.events.specs.Refusals.{refusal}
 use Rattle.events.specs.State.{State}
 use Rattle.events.specs.declared.Entry.{Entry}
@@ -14,25 +14,21 @@ use Rattle.events.specs.declared.Head.TheVariants.{Finished}
 use Rattle.events.specs.declared.Phase.{Phase}
 use Rattle.events.specs.declared.Phase.TheVariants.{Declaring, Running, Start}
 use Rattle.events.specs.declared.Reply.{Reply}
-use Rattle.exchange_core.proofs.Compiled.{changed_compiled}
 use Rattle.exchange_core.specs.Jobs.{EndsJob}
 use Rattle.exchange_core.specs.Placed.{is_declared}
-use Rattle.exchange_core.specs.Programs.{AreCompiled}
 use Rattle.exchange_core.specs.View.{IsKept, state_of}
 use Rattle.exchange_core.specs.declared.programs.Programs.{Programs}
 use Rattle.exchange_laws.specs.Steady.{IsSteady}
 use Rattle.exchange_laws.specs.Unchanged.{OwesFew}
-use Rattle.fast_path.specs.Committing.{kept_without, marked_all}
-use Rattle.fast_path.specs.Offers.{AreTo, HaveRoom, all_present, offered_all}
+use Rattle.fast_path.specs.Committing.{kept_without}
+use Rattle.fast_path.specs.Offers.{all_present}
 use Rattle.fast_path.specs.Planned.{IsPoolOf}
 use Rattle.fast_path.specs.declared.planned.Changes.{Changes}
-use Rattle.job_end.specs.Committing.{CanEnd}
 use Rattle.job_end.specs.Ends.{IsEnd, IsEnding, ended}
-use Rattle.job_end.specs.Laws.{ArePartsOf, EndsCanBeCommitted, EndsFitLines, EndsLeadOn, IsEndOf, LeadsTo, OffersAreKnown, end_reply}
+use Rattle.job_end.specs.Laws.{ArePartsOf, EndsFitLines, EndsLeadOn, IsEndOf, LeadsTo, end_reply}
 use Rattle.job_end.specs.Rebuilt.{table_with}
 use Rattle.job_end.specs.declared.ended.End.{End}
 use Rattle.job_laws.specs.Jobs.{IsSteadyInJob, without_job}
-use Rattle.net_types.specs.Exports.{pid_of}
 use Rattle.net_types.specs.Keys.{prefix_cmp}
 use Rattle.net_types.specs.declared.address.Ip.{Ip}
 use Rattle.net_types.specs.declared.rule.Pair.{Pair}

@@ -4,10 +4,10 @@ use Rattle.std.specs.Prelude.{Option, Some, None, Result, Ok, Err, IfOk, is_some
 use Rattle.std.specs.Option.{option_map_or}
 use Rattle.std.specs.FinMap.{contains_key-keys, get, keys}
 use Rattle.std.specs.Ordering.{eq_by_cmp}
-use Rattle.std.proofs.lemmas.Bool.{and_from, and_parts, false_from_ne_true, ltb-false, ltb-true}
+use Rattle.std.proofs.lemmas.Bool.{and_from, and_parts, false_from_ne_true, ltb-true}
 use Rattle.events.proofs.Reached.{declared_pid}
 use Rattle.events.specs.After.{after, with_named, with_outbound}
-use Rattle.events.specs.Fits.{is_building, is_receivers, is_senders, none_rebuilt}
+use Rattle.events.specs.Fits.{is_receivers, is_senders, none_rebuilt}
 use Rattle.events.specs.Refusals.{if_known, if_short, inbound_refusal, misread_refusal, or_else, outbound_refusal, policy_refusal, refusal, refused_if, tags_refusal}
 use Rattle.events.specs.State.{State, owner_of}
 use Rattle.events.specs.Tags.{Group, free_tags, groups, is_live_pair, live_pairs, retagged}
@@ -50,6 +50,8 @@ use Rattle.exchange_core.specs.Programs.{IsChangeCompiled, IsChangeOf}
 use Rattle.exchange_core.specs.Steps.{built_count, fresh_count, live_among, sent_count}
 use Rattle.exchange_core.specs.declared.programs.PolicyChange.TheVariants.{Stay}
 use Rattle.exchange_core.specs.declared.request.Request.{Request}
+use Rattle.exchange_laws.proofs.AcceptedChanges.{rerouting_builds}
+use Rattle.exchange_laws.proofs.Rerouted.{enough_tags}
 
 tie : (x y : Pair) → eq_by_cmp pair_cmp x y ≡ true → x ≡ y
 tie = same_from_tie pair_cmp pair_cmp-IsAntisymmetric
@@ -69,17 +71,9 @@ enough_pass s r enough =
     ap (λ b. refused_if b (NoNextHop (length (groups s r)) (length (free_tags s))))
     (false_from_ne_true _ (λ less. let below : length (free_tags s) < length (groups s r) = ltb-true (length (free_tags s)) (length (groups s r)) less in omega (arith, below, enough)))
 
--- where they refuse nothing, there are enough
-enough_from : (s : State) (r : Routing) → tags_refusal s r ≡ None → HasEnoughTags s r
-enough_from s r none = by (nat_lt (length (free_tags s)) (length (groups s r))) refl none
-  where
-    by : (b : Bool) → nat_lt (length (free_tags s)) (length (groups s r)) ≡ b → refused_if b (NoNextHop (length (groups s r)) (length (free_tags s))) ≡ None → HasEnoughTags s r
-    by true less e = absurd (cc)
-    by false more e = ltb-false (length (free_tags s)) (length (groups s r)) more
-
--- a line builds no more than the pairs of fresh tags, and the live ones that it builds anew
+-- a line rerouting_builds no more than the pairs of fresh tags, and the live ones that it rerouting_builds anew
 built_within : (s : State) (r : Routing) (test : Pair → Bool) → IsBase s test → IsDeclaredAlike s.routing r → tags_refusal s r ≡ None → build_count s r test ≤ fresh_count s r + live_among (retagged s r) test
-built_within s r test base alike none = built_few s r (record { tagged = base.tagged; pooled = base.pooled; owners = base.owners; alike = alike; enough = enough_from s r none }) base.apart test
+built_within s r test base alike none = built_few s r (record { tagged = base.tagged; pooled = base.pooled; owners = base.owners; alike = alike; enough = enough_tags s r none }) base.apart test
 
 none_rebuilt_live : (xs : List Pair) → length (filter none_rebuilt xs) ≡ 0
 none_rebuilt_live [] = refl
@@ -123,32 +117,12 @@ counted s Recompile r is leaves = absurd (cc)
 counted s (Work units) r is leaves = absurd (cc)
 counted s Table r is leaves = absurd (cc)
 
-builds : (e : Event) → is_rerouting e ≡ true → is_building e ≡ true
-builds (Update name bytes) is = refl
-builds (Down name) is = refl
-builds (Export name text) is = refl
-builds Bad is = absurd (cc)
-builds (Exchange base size capacity) is = absurd (cc)
-builds (DeclaresParticipant name asn id) is = absurd (cc)
-builds (DeclaresPort name number ip mac) is = absurd (cc)
-builds (Out name text) is = absurd (cc)
-builds (In name text) is = absurd (cc)
-builds (Take name count) is = absurd (cc)
-builds (Drain name) is = absurd (cc)
-builds (Arp port bytes) is = absurd (cc)
-builds (Resolve port) is = absurd (cc)
-builds (Packet port bytes) is = absurd (cc)
-builds (Frame port bytes) is = absurd (cc)
-builds Recompile is = absurd (cc)
-builds (Work units) is = absurd (cc)
-builds Table is = absurd (cc)
-
 pub rerouting_leads : SteadyAreBases → ReroutingsAreEdits → (s : State) (e : Event) (r : Routing) (p : Proposed) (q : Request) → IsSteady s → Reroutes s e r p → q.proposal ≡ p → q.rebuild.items ≡ [] → q.change ≡ Stay → Leads s e r none_rebuilt q
 rerouting_leads bases edits s e r p q steady reroutes proposal rebuild change =
     let named : q.proposal.named ≡ None = ap (λ (x : Proposed). x.named) proposal ∙ reroutes.unnamed in
     let is : base_of s q ≡ s = λ i. base_by s (named i) (change i) in
     record {
-      building = builds e reroutes.building;
+      building = rerouting_builds e reroutes.building;
       kind = subst (IsOfKind e q.proposal.named) (sym change) (reroutes.building, named);
       refuses = subst (λ x. refusal s e ≡ tags_refusal x r) (sym is) reroutes.refuses;
       edits = λ none. subst (λ x. IsEdit s e x r none_rebuilt) (sym is) (edits s e r (record { passes = none; building = reroutes.building; leaves = reroutes.leaves }));

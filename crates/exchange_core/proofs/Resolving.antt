@@ -26,6 +26,7 @@ use Rattle.events.specs.declared.Reply.{Reply}
 use Rattle.net_types.proofs.OrderedLemmas.{ordered_is, ordered_rises, ordered_same}
 use Rattle.net_types.specs.Arp.{asked_ip, asker_ip, asker_mac}
 use Rattle.net_types.specs.Attributes.{same_ip}
+use Rattle.net_types.specs.Frames.{address_of}
 use Rattle.net_types.specs.Keys.{ip_cmp, prefix_cmp, tag_cmp, is_ip_before}
 use Rattle.net_types.specs.Maps.{ordered}
 use Rattle.net_types.specs.Octets.{same_octets}
@@ -50,7 +51,6 @@ use Rattle.exchange_laws.proofs.PoolTags.{live_small, told_live}
 use Rattle.exchange_laws.proofs.Forwarded.{numbered}
 use Rattle.exchange_core.proofs.Ports.{found_nowhere, own_place}
 use Rattle.exchange_core.proofs.Steps.{in_place, kept_after, placed, quiet_step, refused_at}
-use Rattle.advert_queue.specs.Telling.{address_of}
 
 -- ---- ports that aren't declared
 

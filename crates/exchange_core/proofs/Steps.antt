@@ -4,13 +4,12 @@ use Rattle.std.specs.Prelude.{Some, None}
 use Rattle.std.specs.FinMap.{FinMap, empty}
 use Rattle.events.specs.After.{after, next}
 use Rattle.events.specs.Forms.{IsWellFormed}
-use Rattle.events.specs.Fits.{FitsBy, IsAnswer, IsStep, bare, is_building, is_of_job}
+use Rattle.events.specs.Fits.{FitsBy, IsAnswer, IsStep, bare, is_of_job}
 use Rattle.events.specs.Refusals.{is_placed, refusal, refusal_in_place, suits_job}
 use Rattle.events.specs.State.{State, first}
 use Rattle.events.specs.Tags as events
 use Rattle.events.specs.declared.Entry.{Entry}
 use Rattle.events.specs.declared.Event.{Event}
-use Rattle.events.specs.declared.Event.TheVariants.{Bad, Exchange, Participant as DeclaresParticipant, Port as DeclaresPort, Update, Down, Export, Outbound, Inbound, Take, Drain, Arp, Resolve, Packet, Frame, Recompile, Work, Table}
 use Rattle.events.specs.declared.Head.TheVariants.{Refused}
 use Rattle.events.specs.declared.Phase.{Phase}
 use Rattle.events.specs.declared.Phase.TheVariants.{Start, Declaring, Running}
@@ -61,27 +60,6 @@ refused_at s st e r why is here refuses reply = subst (λ x. IsStep x e r x) is 
 -- a line that changes no routes and by which nobody takes anything is a step with its answer
 pub quiet_step : (s : State) (e : Event) (r : Reply) → IsSteady s → IsWellFormed e → is_of_job e ≡ false → refusal s e ≡ None → is_quiet e ≡ true → IsAnswer s e r (next s e r) → IsStep s e r (after s e)
 quiet_step s e r steady formed own none quiet answer = let law = quiet_lines_are_accepted s e r steady formed own none quiet answer in record { fits = law.1; next = sym law.0 }
-
--- no line that builds rules is a job's
-pub not_of_job : (e : Event) → is_building e ≡ true → is_of_job e ≡ false
-not_of_job Bad is = refl
-not_of_job (Exchange base size capacity) is = refl
-not_of_job (DeclaresParticipant name asn id) is = refl
-not_of_job (DeclaresPort name number ip mac) is = refl
-not_of_job (Update name bytes) is = refl
-not_of_job (Down name) is = refl
-not_of_job (Export name text) is = refl
-not_of_job (Outbound name text) is = refl
-not_of_job (Inbound name text) is = refl
-not_of_job (Take name count) is = refl
-not_of_job (Drain name) is = refl
-not_of_job (Arp port bytes) is = refl
-not_of_job (Resolve port) is = refl
-not_of_job (Packet port bytes) is = refl
-not_of_job (Frame port bytes) is = refl
-not_of_job Recompile is = sym is
-not_of_job (Work units) is = sym is
-not_of_job Table is = refl
 
 -- after a step the state is steady
 pub steady_after : (s : State) (e : Event) (r : Reply) (s' : State) → IsSteady s → IsWellFormed e → is_of_job e ≡ false → IsStep s e r s' → IsSteady s'

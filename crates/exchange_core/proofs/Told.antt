@@ -1,5 +1,5 @@
 -- A job that is told of a plan covers what the line leaves.
-use Rattle.std.proofs.Common.{◌≡◌, ℕ, ◌+◌, ◌*◌, ◌≤◌, Bool, true, false, List, length, map, sym, ap, subst, ◌∙◌, refl}
+use Rattle.std.proofs.Common.{◌≡◌, ℕ, ◌+◌, ◌*◌, ◌≤◌, Bool, false, List, length, sym, ap, subst, ◌∙◌, refl}
 use Rattle.std.specs.Prelude.{Option, Some, None, Result, Ok, Err, IfOk, OnErr, OnOk}
 use Rattle.std.specs.FinMap.{FinMap}
 use Rattle.std.proofs.lemmas.List.{length-map}
@@ -15,11 +15,11 @@ use Rattle.events.specs.declared.Phase.{Phase}
 use Rattle.events.specs.declared.Head.TheVariants.{Refused}
 use Rattle.events.specs.declared.Refusal.{Refusal}
 use Rattle.events.specs.declared.Reply.{Reply}
+use Rattle.exchange_laws.proofs.LineSteps.{building_other}
 use Rattle.exchange_laws.specs.Editing.{IsEdit}
-use Rattle.exchange_laws.specs.Rerouting.{is_rerouting}
 use Rattle.exchange_laws.specs.Steady.{IsSteady}
 use Rattle.fast_path.specs.Carried.{IsPlanned, plan_reply}
-use Rattle.fast_path.specs.Committing.{Kept, signed, tags_of}
+use Rattle.fast_path.specs.Committing.{Kept, signed}
 use Rattle.fast_path.specs.Plans.{IsPlan}
 use Rattle.fast_path.specs.declared.planned.Class.{Class}
 use Rattle.fast_path.specs.declared.planned.Plan.{Plan}
@@ -46,7 +46,6 @@ use Rattle.exchange_core.specs.declared.programs.PolicyChange.{PolicyChange}
 use Rattle.exchange_core.specs.declared.programs.PolicyChange.TheVariants.{Inbound, Outbound, Stay}
 use Rattle.exchange_core.specs.declared.request.Request.{Request}
 use Rattle.exchange_core.proofs.Builds.{edit_of, planned_of}
-use Rattle.exchange_core.proofs.Steps.{not_of_job}
 
 -- ---- lines that leave the job as it is
 
@@ -131,7 +130,7 @@ module _ (s : State) (e : Event) (r : Routing) (is_rebuilt : Pair → Bool) (q :
         policies w e (base_of s q) r is_rebuilt plan old new (subst IsSteady (sym core) steady) formed kind (subst (λ (x : State). IsEdit x e (base_of s q) r is_rebuilt) (sym core) is_edit) is_planned now.covers now.owed has
 
     told_has : (old new : Option Underway) → IsTold (length s.routing.ports) s.tag s.table q.change plan old new → HasJob w old → HasJob (next w e (plan_reply plan)) new
-    told_has None new told has = subst (HasJob (next w e (plan_reply plan))) (sym told) (none w e (plan_reply plan) (not_of_job e leads.building) has)
+    told_has None new told has = subst (HasJob (next w e (plan_reply plan))) (sym told) (none w e (plan_reply plan) (building_other e leads.building) has)
     told_has (Some old) new told has = subst (HasJob (next w e (plan_reply plan))) (sym told.1) (told_covers q.change refl old told.0 told.2 has)
 
   -- so the line keeps the job that is told of its plan

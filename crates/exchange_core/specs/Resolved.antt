@@ -5,13 +5,12 @@ use Rattle.arp_frame.specs.declared.read.ArpRequest.{ArpRequest}
 use Rattle.events.specs.declared.Exchange.{Exchange}
 use Rattle.net_types.specs.Arp.{arp_reply, arp_request, asked_ip, asker_ip, asker_mac, is_arp_request}
 use Rattle.net_types.specs.Attributes.{same_ip}
-use Rattle.net_types.specs.Frames.{tag_mac}
+use Rattle.net_types.specs.Frames.{address_of, tag_mac}
 use Rattle.net_types.specs.declared.address.Ip.{Ip}
 use Rattle.net_types.specs.declared.address.Mac.{Mac}
 use Rattle.net_types.specs.declared.address.Tag.{Tag}
 use Rattle.net_types.specs.declared.route.PortInfo.{PortInfo}
 use Rattle.exchange_core.specs.Placed.{lies_in}
-use Rattle.advert_queue.specs.Telling.{address_of}
 
 -- the MAC of the tag that an address of the pool stands for
 abbrev pub mac_at : Ip → Ip → Mac

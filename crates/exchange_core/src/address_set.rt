@@ -1,34 +1,36 @@
 //! Addresses, ascending, each once.
 
-ghost use Rattle.std.specs.Prelude.{◌≡◌, ◌≤◌, ◌<◌, ◌+◌, ◌++◌, ◌∷◌, [], length, OnErr, OnOk};
-ghost use Rattle.std.specs.Vec.{vec_len, vec_capacity};
+ghost use Rattle.std.specs.Prelude.{◌≡◌, ◌≤◌, ◌++◌, [], IsTrue, length, OnErr, OnOk};
+ghost use Rattle.std.specs.FinMap.Entries.{is_sorted};
 ghost use Rattle.std.specs.List.{list_any};
 ghost use Rattle.net_types.specs.Attributes.{same_ip};
-ghost use Rattle.net_types.specs.Keys.{ip_cmp, is_ip_before};
+ghost use Rattle.net_types.specs.Keys.{ip_cmp};
 ghost use Rattle.net_types.specs.Maps.{ordered};
-ghost use Rattle.net_types.specs.Sets.{IsRising};
+ghost use Rattle.exchange_core.specs.Addresses.{addresses_in};
 
 use net_types::{Ip, Memory};
+use ordered_map::OrderedMap;
 use std::alloc::Global;
 use std::marker::Model;
 
 /// A set of addresses; contracts see the list of them, ascending.
 #[derive(Drop)]
 pub struct AddressSet {
-    addresses: Vec<Ip>,
+    addresses: OrderedMap<Ip, ()>,
 }
 
 impl Model for AddressSet {
-    ghost use Rattle.std.specs.Prelude.{List};
-    ghost use Rattle.net_types.specs.Sets.{IsRising};
+    ghost use Rattle.std.specs.Prelude.{List, IsTrue};
+    ghost use Rattle.std.specs.FinMap.Entries.{is_sorted};
+    ghost use Rattle.net_types.specs.Keys.{ip_cmp};
     ghost use Rattle.net_types.specs.declared.address.Ip.{Ip};
-    ghost use Rattle.net_types.specs.Keys.{is_ip_before};
+    ghost use Rattle.exchange_core.specs.Addresses.{addresses_in};
 
     ghost Value = { List Ip };
 
-    ghost view = { λ a. a.addresses.items };
+    ghost view = { λ a. addresses_in a.addresses.items };
 
-    ghost invariant = { λ a. IsRising is_ip_before a.addresses.items };
+    ghost invariant = { λ a. IsTrue (is_sorted ip_cmp a.addresses.items) };
 }
 
 impl AddressSet {
@@ -37,7 +39,7 @@ impl AddressSet {
         ensures { result ≡ [] }
     {
         AddressSet {
-            addresses: Vec::new(alloc),
+            addresses: OrderedMap::new(alloc),
         }
     }
 
@@ -45,7 +47,7 @@ impl AddressSet {
     pub fn contains(&self, ip: Ip) -> bool
         ensures { result ≡ list_any (same_ip ip) self.now }
     {
-        self.addresses.binary_search(&ip).is_ok()
+        self.addresses.get(&ip).is_some()
     }
 
     /// Puts the addresses in. After want of memory the set is unchanged.
@@ -59,30 +61,14 @@ impl AddressSet {
     }
 }
 
-/// Puts addresses into a rising list that has room for them.
-fn put_all(addresses: &mut Vec<Ip>, ips: &[Ip])
-    requires rising { IsRising is_ip_before addresses.old.items }
-    requires room { vec_len addresses.old + length ips.now ≤ vec_capacity addresses.old }
-    ensures { addresses.new.items ≡ ordered ip_cmp (addresses.old.items ++ ips.now) }
+/// Puts addresses in, for which there is room.
+fn put_all(addresses: &mut OrderedMap<Ip, ()>, ips: &[Ip])
+    requires rising { IsTrue (is_sorted ip_cmp addresses.old.items) }
+    requires room { length ips.now ≤ addresses.old.room }
+    ensures items { addresses_in addresses.new.items ≡ ordered ip_cmp (addresses_in addresses.old.items ++ ips.now) }
+    ensures rising { IsTrue (is_sorted ip_cmp addresses.new.items) }
 {
     for ip in ips {
-        put(addresses, *ip);
-    }
-}
-
-/// Puts an address into a rising list that has room for it.
-fn put(addresses: &mut Vec<Ip>, ip: Ip)
-    requires rising { IsRising is_ip_before addresses.old.items }
-    requires room { vec_len addresses.old < vec_capacity addresses.old }
-    ensures items { addresses.new.items ≡ ordered ip_cmp (addresses.old.items ++ ip ∷ []) }
-    ensures len { vec_len addresses.new ≤ vec_len addresses.old + 1 }
-    ensures capacity { vec_capacity addresses.old ≤ vec_capacity addresses.new }
-{
-    let Err(place) = addresses.binary_search(&ip) else {
-        return;
-    };
-    match addresses.insert(place, ip) {
-        Ok(()) => {}
-        Err(_) => unreachable!(),
+        addresses.put(*ip, ());
     }
 }

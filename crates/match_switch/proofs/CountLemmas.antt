@@ -1,12 +1,12 @@
 -- How many rules entries have after one is put in or taken out.
-use Rattle.std.proofs.Common.{◌≡◌, ℕ, ◌+◌, Bool, true, false, cond, ◌&&◌, not, List, [], ◌∷◌, length, map, sum_by, sym, ap, ◌∙◌, refl, arith}
+use Rattle.std.proofs.Common.{◌≡◌, ℕ, ◌+◌, Bool, true, false, cond, not, List, [], ◌∷◌, length, map, sum_by, sym, ap, ◌∙◌, refl, arith}
 use Rattle.std.specs.Prelude.{Option, Some, None, unwrap_or}
 use Rattle.std.specs.Cmp.{IsTotalOrder}
 use Rattle.std.specs.FinMap.Entries.{by_order, below_all, find, is_sorted, put}
 use Rattle.std.specs.Ordering.{eq_by_cmp, is_eq, is_lt}
 use Rattle.std.specs.declared.cmp.Ordering.{Ordering}
 use Rattle.std.specs.declared.cmp.Ordering.TheVariants.{Less, Equal, Greater}
-use Rattle.std.proofs.lemmas.Bool.{and_parts}
+use Rattle.std.proofs.lemmas.Bool.{and_from, and_parts}
 use Rattle.std.proofs.lemmas.List.Sums.{sum_by-cons}
 use Rattle.net_types.proofs.PlaceLemmas.{without}
 use Rattle.net_types.proofs.TieLemmas.{tie_Equal}
@@ -15,9 +15,6 @@ less : (r : Ordering) → is_lt r ≡ true → r ≡ Less
 less Less e = refl
 less Equal e = cc
 less Greater e = cc
-
-both_true : (a b : Bool) → a ≡ true → b ≡ true → (a && b) ≡ true
-both_true a b e f = ap (λ x. x && b) e ∙ f
 
 pub sum-values : {K X : Type 0} (f : X → ℕ) (es : List (K × X)) → sum_by f (map (λ (e : K × X). e.1) es) ≡ sum_by (λ (e : K × X). f e.1) es
 sum-values f [] = refl
@@ -43,13 +40,13 @@ module _ {K A : Type 0} (R : K → K → Ordering) (o : IsTotalOrder R) where
   below_less x y [] lt below = refl
   below_less x y (e ∷ es) lt below =
       let parts = and_parts (is_lt (R y e.0)) (below_all R y es) below in
-      both_true _ _ (ap is_lt (o.trans x y e.0 lt (less _ parts.0))) (below_less x y es lt parts.1)
+      and_from _ _ (ap is_lt (o.trans x y e.0 lt (less _ parts.0))) (below_less x y es lt parts.1)
 
   below_tied : (x y : K) (es : List (K × List A)) → R x y ≡ Equal → below_all R y es ≡ true → below_all R x es ≡ true
   below_tied x y [] tie below = refl
   below_tied x y (e ∷ es) tie below =
       let parts = and_parts (is_lt (R y e.0)) (below_all R y es) below in
-      both_true _ _ (ap is_lt (o.congr x y e.0 tie) ∙ parts.0) (below_tied x y es tie parts.1)
+      and_from _ _ (ap is_lt (o.congr x y e.0 tie) ∙ parts.0) (below_tied x y es tie parts.1)
 
   find_below : (k : K) (es : List (K × List A)) → below_all R k es ≡ true → find R k es ≡ None
   find_below k [] below = refl

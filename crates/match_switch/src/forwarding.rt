@@ -1,8 +1,9 @@
 //! What the table makes of a frame.
 
-ghost use Rattle.std.specs.Prelude.{◌≡◌, ◌≤◌, ◌++◌, length, map, nat_eq, find, Some, IfOk, OnOk};
+ghost use Rattle.std.specs.Prelude.{◌≡◌, ◌≤◌, ◌++◌, length, map, Some, IfOk, IfSome, OnOk};
 ghost use Rattle.events.specs.Table.{done_by, first_match, frame_of, mac_of, out, tag_at};
 ghost use Rattle.net_types.specs.Frames.{headers_of};
+ghost use Rattle.net_types.specs.declared.headers.Headers.{Headers as AnyHeaders};
 ghost use Rattle.match_switch.specs.Deciding.{actions_for, decided, decided_on};
 
 use crate::leaving::ascending;
@@ -10,7 +11,7 @@ use crate::switch::Switch;
 use cube::has;
 use events::{Frame, Frames};
 use ip_frame::{headers, rewrite};
-use net_types::{Action, Headers, Items, Mac, Memory, Pair, PortInfo, PortNo, Rule, Tag};
+use net_types::{Action, Headers, Items, Mac, Memory, Pair, PortNo, Rule, Tag};
 use registry::Registry;
 use std::alloc::Global;
 
@@ -19,7 +20,8 @@ impl Switch {
     /// of the port and the tag to whose MAC it goes. None where there is no such rule, or the frame has no headers or no
     /// tag. It takes no memory.
     pub fn decide(&self, port: PortNo, frame: &[u8]) -> &[Action]
-        ensures { result.now ≡ decided self.now.table port frame.now }
+        ensures actions { result.now ≡ decided self.now.table port frame.now }
+        ensures first { IfSome (headers_of port frame.now) (λ (h : AnyHeaders). map (done_by h) result.now ≡ first_match self.now.table port frame.now) }
     {
         match headers(port, frame) {
             Some(fields) => self.decide_on(port, frame, &fields),
@@ -42,7 +44,7 @@ impl Switch {
         let mut frames = Vec::new(alloc);
         if let Some(fields) = headers(port, frame) {
             let actions = self.decide_on(port, frame, &fields);
-            push_frames(alloc, names.ports(), frame, &fields, actions, &mut frames)?;
+            push_frames(alloc, names, frame, &fields, actions, &mut frames)?;
         }
         Ok(Items::from_vec(ascending(frames)))
     }
@@ -77,17 +79,17 @@ fn actions_for<'a>(rules: &'a [Rule], fields: &Headers) -> &'a [Action]
 /// Puts the frame as each of the actions sends it last.
 fn push_frames(
     alloc: Global,
-    ports: &[PortInfo],
+    names: &Registry,
     frame: &[u8],
     fields: &Headers,
     actions: &[Action],
     frames: &mut Vec<Frame>,
 ) -> Result<(), Memory>
     requires { headers_of fields.now.inport frame.now ≡ Some fields.now }
-    ensures { OnOk result (frames.new.items ≡ frames.old.items ++ map (frame_of ports.now frame.now) (map (done_by fields.now) actions.now)) }
+    ensures { OnOk result (frames.new.items ≡ frames.old.items ++ map (frame_of names.now.ports frame.now) (map (done_by fields.now) actions.now)) }
 {
     for action in actions {
-        frames.push(frame_by(alloc, ports, frame, fields, action)?)?;
+        frames.push(frame_by(alloc, names, frame, fields, action)?)?;
     }
     Ok(())
 }
@@ -95,17 +97,17 @@ fn push_frames(
 /// The frame as an action sends it.
 fn frame_by(
     alloc: Global,
-    ports: &[PortInfo],
+    names: &Registry,
     frame: &[u8],
     fields: &Headers,
     action: &Action,
 ) -> Result<Frame, Memory>
     requires { headers_of fields.now.inport frame.now ≡ Some fields.now }
-    ensures { IfOk result (λ sent. sent ≡ frame_of ports.now frame.now (done_by fields.now action.now)) }
+    ensures { IfOk result (λ sent. sent ≡ frame_of names.now.ports frame.now (done_by fields.now action.now)) }
 {
     let to = action.set.apply(fields);
     let mut bytes = Vec::from_slice(alloc, frame)?;
-    rewrite(bytes.as_mut_slice(), &to, mac_of(ports, action.port));
+    rewrite(bytes.as_mut_slice(), &to, mac_of(names, action.port));
     Ok(Frame {
         port: action.port,
         bytes: Items::from_vec(bytes),
@@ -113,25 +115,13 @@ fn frame_by(
 }
 
 /// The hardware address of the router at a port; all zeros where there is no such port.
-fn mac_of(ports: &[PortInfo], number: PortNo) -> Mac
-    ensures { result ≡ mac_of ports.now number }
+fn mac_of(names: &Registry, number: PortNo) -> Mac
+    ensures { result ≡ mac_of names.now.ports number }
 {
-    match find_port(ports, number) {
+    match names.port(number) {
         Some(port) => port.mac,
         None => Mac([0; 6]),
     }
-}
-
-/// The port of this number.
-fn find_port(ports: &[PortInfo], number: PortNo) -> Option<PortInfo>
-    ensures { result ≡ find (λ q. nat_eq q.number.0 number.0) ports.now }
-{
-    for port in ports {
-        if port.number == number {
-            return Some(*port);
-        }
-    }
-    None
 }
 
 /// The tag to whose MAC a frame goes.

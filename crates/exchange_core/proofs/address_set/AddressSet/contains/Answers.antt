@@ -1,14 +1,11 @@
--- The set is what a search goes through, and rises.
-use Rattle.std.proofs.Common.{ap, subst, sym, ◌∙◌}
+-- What has an entry is in the set.
+use Rattle.std.proofs.Common.{sym, ap, ◌∙◌}
+use Rattle.std.specs.Prelude.{is_some}
 use Rattle.std.specs.List.{list_any}
 use Rattle.net_types.specs.Attributes.{same_ip}
-use Rattle.net_types.specs.Sets.{IsRising}
-use Rattle.net_types.specs.Keys.{is_ip_before}
-use Rattle.exchange_core.proofs.AddressSets.{searched}
+use Rattle.exchange_core.proofs.AddressSets.{found_among}
+use Rattle.prefix_classes.proofs.GroupingLemmas.{is_some-copied}
 use Rattle.exchange_core.proofs.address_set.AddressSet.contains.Goals as goal
 
 pub returns : goal.returns
-returns c =
-    c.is_ok.ensures.value
-    ∙ searched c.deref.result.now c.args.ip c.binary_search.result (subst (IsRising is_ip_before) (sym c.deref.ensures.value) c.self.invariant) c.binary_search.ensures.bound c.binary_search.ensures.position
-    ∙ ap (list_any (same_ip c.args.ip)) (c.deref.ensures.value ∙ c.self.view_is)
+returns c = c.is_some.ensures ∙ sym (is_some-copied c.get.result) ∙ ap is_some c.get.ensures ∙ found_among c.args.ip c.self.inside.addresses.items ∙ ap (list_any (same_ip c.args.ip)) c.self.view_is

@@ -1,5 +1,5 @@
 use Rattle.std.proofs.Common.{◌≡◌, ap, arith, subst, sym, refl, ◌∙◌}
-use Rattle.std.specs.Prelude.{None, Some}
+use Rattle.std.specs.Prelude.{Some}
 use Rattle.events.specs.State.{State}
 use Rattle.events.specs.declared.Phase.TheVariants.{Running}
 use Rattle.exchange_core.specs.Jobs.{EndsJob}
