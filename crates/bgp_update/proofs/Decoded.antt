@@ -2,7 +2,7 @@
 use Rattle.std.proofs.Common.{◌≡◌, ℕ, List, length, Result, Ok, Err, refl, sym, ap, subst, inl, inr}
 use Rattle.std.specs.Prelude.{◌⊎◌, IfOk, MatchResult}
 use Rattle.grammar.specs.FormatReading.{read_to_end}
-use Rattle.grammar.specs.Messages.{IsBad, IsMessage, Says}
+use Rattle.grammar.proofs.Messages.{IsBad, IsMessage, Says}
 use Rattle.net_types.specs.UpdateFormat.{Parts, message}
 use Rattle.net_types.specs.UpdateSpelling.{IsFault, IsUpdateOf, Spells}
 use Rattle.net_types.specs.declared.attribute.Attribute.{Attribute}

@@ -15,9 +15,10 @@ use Rattle.std.proofs.lemmas.List.Sorted.{Contains-permutation, IsPermutation-sy
 use Rattle.net_types.proofs.OrderLemmas.{prefix_tie, prefixes_total}
 use Rattle.net_types.proofs.PrefixLemmas.{prefix_ext}
 use Rattle.net_types.specs.Keys.{prefix_cmp}
+use Rattle.net_types.specs.Maps.{ordered}
 use Rattle.bgp_update.specs.Answers.{is_among}
 use Rattle.net_types.proofs.MemberLemmas.{Contains-Member}
-use Rattle.net_types.proofs.OrderedLemmas.{each}
+use Rattle.net_types.proofs.OrderedLemmas.{ordered_rises, ordered_same}
 use Rattle.net_types.proofs.TieLemmas.{backward, not_tied}
 use Rattle.net_types.specs.Sets.{IsRising, Member}
 use Rattle.net_types.specs.UpdateSpelling.{IsLeft, IsOrdered, IsOrderedWithout, is_before}
@@ -33,34 +34,14 @@ member_from {A} xs x h = go xs h.0 h.1 h.2
     go (y ∷ ys) zero less e = inl (sym e)
     go (y ∷ ys) (suc k) less e = inr (go ys k (omega arith) e)
 
--- ---- sorted, each once
+-- ---- in order
 
-rising : (xs : List Prefix) → IsStrictlySortedBy prefix_cmp xs → IsRising is_before xs
-unfolding IsStrictlySortedBy
-rising [] h = tt
-rising (x ∷ xs) h = (λ y m. ap is_lt (each (λ q. prefix_cmp x q ≡ Less) xs y h.0 m), rising xs h.1)
+-- the prefixes in order are those of the list, ascending
+pub is_ordered : (ps : List Prefix) → IsOrdered (ordered prefix_cmp ps) ps
+is_ordered ps = record { rising = ordered_rises prefix_cmp prefixes_total prefix_tie ps; same = ordered_same prefix_cmp prefixes_total prefix_tie ps }
 
--- the derived test
-abbrev pub same_prefix : Prefix → Prefix → Bool
-same_prefix p q = eqb p.address.0 q.address.0 && eqb p.len q.len
-
-same_ties : (p q : Prefix) → same_prefix p q ≡ eq_by_cmp prefix_cmp p q
-same_ties p q = grind (arith, nat_tests)
-
-same_is : (p q : Prefix) → same_prefix p q ≡ true → p ≡ q
-same_is p q h = let k = and_parts (eqb p.address.0 q.address.0) (eqb p.len q.len) h in prefix_ext p q (eqb-true _ _ k.0) (eqb-true _ _ k.1)
-
-same_equiv : IsEquivalence same_prefix
-same_equiv = and_equiv (on_equiv (λ p. p.address.0) nat_eq_equiv) (on_equiv (λ p. p.len) nat_eq_equiv)
-
-pub ordered : (xs ys : List Prefix) → IsPermutation xs ys → IsSorted prefix_cmp ys → IsOrdered (dedup same_prefix ys) xs
-ordered xs ys moved sorted = record {
-  rising = rising (dedup same_prefix ys) (IsStrictlySortedBy-dedup prefixes_total same_ties ys sorted);
-  same = record {
-    onto = λ x m. member_from xs x (Contains-permutation ys xs x (IsPermutation-sym xs ys moved) (Contains-from_dedup same_prefix ys x (Contains-Member _ x m)));
-    back = λ x m. member_from _ x (Contains-dedup same_equiv same_is ys x (Contains-permutation xs ys x moved (Contains-Member xs x m)));
-  };
-}
+pub in_order : (ps qs : List Prefix) → qs ≡ ordered prefix_cmp ps → IsOrdered qs ps
+in_order ps qs is = subst (λ xs. IsOrdered xs ps) (sym is) (is_ordered ps)
 
 -- ---- search
 

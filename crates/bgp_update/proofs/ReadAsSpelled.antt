@@ -2,7 +2,7 @@
 use Rattle.std.proofs.Common.{◌≡◌, ℕ, List, length, Result, Ok, Err, sym, ap, subst}
 use Rattle.std.specs.Prelude.{IfOk}
 use Rattle.grammar.specs.Formats.{◌>>=◌}
-use Rattle.grammar.specs.Messages.{Says}
+use Rattle.grammar.proofs.Messages.{Says}
 use Rattle.net_types.specs.UpdateFormat.{Head, Parts, head, message, no_types}
 use Rattle.net_types.specs.UpdateReading.{decoded, read_message, update_of, update_read}
 use Rattle.net_types.specs.UpdateSpelling.{IsFault, IsUpdateOf, Spells}

@@ -3,12 +3,12 @@ use Rattle.std.proofs.Common.{◌≡◌, ℕ, Bool, true, false, List, [], ◌++
 use Rattle.std.specs.Prelude.{Option, Some, None}
 use Rattle.grammar.specs.Formats.{block, items}
 use Rattle.grammar.specs.FormatReading as reading
-use Rattle.grammar.specs.Messages.{IsExact, Says}
+use Rattle.grammar.specs.Messages.{IsExact}
 use Rattle.grammar.specs.Reading.{on_read}
 use Rattle.grammar.proofs.Blocks.{AllHold, all_hold, block_exact, items_exact}
 use Rattle.grammar.proofs.FormatExact.{ensure_exact, octet_exact, octet_first, octets_exact, pure_exact, then_exact}
 use Rattle.grammar.proofs.FormatNumbers.{two_octets_exact}
-use Rattle.grammar.proofs.Messages.{to_end_said}
+use Rattle.grammar.proofs.Messages.{Says, to_end_said}
 use Rattle.net_types.specs.UpdateFormat.{Head, IsWide, Parts, attribute, head, is_complete, is_long, is_partial, known_value, longs, message, no_types, prefix, segment, segment_by, value, value_length, wide_path, wide_segment, wide_value, with_type, words}
 use Rattle.net_types.specs.UpdateValue.{said}
 use Rattle.net_types.specs.AttributeTypes.{type_of}

@@ -25,27 +25,9 @@ use Rattle.net_types.specs.declared.route.Attrs.{Attrs}
 use Rattle.net_types.specs.declared.route.Segment.{Segment}
 use Rattle.net_types.specs.declared.route.Unknown.{Unknown}
 use Rattle.bgp_update.proofs.PathLists.{path_there}
-use Rattle.bgp_update.proofs.PrefixLists.{among_member, member_among, ordered_without}
+use Rattle.bgp_update.proofs.PrefixLists.{is_ordered, ordered_without}
 use Rattle.bgp_update.proofs.UnknownLists.{count, counted, one_each, said_unknowns, unknowns_of}
 use Rattle.bgp_update.specs.Answers.{AreNew}
-
--- ---- prefixes
-
--- a prefix in a list is in it in order
-listed : (ps : List Prefix) (p : Prefix) → list_any (eq_by_cmp prefix_cmp p) (ordered prefix_cmp ps) ≡ list_any (eq_by_cmp prefix_cmp p) ps
-listed ps p =
-    sym (contains_key-keys (tabulate prefix_cmp ps (λ q. Some q)) p)
-    ∙ ap is_some (get-tabulate prefix_cmp prefixes_total (λ q. Some q) (λ q k tie. ap Some (sym (prefix_tie q k tie))) ps p)
-    ∙ is_some-cond (list_any (eq_by_cmp prefix_cmp p) ps) p
-
-is_ordered : (ps : List Prefix) → IsOrdered (ordered prefix_cmp ps) ps
-is_ordered ps = record {
-  rising = keys-IsRising prefix_cmp (tabulate prefix_cmp ps (λ q. Some q));
-  same = record {
-    onto = λ p m. among_member p ps (sym (listed ps p) ∙ member_among p (ordered prefix_cmp ps) m);
-    back = λ p m. among_member p (ordered prefix_cmp ps) (listed ps p ∙ member_among p ps m);
-  };
-}
 
 -- ---- unknown attributes by type
 

@@ -1,14 +1,14 @@
-//! Prefixes of a message, and lists of them, ascending and each once.
+//! Prefixes of a message, and those that another list doesn't have.
 
 ghost use Rattle.std.specs.Prelude.{◌≡◌, ◌<◌, length, IfOk};
-ghost use Rattle.net_types.specs.UpdateSpelling.{IsOrdered, IsOrderedWithout, is_before};
+ghost use Rattle.net_types.specs.UpdateSpelling.{IsOrderedWithout, is_before};
 ghost use Rattle.net_types.specs.Sets.{IsRising};
 ghost use Rattle.bgp_update.specs.Answers.{Gives, is_among};
 ghost use Rattle.net_types.specs.UpdateReading.{read_prefix, read_prefixes};
 
 use crate::fault::UpdateFault;
 use crate::octets::{octet, octets, padded};
-use net_types::{Fault, Ip, Prefix};
+use net_types::{Fault, Ip, Prefix, ascending};
 use std::alloc::Global;
 
 #[tactic(auto, unfolding(net_types::specs::UpdateReading::read_prefix))]
@@ -36,16 +36,6 @@ pub fn prefixes(alloc: Global, block: &[u8]) -> Result<Vec<Prefix>, UpdateFault>
         left = after;
     }
     Ok(all)
-}
-
-/// The same prefixes, ascending, each once.
-pub fn ascending(list: Vec<Prefix>) -> Vec<Prefix>
-    ensures { IsOrdered result.items list.items }
-{
-    let mut sorted = list;
-    sorted.sort_unstable();
-    sorted.dedup();
-    sorted
 }
 
 /// Whether an ascending list has the prefix.

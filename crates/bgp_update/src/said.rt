@@ -10,10 +10,10 @@ ghost use Rattle.bgp_update.specs.Answers.{AreGiven, AreNew, IsFinished, IsWhole
 
 use crate::fault::UpdateFault;
 use crate::paths::whole_path;
-use crate::prefixes::{ascending, without};
+use crate::prefixes::without;
 use net_types::{
     Aggregator, Attribute, Attrs, Fault, Ip, Items, Memory, Numbers, Prefix, Segments, Unknown,
-    Update,
+    Update, ascending,
 };
 use std::alloc::Global;
 

@@ -1,4 +1,2 @@
-pub mod AddressLemmas
-pub mod AskedLemmas
 pub mod ReplyLemmas
 pub mod FitLemmas

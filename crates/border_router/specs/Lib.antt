@@ -1,4 +1,3 @@
 pub mod Known
-pub mod Places
 pub mod Hearing
 pub mod Tagging

@@ -2,8 +2,7 @@
 use Rattle.std.specs.Prelude.{◌≡◌, ℕ, List, length, Option, Some, None, IsTrue}
 use Rattle.std.specs.Option.{option_and_then}
 use Rattle.std.specs.FinMap.{get, keys}
-use Rattle.net_types.specs.Frames.{has_headers, framed}
-use Rattle.net_types.specs.Octets.{address_at}
+use Rattle.net_types.specs.Frames.{destination, has_headers, framed}
 use Rattle.net_types.specs.Routes.{longest_of}
 use Rattle.net_types.specs.declared.address.Ip.{Ip}
 use Rattle.net_types.specs.declared.address.Mac.{Mac}
@@ -17,10 +16,6 @@ pub record HasHeaders (datagram : List ℕ) : Type 0 where
   pub to_six : length to.0 ≡ 6
   pub from_six : length from.0 ≡ 6
   pub has : IsTrue (has_headers (framed to from datagram))
-
--- the destination of a datagram (RFC 791 3.1)
-abbrev pub destination : List ℕ → Ip
-destination datagram = address_at 16 datagram
 
 -- the longest prefix that covers an address, of those that have a next hop
 abbrev pub prefix_to : Known → Ip → Option Prefix

@@ -1,25 +1,25 @@
-//! Addresses that are resolved, over a vector in which they rise.
+//! Addresses that are resolved, by the tree.
 
-ghost use Rattle.std.specs.Prelude.{◌≡◌, ◌≤◌, ◌<◌, ◌+◌, IsTrue, OnOk, IsOk, IfOk, IfErr};
+ghost use Rattle.std.specs.Prelude.{◌≡◌, ◌≤◌, ◌<◌, ◌+◌, OnOk, IsOk};
 ghost use Rattle.std.specs.FinMap as map;
-ghost use Rattle.border_router.specs.Places.{IsAt, IsGapFor};
-ghost use Rattle.net_types.specs.Keys.{ip_cmp};
 
 use net_types::{Ip, Mac, Memory};
+use ordered_map::OrderedMap;
 use std::alloc::Global;
 use std::marker::Model;
 
 /// The MACs of addresses, and room for a number of new addresses.
 #[derive(Drop)]
 pub(crate) struct Addresses {
-    entries: Vec<(Ip, Mac)>,
+    macs: OrderedMap<Ip, Mac>,
+    alloc: Global,
 }
 
 impl Model for Addresses {
-    ghost use Rattle.std.specs.Prelude.{◌≡◌, ◌-◌, true};
-    ghost use Rattle.std.specs.Vec.{vec_len, vec_capacity};
+    ghost use Rattle.std.specs.Prelude.{◌≡◌, true};
     ghost use Rattle.std.specs.Coded.{codes};
     ghost use Rattle.std.specs.FinMap as map;
+    ghost use Rattle.std.specs.FinMap.Entries.{is_sorted};
     ghost use Rattle.border_router.specs.Known.{Stations};
     ghost use Rattle.net_types.specs.Keys.{ip_cmp};
 
@@ -27,9 +27,9 @@ impl Model for Addresses {
 
     ghost coded = { Prim.hlevel (codes, map.code) };
 
-    ghost view = { λ a. record { map = map.from_sorted a.entries.items; room = vec_capacity a.entries - vec_len a.entries } };
+    ghost view = { λ a. record { map = map.from_sorted a.macs.items; room = a.macs.room } };
 
-    ghost invariant = { λ a. map.is_sorted ip_cmp a.entries.items ≡ true };
+    ghost invariant = { λ a. is_sorted ip_cmp a.macs.items ≡ true };
 }
 
 impl Addresses {
@@ -37,13 +37,14 @@ impl Addresses {
         ensures { result.map ≡ map.empty }
     {
         Addresses {
-            entries: Vec::new(alloc),
+            macs: OrderedMap::new(alloc),
+            alloc,
         }
     }
 
     /// The allocator that the memory is taken from.
     pub(crate) fn allocator(&self) -> Global {
-        *self.entries.allocator()
+        self.alloc
     }
 
     /// Makes room for so many new addresses. It takes memory only where there is less.
@@ -53,7 +54,7 @@ impl Addresses {
         ensures kept { self.old.room ≤ self.new.room }
         ensures enough { addresses ≤ self.old.room → IsOk result }
     {
-        self.entries.reserve(addresses)?;
+        self.macs.reserve(addresses)?;
         Ok(())
     }
 
@@ -61,10 +62,7 @@ impl Addresses {
     pub(crate) fn get(&self, ip: Ip) -> Option<Mac>
         ensures { result ≡ map.get self.now.map ip }
     {
-        match place(&self.entries, ip) {
-            Ok(at) => Some(self.entries[at].1),
-            Err(_) => None,
-        }
+        self.macs.get(&ip).copied()
     }
 
     /// Gives an address a MAC.
@@ -73,21 +71,6 @@ impl Addresses {
         ensures map { self.new.map ≡ map.insert self.old.map ip mac }
         ensures room { self.old.room ≤ self.new.room + 1 }
     {
-        match place(&self.entries, ip) {
-            Ok(at) => self.entries[at].1 = mac,
-            Err(at) => match self.entries.insert(at, (ip, mac)) {
-                Ok(()) => {}
-                Err(_) => unreachable!(),
-            },
-        }
+        self.macs.put(ip, mac);
     }
-}
-
-/// The place of the entry that has the address, or else the place where it would go.
-fn place(entries: &[(Ip, Mac)], ip: Ip) -> Result<usize, usize>
-    requires rising { IsTrue (map.is_sorted ip_cmp entries.now) }
-    ensures found { IfOk result (IsAt entries.now ip) }
-    ensures absent { IfErr result (IsGapFor entries.now ip) }
-{
-    entries.binary_search_by(|entry| entry.0.cmp(&ip))
 }

@@ -6,7 +6,8 @@ ghost use Rattle.std.specs.FinMap as map;
 ghost use Rattle.border_router.specs.Hearing.{Answer, IsReply, IsReplyOf, announced, withdrawn, with_answer, with_news};
 ghost use Rattle.border_router.specs.Known.{asked};
 ghost use Rattle.net_types.specs.Maps.{ordered};
-ghost use Rattle.border_router.specs.Tagging.{HasHeaders, IsTagged, IsUnresolved, destination, prefix_to};
+ghost use Rattle.border_router.specs.Tagging.{HasHeaders, IsTagged, IsUnresolved, prefix_to};
+ghost use Rattle.net_types.specs.Frames.{destination};
 ghost use Rattle.net_types.specs.declared.address.Ip.{Ip as Address};
 ghost use Rattle.net_types.specs.Keys.{ip_cmp};
 
@@ -15,7 +16,7 @@ use crate::fault::TagFault;
 use crate::heard::News;
 use crate::octets::{address, mac};
 use ip_frame::wrap;
-use net_types::{Ip, Ips, Mac, Memory, Prefix};
+use net_types::{Ip, Ips, Mac, Memory, Prefix, ascending};
 use prefix_map::PrefixMap;
 use std::alloc::Global;
 use std::marker::Model;
@@ -148,14 +149,4 @@ fn announce(next_hops: &mut PrefixMap<Ip>, prefixes: &[Prefix], next_hop: Ip)
     for prefix in prefixes {
         next_hops.put(*prefix, next_hop);
     }
-}
-
-/// The same addresses, ascending, each once.
-fn ascending(list: Vec<Ip>) -> Vec<Ip>
-    ensures { result.items ≡ ordered ip_cmp list.items }
-{
-    let mut sorted = list;
-    sorted.sort_unstable();
-    sorted.dedup();
-    sorted
 }

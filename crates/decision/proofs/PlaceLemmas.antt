@@ -4,9 +4,9 @@ use Rattle.std.specs.Prelude.{slice_get}
 use Rattle.std.specs.Option.{option_and_then, option_map}
 use Rattle.decision.specs.Passes.{best_by, best_place, numbered}
 use Rattle.decision.specs.declared.candidate.Candidate.{Candidate}
-use Rattle.decision.specs.Passes.{would_lead, lead_of, is_kept, pick}
+use Rattle.decision.specs.Passes.{would_lead, lead_of, is_kept}
 use Rattle.decision.proofs.FilterLemmas.{same_filter}
-use Rattle.decision.proofs.WinnerLemmas.{picked_best, numbered-map}
+use Rattle.decision.proofs.WinnerLemmas.{pick, picked_best, numbered-map}
 use Rattle.std.specs.Prelude.{unwrap_or}
 use Rattle.std.specs.List.{list_any, list_all}
 use Rattle.std.proofs.Common.{arith, not, ◌||◌, eqb, ltb, leb}

@@ -12,7 +12,7 @@ use Rattle.std.proofs.lemmas.List.Folds.{list_all-append}
 use Rattle.decision.specs.Passes.{least_by, unbeaten, best_by, best_place, numbered, beats, med_of}
 use Rattle.net_types.specs.Routes.{first_of_list}
 use Rattle.decision.specs.declared.candidate.Candidate.{Candidate}
-use Rattle.decision.specs.Passes.{is_ahead, is_even, precedes, lead_of, would_lead, is_kept, pick}
+use Rattle.decision.specs.Passes.{is_ahead, is_even, precedes, lead_of, would_lead, is_kept}
 use Rattle.decision.proofs.FilterLemmas.{all_weaker, filter_twice, any-filter, all-filter, any_weaker, least_by_is, filter_none, same_filter}
 
 -- the first pair is before the second
@@ -180,6 +180,11 @@ kept_is {X} seen l xs every some =
 abbrev chosen : {X : Type 0} (seen : X → Candidate) → Option X → List X → Option X
 chosen seen w [] = w
 chosen seen w (d ∷ ds) = chosen seen (cond (would_lead (seen d) (option_map seen w)) (Some d) w) ds
+
+-- the first of those kept that precede all others kept
+abbrev pub pick : {X : Type 0} → (X → Candidate) → (X → Bool) → Option X → List X → Option X
+pick seen keep w [] = w
+pick seen keep w (x ∷ xs) = pick seen keep (cond (keep x && would_lead (seen x) (option_map seen w)) (Some x) w) xs
 
 pick_step : {X : Type 0} (seen : X → Candidate) (keep : X → Bool) (w : Option X) (c : X) (cs : List X) → ((v : Option X) → pick seen keep v cs ≡ chosen seen v (filter keep cs)) → (b : Bool) → pick seen keep (cond (b && would_lead (seen c) (option_map seen w)) (Some c) w) cs ≡ chosen seen w (cond b (c ∷ filter keep cs) (filter keep cs))
 pick_step seen keep w c cs h true = h (cond (would_lead (seen c) (option_map seen w)) (Some c) w)

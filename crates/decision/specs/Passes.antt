@@ -60,8 +60,3 @@ would_lead c (Some w) = precedes c w
 -- even with the lead, and none that is even with it beats this one
 abbrev pub is_kept : Candidate → List Candidate → Candidate → Bool
 is_kept lead cs c = is_even c lead && not (list_any (λ d. is_even d lead && beats d c) cs)
-
--- the first of those kept that precede all others kept
-abbrev pub pick : {X : Type 0} → (X → Candidate) → (X → Bool) → Option X → List X → Option X
-pick seen keep w [] = w
-pick seen keep w (x ∷ xs) = pick seen keep (if keep x && would_lead (seen x) (option_map seen w) then Some x else w) xs

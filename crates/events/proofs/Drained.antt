@@ -8,7 +8,7 @@ use Rattle.std.specs.Option.{option_map, option_and_then}
 use Rattle.std.specs.Ordering.{eq_by_cmp}
 use Rattle.std.proofs.lemmas.Map.Views.{any-filter_same}
 use Rattle.events.proofs.Reached.{owner_declared, runs_declared, runs_sound}
-use Rattle.events.specs.Fits.{FitsBy, IsAccepted, IsSent, IsForwarded, IsTagged, ReachesExporters, bare, destination, tagged_frame}
+use Rattle.events.specs.Fits.{FitsBy, IsAccepted, IsSent, IsForwarded, IsTagged, ReachesExporters, bare, tagged_frame}
 use Rattle.events.specs.Headline.{LeavesByTag, LeavesFor, LeavesOrAsks, AnswersDrained, AnswersTold}
 use Rattle.events.specs.Legal.{state_after}
 use Rattle.events.specs.Resolving.{is_resolved, tag_address}
@@ -24,7 +24,7 @@ use Rattle.net_types.proofs.MapLemmas.{get-tabulate}
 use Rattle.net_types.proofs.OrderLemmas.{prefixes_total, prefix_tie}
 use Rattle.net_types.specs.Answers.{Policies, answer}
 use Rattle.net_types.specs.Exports.{Routing}
-use Rattle.net_types.specs.Frames.{headers_of}
+use Rattle.net_types.specs.Frames.{destination, headers_of}
 use Rattle.net_types.specs.Keys.{prefix_cmp}
 use Rattle.net_types.specs.Routes.{Candidate, best, longest, longest_of, announced, numbers}
 use Rattle.net_types.specs.declared.address.Ip.{Ip}

@@ -2,7 +2,7 @@
 use Rattle.std.specs.Prelude.{◌≡◌, ℕ, ◌≤◌, Bool, true, false, List, Some, None, MatchOption, is_some, sum_by}
 use Rattle.std.specs.FinMap.{get, keys}
 use Rattle.events.specs.After.{after, next}
-use Rattle.events.specs.Fits.{Fits, IsAccepted, bare, cells, destination, tagged_frame, ReachesExporters}
+use Rattle.events.specs.Fits.{Fits, IsAccepted, bare, cells, tagged_frame, ReachesExporters}
 use Rattle.events.specs.Legal.{Legal, state_after}
 use Rattle.events.specs.Tags.{live_pairs}
 use Rattle.events.specs.Refusals.{refusal}
@@ -16,7 +16,7 @@ use Rattle.events.specs.declared.Head.TheVariants.{Fine, Unrouted, Unresolved}
 use Rattle.events.specs.declared.Reply.{Reply}
 use Rattle.net_types.specs.Answers.{Policies, answer}
 use Rattle.net_types.specs.Exports.{pid_of}
-use Rattle.net_types.specs.Frames.{headers_of}
+use Rattle.net_types.specs.Frames.{destination, headers_of}
 use Rattle.net_types.specs.Routes.{best, longest, longest_of}
 use Rattle.net_types.specs.declared.address.Pid.{Pid}
 use Rattle.net_types.specs.declared.address.PortNo.{PortNo}

@@ -6,7 +6,7 @@ use Rattle.std.specs.FinMap.{FinMap, empty, get, keys}
 use Rattle.std.specs.Option.{option_map}
 use Rattle.events.specs.After.{running}
 use Rattle.events.specs.Forms.{IsWellFormed}
-use Rattle.events.specs.Fits.{bare, by_table, destination, tagged_frame, IsForwarded, IsSent, IsStep, IsTagged}
+use Rattle.events.specs.Fits.{bare, by_table, tagged_frame, IsForwarded, IsSent, IsStep, IsTagged}
 use Rattle.events.specs.Refusals.{if_known, is_datagram, refusal, refused_if}
 use Rattle.events.specs.Resolving.{is_resolved, tag_address}
 use Rattle.events.specs.State.{State, port_of, told_to}
@@ -15,7 +15,7 @@ use Rattle.events.specs.declared.Event.TheVariants.{Packet}
 use Rattle.events.specs.declared.Head.TheVariants.{Fine, Refused, Unresolved, Unrouted}
 use Rattle.events.specs.declared.Refusal.TheVariants.{BadPacket, Unknown}
 use Rattle.events.specs.declared.Reply.{Reply}
-use Rattle.net_types.specs.Frames.{headers_of, tag_mac, framed}
+use Rattle.net_types.specs.Frames.{destination, framed, headers_of, tag_mac}
 use Rattle.net_types.specs.Keys.{prefix_cmp}
 use Rattle.net_types.specs.Routes.{longest_of}
 use Rattle.net_types.specs.declared.address.Mac.{Mac}

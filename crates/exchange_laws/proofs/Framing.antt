@@ -3,12 +3,12 @@
 use Rattle.std.proofs.Common.{◌≡◌, ℕ, zero, suc, ◌+◌, ◌*◌, ◌/◌, ◌%◌, ◌≤◌, Bool, true, false, cond, List, [], ◌∷◌, ◌++◌, length, drop, ap, subst, ◌∙◌, refl, sym, arith}
 use Rattle.std.specs.Prelude.{Some, None}
 use Rattle.std.proofs.lemmas.Option.{cond_some}
-use Rattle.events.specs.Fits.{destination, tagged_frame}
+use Rattle.events.specs.Fits.{tagged_frame}
 use Rattle.events.specs.Refusals.{is_datagram}
 use Rattle.events.specs.Table.{tag_at}
 use Rattle.exchange_laws.proofs.Octets.{octets_more}
 use Rattle.exchange_laws.specs.Octets.{AreOctets}
-use Rattle.net_types.specs.Frames.{has_headers, headers_of, tag_mac, framed}
+use Rattle.net_types.specs.Frames.{destination, framed, has_headers, headers_of, tag_mac}
 use Rattle.net_types.specs.Octets.{address_at}
 use Rattle.net_types.specs.declared.address.Mac.{Mac}
 use Rattle.net_types.specs.declared.address.PortNo.{PortNo}

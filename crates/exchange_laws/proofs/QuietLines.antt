@@ -4,7 +4,8 @@ use Rattle.std.specs.Prelude.{Option, Some, None, MatchOption, is_some}
 use Rattle.std.specs.FinMap.{get, keys}
 use Rattle.events.specs.After.{after, next}
 use Rattle.events.specs.Forms.{IsWellFormed}
-use Rattle.events.specs.Fits.{FitsBy, IsAccepted, IsAnswer, IsSent, IsTagged, Passes, asks_for, bare, by_table, destination, is_building, is_of_job, responder_reply}
+use Rattle.events.specs.Fits.{FitsBy, IsAccepted, IsAnswer, IsSent, IsTagged, Passes, asks_for, bare, by_table, is_building, is_of_job, responder_reply}
+use Rattle.net_types.specs.Frames.{destination}
 use Rattle.events.specs.Refusals.{refusal}
 use Rattle.events.specs.Resolving.{is_pool_request, is_resolved, pool_mac, tag_address, unresolved}
 use Rattle.events.specs.Sound.{IsSound}

@@ -1,9 +1,9 @@
 -- What an answer beside the reading of a text says.
 use Rattle.std.proofs.Common.{◌≡◌, ℕ, ◌≤◌, List, length, Result, Ok, Err, refl, ap, ◌∙◌, subst}
 use Rattle.std.specs.Prelude.{IfOk, IfErr, MatchResult}
-use Rattle.grammar.specs.Texts.{IsPlainText, IsPlainCause, read_whole}
+use Rattle.grammar.specs.Texts.{IsPlainText, read_whole}
 use Rattle.grammar.specs.Reading.{OutOfMemory}
-use Rattle.grammar.proofs.TextAnswers.{plain_ok, plain_err, plain_found}
+use Rattle.grammar.proofs.TextAnswers.{IsPlainCause, plain_ok, plain_err, plain_found}
 use Rattle.net_types.specs.declared.named_rule.NamedRule.{NamedRule}
 use Rattle.net_types.specs.ExportTexts.{rules}
 use Rattle.export_rules.specs.declared.fault.RulesFault.{RulesFault}

@@ -1,8 +1,8 @@
 -- A text of rules has one value.
 use Rattle.std.proofs.Common.{◌≡◌, ℕ, List, Result, Ok, Err, ap, subst, arith}
 use Rattle.grammar.specs.TextReading.{Fault, Wrong, Deep}
-use Rattle.grammar.specs.Texts.{SaysPlain, read_whole}
-use Rattle.grammar.proofs.PlainTexts.{plain_said}
+use Rattle.grammar.specs.Texts.{read_whole}
+use Rattle.grammar.proofs.PlainTexts.{SaysPlain, plain_said}
 use Rattle.net_types.specs.declared.named_rule.NamedRule.{NamedRule}
 use Rattle.net_types.specs.ExportReading.{read_rules, or_place, rules_of_text}
 use Rattle.net_types.specs.ExportTexts.{rules, RulesText, IsWrongRulesAt}

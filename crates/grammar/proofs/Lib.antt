@@ -27,6 +27,5 @@ pub mod FormatExact
 pub mod Blocks
 pub mod FormatNumbers
 pub mod Messages
-pub mod MessageAnswers
 pub mod Conflicts
 pub mod BlockLoops

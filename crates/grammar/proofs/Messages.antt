@@ -6,8 +6,25 @@ use Rattle.grammar.specs.Octets.{IsLonger}
 use Rattle.grammar.specs.Reading.{on_read}
 use Rattle.grammar.specs.Formats.{AllFail, FailsToEnd, Format, ItemsFail, ItemsSpell, SpellsToEnd, to_end}
 use Rattle.grammar.specs.FormatReading.{Read, Reader, read_items, read_to_end}
-use Rattle.grammar.specs.Messages.{Holds, IsBad, IsExact, IsMessage, Reads, Says, Stops}
+use Rattle.grammar.specs.Messages.{Holds, IsExact, Reads, Stops}
 use Rattle.grammar.proofs.Blocks.{AllHold, AllRead, AllStop, all_hold}
+
+-- The octets are the whole message of x and of nothing else, and no check fails.
+pub record IsMessage {F X : Type 0} (f : Format F X) (b : List ℕ) (x : X) : Type 0 where
+  pub spells : f.Spells b x
+  pub only : (y : X) → f.Spells b y → y ≡ x
+  pub sound : (e : F) → f.Fails b e → ⊥
+
+-- The octets are no message, and this is their one first fault.
+pub record IsBad {F X : Type 0} (f : Format F X) (b : List ℕ) (fault : F) : Type 0 where
+  pub fails : f.Fails b fault
+  pub first : (e : F) → f.Fails b e → e ≡ fault
+  pub none : (x : X) → f.Spells b x → ⊥
+
+-- What reading a whole message gave is right.
+abbrev pub Says : {F X : Type 0} → Format F X → List ℕ → Result X F → Type 0
+Says f b (Ok x) = IsMessage f b x
+Says f b (Err e) = IsBad f b e
 
 module _ {F X Y Z : Type 0} (f : Format F X) (item : Format F Y) (test : X → List Y → Bool) (fault : F) (make : X → List Y → Z) (b : List ℕ) where
   first_bad_of : (e : F) → Stops f b e → IsBad (to_end f item test fault make) b e

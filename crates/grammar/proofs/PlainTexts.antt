@@ -3,8 +3,14 @@ use Rattle.std.proofs.Common.{ℕ, suc, Bool, List, Result, Ok, Err, arith}
 use Rattle.grammar.specs.Rules.{Rule}
 use Rattle.grammar.specs.TextReading.{Deep, Fault, Reader, Wrong}
 use Rattle.grammar.specs.Exactness.{IsExact}
-use Rattle.grammar.specs.Texts.{IsDeepFault, Says, SaysPlain, read_whole}
+use Rattle.grammar.specs.Texts.{IsDeepFault, IsPlainFault, IsPlainText, Says, read_whole}
 use Rattle.grammar.proofs.Texts.{text_said, get_within}
+
+-- What reading a whole text by a rule without groups gave is right.
+abbrev pub SaysPlain : {X : Type 0} → Rule X → List ℕ → Result X Fault → Type 0
+SaysPlain f text (Ok x) = IsPlainText f text x
+SaysPlain f text (Err (Wrong n)) = IsPlainFault f text n
+SaysPlain f text (Err (Deep n)) = ⊥
 
 module _ {X : Type 0} (f : Rule X) (follow : ℕ → Bool) (text : List ℕ) where
   -- where one group more changes nothing, none is too many

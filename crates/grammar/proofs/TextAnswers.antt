@@ -5,9 +5,23 @@ use Rattle.grammar.specs.Rules.{Rule}
 use Rattle.grammar.specs.Reading.{Cause, Met, OutOfMemory, Unread, Tells, Gives}
 use Rattle.grammar.specs.TextReading.{Fault, Wrong, Deep, Reader}
 use Rattle.grammar.specs.Exactness.{Family, IsExact}
-use Rattle.grammar.specs.Texts.{Says, SaysPlain, IsText, IsPlainText, IsTextCause, IsPlainCause, read_whole}
+use Rattle.grammar.specs.Texts.{Says, IsDeepFault, IsPlainFault, IsPlainText, IsSyntaxFault, IsText, read_whole}
 use Rattle.grammar.proofs.Texts.{text_said}
-use Rattle.grammar.proofs.PlainTexts.{plain_said}
+use Rattle.grammar.proofs.PlainTexts.{SaysPlain, plain_said}
+
+-- Why a whole text was refused. Nothing is said where memory ran out.
+abbrev pub IsTextCause : {X : Type 0} → Family X → ℕ → List ℕ → Cause Fault → Type 0
+IsTextCause f limit text (Met (Wrong n)) = IsSyntaxFault f limit text n
+IsTextCause f limit text (Met (Deep n)) = IsDeepFault f limit text n
+IsTextCause f limit text OutOfMemory = Unit {0}
+IsTextCause f limit text Unread = ⊥
+
+-- Why a whole text of a rule without groups was refused. Nothing is said where memory ran out.
+abbrev pub IsPlainCause : {X : Type 0} → Rule X → List ℕ → Cause Fault → Type 0
+IsPlainCause f text (Met (Wrong n)) = IsPlainFault f text n
+IsPlainCause f text (Met (Deep n)) = ⊥
+IsPlainCause f text OutOfMemory = Unit {0}
+IsPlainCause f text Unread = ⊥
 
 module _ {X Y E : Type 0} (cause : E → Cause Fault) (view : X → Y) (text : List ℕ) (follow : ℕ → Bool) (reader : Reader Y) where
   module _ (f : Family Y) (d : ℕ) (exact : IsExact f d follow reader) where

@@ -1,8 +1,7 @@
--- When a reader reads exactly what a format spells and gives the first fault, and whole messages.
+-- When a reader reads exactly what a format spells and gives the first fault.
 use Rattle.std.specs.Prelude.{◌≡◌, ℕ, List, ◌++◌, Result, Ok, Err}
 use Rattle.grammar.specs.Formats.{Format}
 use Rattle.grammar.specs.FormatReading.{Read, Reader}
-use Rattle.grammar.specs.Reading.{Cause, Met, OutOfMemory, Unread}
 
 -- Of all fronts of s this one spells something, it spells x and nothing else, m is left, and no check fails.
 pub record Reads {F X : Type 0} (f : Format F X) (s : List ℕ) (x : X) (m : List ℕ) : Type 0 where
@@ -26,26 +25,3 @@ Holds f s (Err e) = Stops f s e
 -- Of whatever is read. A record, so that format and reader are found from a fact of this type.
 pub record IsExact {F X : Type 0} (f : Format F X) (reader : Reader F X) : Type 0 where
   pub reads : (s : List ℕ) → Holds f s (reader s)
-
--- The octets are the whole message of x and of nothing else, and no check fails.
-pub record IsMessage {F X : Type 0} (f : Format F X) (b : List ℕ) (x : X) : Type 0 where
-  pub spells : f.Spells b x
-  pub only : (y : X) → f.Spells b y → y ≡ x
-  pub sound : (e : F) → f.Fails b e → ⊥
-
--- The octets are no message, and this is their one first fault.
-pub record IsBad {F X : Type 0} (f : Format F X) (b : List ℕ) (fault : F) : Type 0 where
-  pub fails : f.Fails b fault
-  pub first : (e : F) → f.Fails b e → e ≡ fault
-  pub none : (x : X) → f.Spells b x → ⊥
-
--- What reading a whole message gave is right.
-abbrev pub Says : {F X : Type 0} → Format F X → List ℕ → Result X F → Type 0
-Says f b (Ok x) = IsMessage f b x
-Says f b (Err e) = IsBad f b e
-
--- Why a whole message was refused. Nothing is said where memory ran out.
-abbrev pub IsMessageCause : {F X : Type 0} → Format F X → List ℕ → Cause F → Type 0
-IsMessageCause f b (Met e) = IsBad f b e
-IsMessageCause f b OutOfMemory = Unit {0}
-IsMessageCause f b Unread = ⊥

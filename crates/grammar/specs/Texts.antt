@@ -3,7 +3,6 @@ use Rattle.std.specs.Prelude.{◌≡◌, ℕ, suc, ◌-◌, ◌≤◌, Some, Lis
 use Rattle.grammar.specs.Rules.{Rule}
 use Rattle.grammar.specs.TextReading.{Fault, Wrong, Deep, Read, Reader}
 use Rattle.grammar.specs.Exactness.{Family}
-use Rattle.grammar.specs.Reading.{Cause, Met, OutOfMemory, Unread}
 
 -- The text spells x, however many groups are open at once.
 abbrev pub SpellsText : {X : Type 0} → Family X → List ℕ → X → Type 0
@@ -55,13 +54,6 @@ Says f limit text (Ok x) = IsText f limit text x
 Says f limit text (Err (Wrong n)) = IsSyntaxFault f limit text n
 Says f limit text (Err (Deep n)) = IsDeepFault f limit text n
 
--- Why a whole text was refused. Nothing is said where memory ran out.
-abbrev pub IsTextCause : {X : Type 0} → Family X → ℕ → List ℕ → Cause Fault → Type 0
-IsTextCause f limit text (Met (Wrong n)) = IsSyntaxFault f limit text n
-IsTextCause f limit text (Met (Deep n)) = IsDeepFault f limit text n
-IsTextCause f limit text OutOfMemory = Unit {0}
-IsTextCause f limit text Unread = ⊥
-
 -- The text spells x by a rule without groups, and nothing else.
 pub record IsPlainText {X : Type 0} (f : Rule X) (text : List ℕ) (x : X) : Type 0 where
   pub spells : f.Spells 0 text x
@@ -73,16 +65,3 @@ pub record IsPlainFault {X : Type 0} (f : Rule X) (text : List ℕ) (n : ℕ) : 
   pub within : n ≤ length text
   pub begins : f.Begins 0 (take n text)
   pub longest : (k : ℕ) → k ≤ length text → f.Begins 0 (take k text) → k ≤ n
-
--- What reading a whole text by a rule without groups gave is right.
-abbrev pub SaysPlain : {X : Type 0} → Rule X → List ℕ → Result X Fault → Type 0
-SaysPlain f text (Ok x) = IsPlainText f text x
-SaysPlain f text (Err (Wrong n)) = IsPlainFault f text n
-SaysPlain f text (Err (Deep n)) = ⊥
-
--- Why a whole text of a rule without groups was refused. Nothing is said where memory ran out.
-abbrev pub IsPlainCause : {X : Type 0} → Rule X → List ℕ → Cause Fault → Type 0
-IsPlainCause f text (Met (Wrong n)) = IsPlainFault f text n
-IsPlainCause f text (Met (Deep n)) = ⊥
-IsPlainCause f text OutOfMemory = Unit {0}
-IsPlainCause f text Unread = ⊥

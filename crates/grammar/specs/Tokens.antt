@@ -1,5 +1,6 @@
 -- The tokens that texts of this exchange share: names, numbers, addresses, spaces, signs and parentheses.
-use Rattle.std.specs.Prelude.{◌≡◌, ℕ, ◌+◌, ◌*◌, ◌-◌, ◌≤◌, Bool, true, ◌&&◌, ◌||◌, ◌==◌, nat_le, List, [], ◌∷◌, length, codes}
+use Rattle.std.specs.Prelude.{◌≡◌, ℕ, ◌+◌, ◌*◌, ◌-◌, ◌/◌, ◌%◌, ◌≤◌, Bool, true, ◌&&◌, ◌||◌, ◌==◌, nat_le, List, [], ◌∷◌, ◌++◌, length, codes}
+use Rattle.std.specs.Fmt.{decimal}
 use Rattle.grammar.specs.Octets.{AllPass}
 use Rattle.grammar.specs.Rules.{Rule, pure, ◌>>=◌, ◌>>◌, word, run, nonempty_run, token}
 
@@ -77,3 +78,7 @@ address = do
   word (codes ".")
   d ← number 0 255
   pure (((a * 256 + b) * 256 + c) * 256 + d)
+
+-- How such an address is written.
+abbrev pub address_text : ℕ → List ℕ
+address_text ip = decimal (ip / 16777216) ++ codes "." ++ decimal (ip / 65536 % 256) ++ codes "." ++ decimal (ip / 256 % 256) ++ codes "." ++ decimal (ip % 256)

@@ -4,7 +4,8 @@ use Rattle.std.specs.Prelude.{Option, Some, None, Result, Ok, Err, MatchOption, 
 use Rattle.std.specs.FinMap.{FinMap, get, keys}
 use Rattle.std.specs.Option.{option_map, option_map_or}
 use Rattle.events.specs.After.{after, bound_read, next, next_by, put_flows, received_by, ruled, rules_put, running, sent_by, settled, taken, updated, with_known, with_port, with_told, without_from, without_pairs}
-use Rattle.events.specs.Fits.{Fits, FitsBy, IsAccepted, IsAnswer, IsBuilt, IsFull, IsSent, IsTagged, IsTaken, Passes, cells, destination, is_building, is_of_job, is_receivers, is_senders, none_rebuilt}
+use Rattle.events.specs.Fits.{Fits, FitsBy, IsAccepted, IsAnswer, IsBuilt, IsFull, IsSent, IsTagged, IsTaken, Passes, cells, is_building, is_of_job, is_receivers, is_senders, none_rebuilt}
+use Rattle.net_types.specs.Frames.{destination}
 use Rattle.events.specs.Pending.{pending}
 use Rattle.events.specs.Refusals.{refusal}
 use Rattle.events.specs.Resolving.{is_pool_request, is_resolved, port_place, resolved_at, tag_address, unresolved, with_answer, with_resolved}

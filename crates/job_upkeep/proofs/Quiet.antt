@@ -5,7 +5,8 @@ use Rattle.std.specs.FinMap.{FinMap, get, get-remove, keys, remove}
 use Rattle.std.specs.Option.{option_map_or}
 use Rattle.std.specs.Ordering.{eq_by_cmp}
 use Rattle.events.specs.After.{accepted, after, next, next_by, put_flows, rules_put, running, settled, with_known, with_port, with_told, without_pairs}
-use Rattle.events.specs.Fits.{Fits, FitsBy, IsAccepted, IsAnswer, IsSent, IsTagged, IsTaken, Passes, asks_for, bare, by_table, destination, is_building, is_of_job, responder_reply}
+use Rattle.events.specs.Fits.{Fits, FitsBy, IsAccepted, IsAnswer, IsSent, IsTagged, IsTaken, Passes, asks_for, bare, by_table, is_building, is_of_job, responder_reply}
+use Rattle.net_types.specs.Frames.{destination}
 use Rattle.events.specs.Pending.{pending, with_all_news}
 use Rattle.events.specs.Refusals.{refusal}
 use Rattle.events.specs.Resolving.{is_pool_request, is_resolved, pool_mac, port_place, resolved_at, tag_address, unresolved, with_answer, with_resolved}

@@ -47,9 +47,13 @@ pub record Routing : Type 0 where
   pub named : List (List Pid)
   pub routes : FinMap route_cmp Attrs
 
+-- the one with a name, of participants in order of declaration
+abbrev pub participant_named : List Participant → List ℕ → Option Pid
+participant_named participants name = option_map (λ n. record { 0 = n }) (position_from (λ (m : Participant). same_octets m.name name) 0 participants)
+
 -- the participant of a name
 abbrev pub pid_of : Routing → List ℕ → Option Pid
-pid_of r name = option_map (λ n. record { 0 = n }) (position_from (λ (m : Participant). same_octets m.name name) 0 r.participants)
+pid_of r name = participant_named r.participants name
 
 -- a participant's route for a prefix
 abbrev pub route : Routing → Pid → Prefix → Option Attrs

@@ -119,3 +119,7 @@ written frame to mac = mac.0 ++ drop 6 (written_from (headers_of to.inport frame
 -- a datagram as an IPv4 frame from one MAC to another
 abbrev pub framed : Mac → Mac → List ℕ → List ℕ
 framed to from datagram = to.0 ++ from.0 ++ 8 ∷ 0 ∷ datagram
+
+-- the destination of a datagram (RFC 791 3.1)
+abbrev pub destination : List ℕ → Ip
+destination datagram = address_at 16 datagram

@@ -9,9 +9,9 @@ use Rattle.net_types.specs.declared.isolation.Kind.TheVariants.{OwnName, Foreign
 use Rattle.net_types.specs.declared.isolation.IsolateFault.{IsolateFault}
 use Rattle.net_types.specs.Sets.{Member}
 use Rattle.net_types.specs.Policies.{Target, Name, Number, Test, Inport, Src, Dst, Proto, Sport, Dport, Pred, Yes, Is, Not, And, Or, Policy, Drop, Pass, Block, Fwd, Match, Set, Both, Then}
-use Rattle.net_types.specs.PolicyTexts.{SpellsPolicy, pred_spans, policy_spans}
+use Rattle.net_types.specs.PolicyTexts.{SpellsPolicy}
 use Rattle.net_types.specs.Isolation.{broken, port_faults, name_faults, pred_faults, out_test, out_target, out_faults, in_test, in_target, in_faults, first_of, IsFirstInText}
-use Rattle.policy_syntax.proofs.SpelledSpans.{Between, between_both, between_parts, text_lies}
+use Rattle.policy_syntax.proofs.SpelledSpans.{Between, between_both, between_parts, policy_spans, pred_spans, text_lies}
 
 -- the faults stand one behind another
 abbrev Stand : ℕ → ℕ → List IsolateFault → Type 0

@@ -1,9 +1,9 @@
 -- What an answer beside the reading of a text says.
 use Rattle.std.proofs.Common.{◌≡◌, ℕ, ◌≤◌, List, length, Result, Ok, Err, refl, subst}
 use Rattle.std.specs.Prelude.{IfOk, IfErr, MatchResult}
-use Rattle.grammar.specs.Texts.{IsText, IsTextCause, read_whole}
+use Rattle.grammar.specs.Texts.{IsText, read_whole}
 use Rattle.grammar.specs.Reading.{OutOfMemory}
-use Rattle.grammar.proofs.TextAnswers.{text_ok, text_err, text_found}
+use Rattle.grammar.proofs.TextAnswers.{IsTextCause, text_ok, text_err, text_found}
 use Rattle.net_types.specs.Policies.{Policy}
 use Rattle.policy_syntax.specs.declared.fault.SyntaxFault.{SyntaxFault}
 use Rattle.policy_syntax.specs.declared.fault.SyntaxFault.TheVariants.{TextLong, Syntax, TooDeep, Memory}

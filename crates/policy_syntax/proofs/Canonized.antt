@@ -4,7 +4,8 @@ use Rattle.std.proofs.lemmas.List.{append-nil}
 use Rattle.net_types.specs.Policies.{Policy}
 use Rattle.net_types.specs.PolicyGrammar.{policy_with, pred_group, policy_group}
 use Rattle.policy_syntax.specs.Canonical.{canonical, Loose}
-use Rattle.policy_syntax.specs.ReadsBack.{FitsPolicy, SoundAssign, ReadsBack}
+use Rattle.policy_syntax.specs.ReadsBack.{ReadsBack}
+use Rattle.policy_syntax.proofs.FittingPolicies.{FitsPolicy, SoundAssign}
 use Rattle.policy_syntax.proofs.ReadBack.{no_spaces}
 use Rattle.policy_syntax.proofs.PolicyBack.{policy_back}
 use Rattle.policy_syntax.proofs.SetsBack.{sets_back}

@@ -1,3 +1,4 @@
+pub mod FittingPolicies
 pub mod FieldsExact
 pub mod PolicyExact
 pub mod PolicyFronts

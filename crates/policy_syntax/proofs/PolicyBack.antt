@@ -12,7 +12,8 @@ use Rattle.net_types.specs.declared.headers.Assign.{Assign}
 use Rattle.net_types.specs.Policies.{Target, Name, Number, Pred, Policy, Drop, Pass, Block, Fwd, Match, Set, Both, Then}
 use Rattle.grammar.specs.Tokens.{parens}
 use Rattle.policy_syntax.specs.Canonical.{Level, Loose, Middle, Tight, Single, grouped, target_text, pred_text, assign_text, policy_text}
-use Rattle.policy_syntax.specs.ReadsBack.{bare_pred, FitsPred, SoundTarget, bare, FitsPolicy}
+use Rattle.policy_syntax.specs.ReadsBack.{bare_pred, bare}
+use Rattle.policy_syntax.proofs.FittingPolicies.{FitsPred, SoundTarget, FitsPolicy}
 use Rattle.policy_syntax.proofs.ReadBack.{both, ended, no_spaces, signed, one_more, alone, decimal_number, Anywhere, word_back, sign_back, one_space, between, pred_back}
 
 target_back : (x : Target) → SoundTarget x → Anywhere target (target_text x) x

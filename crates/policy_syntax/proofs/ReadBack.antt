@@ -14,9 +14,10 @@ use Rattle.net_types.specs.declared.prefix.Prefix.{Prefix}
 use Rattle.net_types.specs.PolicyGrammar.{inport_is, prefix_of, span, field, prefix, test, tested, prim_with, lit_with, conj_with, pred_with, and_lit, or_conj, pred_group}
 use Rattle.net_types.specs.declared.headers.Span.{Span}
 use Rattle.net_types.specs.Policies.{Test, Inport, Src, Dst, Proto, Sport, Dport, Pred, Yes, Is, Not, And, Or}
-use Rattle.grammar.specs.Tokens.{address, parens}
-use Rattle.policy_syntax.specs.Canonical.{Level, Loose, Middle, Tight, Single, group_third, grouped, address_text, len_text, prefix_text, test_text, pred_text}
-use Rattle.policy_syntax.specs.ReadsBack.{SoundTest, bare_pred, FitsPred}
+use Rattle.grammar.specs.Tokens.{address, address_text, parens}
+use Rattle.policy_syntax.specs.Canonical.{Level, Loose, Middle, Tight, Single, group_third, grouped, len_text, prefix_text, test_text, pred_text}
+use Rattle.policy_syntax.specs.ReadsBack.{bare_pred}
+use Rattle.policy_syntax.proofs.FittingPolicies.{SoundTest, FitsPred}
 use Rattle.grammar.proofs.Numbers.{number_from-append}
 use Rattle.net_types.proofs.PrefixLemmas.{same_bits_refl}
 use Rattle.text_fields.proofs.FirstBits.{is_prefix_of}

@@ -11,10 +11,10 @@ use Rattle.net_types.specs.PolicyGrammar.{span, with_field, Field, SrcIs, DstIs,
 use Rattle.net_types.specs.declared.headers.Assign.{Assign}
 use Rattle.net_types.specs.Headers.{no_change}
 use Rattle.net_types.specs.Policies.{Set}
-use Rattle.grammar.specs.Tokens.{address}
-use Rattle.policy_syntax.specs.Canonical.{address_text, assign_text}
+use Rattle.grammar.specs.Tokens.{address, address_text}
+use Rattle.policy_syntax.specs.Canonical.{assign_text}
 use Rattle.policy_syntax.proofs.ReadBack.{both, ended, no_spaces, signed, decimal_number, Anywhere, field_back, ip_back}
-use Rattle.policy_syntax.specs.ReadsBack.{SoundField, AllSound, fields_of, IsNonEmpty, SoundAssign}
+use Rattle.policy_syntax.proofs.FittingPolicies.{SoundField, AllSound, fields_of, IsNonEmpty, SoundAssign}
 use Rattle.policy_syntax.proofs.PolicyBack.{SetsBack}
 
 abbrev field_string : Field → List ℕ

@@ -9,7 +9,8 @@ use Rattle.net_types.specs.Headers.{no_change}
 use Rattle.net_types.specs.Policies.{Target, Name, Test, Src, Dst, Proto, Sport, Dport, Pred, Yes, Is, Not, And, Or, Policy, Drop, Pass, Block, Fwd, Match, Set, Both, Then}
 use Rattle.net_types.specs.PolicyGrammar.{Field, SrcIs, DstIs, SportIs, DportIs, with_field, inport_is, target, prefix, field, test, assign, truth, tested, prim_with, negation, lit_with, and_lit, conj_with, or_conj, pred_with, pred_group, fwd, match_with, assigned, more_assigned, modify, keyword, atom_from, atom_with, then_atom, chain_with, plus_chain, policy_with, policy_group, policy}
 use Rattle.policy_syntax.specs.Canonical.{Level, Loose, Middle, Tight, Single, group_first, group_second, group_third}
-use Rattle.policy_syntax.specs.ReadsBack.{SoundTest, SoundTarget, SoundField, AllSound, some_src, some_dst, some_sport, some_dport, fields_of, IsNonEmpty, SoundAssign, Inside, FitsPred, FitsPolicy, ReadsBack, EachPart}
+use Rattle.policy_syntax.specs.ReadsBack.{ReadsBack, EachPart}
+use Rattle.policy_syntax.proofs.FittingPolicies.{SoundTest, SoundTarget, SoundField, AllSound, some_src, some_dst, some_sport, some_dport, fields_of, IsNonEmpty, SoundAssign, Inside, FitsPred, FitsPolicy}
 use Rattle.policy_syntax.proofs.Canonized.{canonical_back}
 
 -- ---- values

@@ -4,9 +4,30 @@ use Rattle.std.specs.Prelude.{codes}
 use Rattle.grammar.specs.Rules.{Rule, ◌>>=◌, many, SpellsTimes}
 use Rattle.grammar.specs.Tokens.{parens}
 use Rattle.net_types.specs.declared.headers.Span.{Span}
-use Rattle.net_types.specs.Policies.{Test, Pred, And, Or, Policy, Drop, Pass, Block, Both, Then}
+use Rattle.net_types.specs.Policies.{Test, Pred, Yes, Is, Not, And, Or, Policy, Drop, Pass, Block, Fwd, Match, Set, Both, Then}
 use Rattle.net_types.specs.PolicyGrammar.{field, test, truth, tested, prim_with, negation, lit_with, and_lit, conj_with, or_conj, pred_with, pred_group, fwd, match_with, modify, keyword, atom_from, atom_with, then_atom, chain_with, plus_chain, policy_with, policy_group}
-use Rattle.net_types.specs.PolicyTexts.{SpellsPolicy, pred_spans, policy_spans}
+use Rattle.net_types.specs.PolicyTexts.{SpellsPolicy}
+
+-- ---- where the parts stand
+
+-- where the tests of a predicate stand, in the order of the text
+abbrev pub pred_spans : Pred → List Span
+pred_spans Yes = []
+pred_spans (Is t s) = s ∷ []
+pred_spans (Not p) = pred_spans p
+pred_spans (And p q) = pred_spans p ++ pred_spans q
+pred_spans (Or p q) = pred_spans p ++ pred_spans q
+
+-- where the forwards, the assignments and the tests of a policy stand, in the order of the text
+abbrev pub policy_spans : Policy → List Span
+policy_spans Drop = []
+policy_spans Pass = []
+policy_spans Block = []
+policy_spans (Fwd t s) = s ∷ []
+policy_spans (Match p) = pred_spans p
+policy_spans (Set a s) = s ∷ []
+policy_spans (Both p q) = policy_spans p ++ policy_spans q
+policy_spans (Then p q) = policy_spans p ++ policy_spans q
 
 -- ---- spans between two places
 

@@ -1,6 +1,7 @@
 -- The canonical text of a policy.
-use Rattle.std.specs.Prelude.{ℕ, ◌/◌, ◌%◌, ◌==◌, ◌&&◌, Bool, true, false, Option, Some, None, List, [], ◌++◌, codes, if◌then◌else◌}
+use Rattle.std.specs.Prelude.{ℕ, ◌==◌, ◌&&◌, Bool, true, false, Option, Some, None, List, [], ◌++◌, codes, if◌then◌else◌}
 use Rattle.std.specs.Fmt.{decimal}
+use Rattle.grammar.specs.Tokens.{address_text}
 use Rattle.net_types.specs.declared.address.Ip.{Ip}
 use Rattle.net_types.specs.declared.prefix.Prefix.{Prefix}
 use Rattle.net_types.specs.declared.headers.Assign.{Assign}
@@ -48,10 +49,6 @@ group_third Loose = false
 group_third Middle = false
 group_third Tight = false
 group_third Single = true
-
--- four numbers with dots between them
-abbrev pub address_text : ℕ → List ℕ
-address_text ip = decimal (ip / 16777216) ++ (codes "." ++ (decimal (ip / 65536 % 256) ++ (codes "." ++ (decimal (ip / 256 % 256) ++ (codes "." ++ decimal (ip % 256))))))
 
 -- an address
 abbrev pub ip_text : Ip → List ℕ

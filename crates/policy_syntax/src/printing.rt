@@ -3,7 +3,8 @@
 ghost use Rattle.std.specs.Prelude.{◌≡◌, ◌++◌, codes, OnOk, IfOk};
 ghost use Rattle.std.specs.Fmt.{decimal};
 ghost use Rattle.std.specs.String.{string_bytes};
-ghost use Rattle.policy_syntax.specs.Canonical.{opening, closing, group_first, group_second, group_third, address_text, ip_text, len_text, prefix_text, test_text, pred_text, target_text, comma, field_text, assign_text, policy_text, canonical};
+ghost use Rattle.grammar.specs.Tokens.{address_text};
+ghost use Rattle.policy_syntax.specs.Canonical.{opening, closing, group_first, group_second, group_third, ip_text, len_text, prefix_text, test_text, pred_text, target_text, comma, field_text, assign_text, policy_text, canonical};
 ghost use Rattle.policy_syntax.specs.Views.{test_of, pred_of, target_of, policy_of};
 ghost use Rattle.policy_syntax.specs.Levels.{level_of};
 

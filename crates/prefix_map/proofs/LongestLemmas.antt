@@ -7,7 +7,8 @@ use Rattle.net_types.specs.Prefixes.{covers}
 use Rattle.net_types.specs.Routes.{longer, longest_of}
 use Rattle.net_types.specs.declared.address.Ip.{Ip}
 use Rattle.net_types.specs.declared.prefix.Prefix.{Prefix}
-use Rattle.prefix_map.specs.Entries.{own, head_of, longer_entry, longest_entry, entry_or}
+use Rattle.prefix_map.specs.Entries.{own, longer_entry, longest_entry, entry_or}
+use Rattle.net_types.specs.Routes.{first_of_list}
 use Rattle.prefix_map.specs.Halves.{middle, LiesIn, LiesLow, LiesHigh}
 use Rattle.prefix_map.specs.Tries.{AllKeys}
 use Rattle.prefix_map.proofs.HalfLemmas.{covered, covers_from}
@@ -55,7 +56,7 @@ best_of_none None = refl
 best_of_none (Some e) = refl
 
 -- an entry further down, else a prefix's own, and else the best one before it
-pub best_below : {V : Type 0} (x : Option (Prefix × V)) (at : Prefix) (held : Option V) (before after : Option (Prefix × V)) → after ≡ or_best (head_of (own at held)) before → or_best (entry_or x at held) before ≡ or_best x after
+pub best_below : {V : Type 0} (x : Option (Prefix × V)) (at : Prefix) (held : Option V) (before after : Option (Prefix × V)) → after ≡ or_best (first_of_list (own at held)) before → or_best (entry_or x at held) before ≡ or_best x after
 best_below None at held before after is = sym is
 best_below (Some e) at held before after is = refl
 

@@ -9,7 +9,8 @@ use Rattle.std.specs.FinMap.Entries.{find, put, by_order}
 use Rattle.std.proofs.lemmas.List.{append-nil}
 use Rattle.net_types.specs.Keys.{prefix_cmp}
 use Rattle.net_types.specs.declared.prefix.Prefix.{Prefix}
-use Rattle.prefix_map.specs.Entries.{own, without, above, head_of}
+use Rattle.prefix_map.specs.Entries.{own, without, above}
+use Rattle.net_types.specs.Routes.{first_of_list}
 use Rattle.prefix_map.specs.Halves.{past, middle, LiesIn, LiesLow, LiesHigh}
 use Rattle.prefix_map.specs.Tries.{AllKeys}
 use Rattle.prefix_map.proofs.HalfLemmas.{begins}
@@ -130,11 +131,11 @@ told_here at (Some w) l h low high =
     }
 
 -- ---- the first of two lists
-pub none_first : {A : Type 0} (l h : List A) → head_of l ≡ None → head_of (l ++ h) ≡ head_of h
+pub none_first : {A : Type 0} (l h : List A) → first_of_list l ≡ None → first_of_list (l ++ h) ≡ first_of_list h
 none_first [] h e = refl
 none_first (x ∷ l) h e = cc
 
-pub some_first : {A : Type 0} (l h : List A) (x : A) → head_of l ≡ Some x → head_of (l ++ h) ≡ Some x
+pub some_first : {A : Type 0} (l h : List A) (x : A) → first_of_list l ≡ Some x → first_of_list (l ++ h) ≡ Some x
 some_first [] h x e = cc
 some_first (y ∷ l) h x e = e
 

@@ -9,6 +9,7 @@ use Rattle.net_types.specs.declared.address.Ip.{Ip}
 use Rattle.net_types.specs.declared.prefix.Prefix.{Prefix}
 use Rattle.prefix_map.specs.declared.trie.Trie.{Trie, Empty, Fork'}
 use Rattle.prefix_map.specs.declared.trie.Node.{Node, Blank, Full}
+use Rattle.net_types.specs.Routes.{first_of_list}
 
 -- a prefix with its value, where it has one
 abbrev pub own : {V : Type 0} → Prefix → Option V → List (Prefix × V)
@@ -38,11 +39,6 @@ abbrev pub left_after : {V : Type 0} → Option Prefix → List (Prefix × V) �
 left_after None es = es
 left_after (Some last) es = above last es
 
--- the first of a list
-abbrev pub head_of : {A : Type 0} → List A → Option A
-head_of [] = None
-head_of (x ∷ xs) = Some x
-
 -- an entry whose value is lent
 abbrev pub seen_entry : {V : Type 0} → Prefix × Bor V → Prefix × V
 seen_entry e = (e.0, e.1.now)
@@ -61,4 +57,4 @@ longest_entry (e ∷ es) ip = longer_entry (if covers e.0 ip then Some e else No
 -- an entry further down, and else a prefix's own
 abbrev pub entry_or : {V : Type 0} → Option (Prefix × V) → Prefix → Option V → Option (Prefix × V)
 entry_or (Some e) at held = Some e
-entry_or None at held = head_of (own at held)
+entry_or None at held = first_of_list (own at held)

@@ -4,7 +4,8 @@ ghost use Rattle.std.specs.Prelude.{◌≡◌, length};
 ghost use Rattle.std.specs.Iterator.{at_most};
 ghost use Rattle.std.specs.Option.{option_map};
 ghost use Rattle.std.specs.Map.Iter.{TakesFirst};
-ghost use Rattle.prefix_map.specs.Entries.{entries_of, head_of, seen_entry};
+ghost use Rattle.prefix_map.specs.Entries.{entries_of, seen_entry};
+ghost use Rattle.net_types.specs.Routes.{first_of_list};
 ghost use Rattle.prefix_map.specs.Tries.{IsTrie};
 
 use crate::trie::{Trie, first, next_after};
@@ -40,7 +41,7 @@ impl<'a, V> Iter<'a, V> {
     }
 
     fn ahead(&self) -> Option<(Prefix, &'a V)>
-        ensures { option_map seen_entry result ≡ head_of self.now }
+        ensures { option_map seen_entry result ≡ first_of_list self.now }
     {
         match self.last {
             None => first(self.trie),

@@ -6,7 +6,8 @@ ghost use Rattle.std.specs.Bool.{OnTrue};
 ghost use Rattle.std.specs.Option.{option_map};
 ghost use Rattle.std.specs.FinMap.Entries.{find};
 ghost use Rattle.net_types.specs.Keys.{prefix_cmp};
-ghost use Rattle.prefix_map.specs.Entries.{entries_of, above, head_of, seen_entry, longest_entry, entry_or};
+ghost use Rattle.prefix_map.specs.Entries.{entries_of, above, seen_entry, longest_entry, entry_or};
+ghost use Rattle.net_types.specs.Routes.{first_of_list};
 ghost use Rattle.prefix_map.specs.Tries.{IsTrie};
 
 use crate::place::{Place, is_below, place_of};
@@ -102,7 +103,7 @@ pub(crate) fn longest_in<V>(trie: &Trie<V>, ip: Ip) -> Option<(Prefix, &V)>
 
 /// The entry with the least prefix.
 pub(crate) fn first<V>(trie: &Trie<V>) -> Option<(Prefix, &V)>
-    ensures { option_map seen_entry result ≡ head_of (entries_of trie.now) }
+    ensures { option_map seen_entry result ≡ first_of_list (entries_of trie.now) }
 {
     match trie {
         Trie::Empty => None,
@@ -127,7 +128,7 @@ pub(crate) fn first<V>(trie: &Trie<V>) -> Option<(Prefix, &V)>
 /// The entry with the least prefix above a prefix.
 pub(crate) fn next_after<V>(trie: &Trie<V>, key: Prefix) -> Option<(Prefix, &V)>
     requires halves { IsTrie trie.now }
-    ensures { option_map seen_entry result ≡ head_of (above key (entries_of trie.now)) }
+    ensures { option_map seen_entry result ≡ first_of_list (above key (entries_of trie.now)) }
 {
     match trie {
         Trie::Empty => None,

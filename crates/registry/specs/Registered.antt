@@ -1,7 +1,7 @@
 -- What is declared, and what is found in it (this exchange's own rule).
 use Rattle.std.specs.Prelude.{ℕ, Bool, ◌&&◌, ◌||◌, nat_eq, List, [], ◌∷◌, ◌++◌, map, filter, find, Option}
-use Rattle.std.specs.List.{list_any, position_from}
-use Rattle.std.specs.Option.{option_map}
+use Rattle.std.specs.List.{list_any}
+use Rattle.net_types.specs.Exports.{participant_named}
 use Rattle.net_types.specs.Octets.{same_octets}
 use Rattle.net_types.specs.declared.address.Ip.{Ip}
 use Rattle.net_types.specs.declared.address.Mac.{Mac}
@@ -17,7 +17,7 @@ pub record Registered : Type 0 where
 
 -- the participant of a name
 abbrev pub named : Registered → List ℕ → Option Pid
-named r name = option_map (λ n. record { 0 = n }) (position_from (λ (m : Participant). same_octets m.name name) 0 r.participants)
+named r name = participant_named r.participants name
 
 -- the port of a number
 abbrev pub port_of : Registered → PortNo → Option PortInfo

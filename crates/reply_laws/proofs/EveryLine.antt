@@ -6,7 +6,7 @@ use Rattle.std.proofs.lemmas.Bool.{false≢true}
 use Rattle.events.proofs.Reached.{declared_pid}
 use Rattle.events.specs.After.{next, with_named}
 use Rattle.events.specs.Forms.{IsWellFormed}
-use Rattle.events.specs.Fits.{Fits, FitsBy, IsAnswer, IsSent, IsTagged, adverts, asks_for, bare, by_table, all_flows, destination, dropped, is_of_job, is_receivers, is_senders, none_rebuilt, responder_reply, tagged_frame}
+use Rattle.events.specs.Fits.{Fits, FitsBy, IsAnswer, IsSent, IsTagged, adverts, asks_for, bare, by_table, all_flows, dropped, is_of_job, is_receivers, is_senders, none_rebuilt, responder_reply, tagged_frame}
 use Rattle.events.specs.Pending.{pending, with_all_news}
 use Rattle.events.specs.Refusals.{if_short, inbound_refusal, is_datagram, outbound_refusal, refusal, refused_if}
 use Rattle.events.specs.Resolving.{is_resolved, tag_address, unresolved}
@@ -43,7 +43,7 @@ use Rattle.net_types.proofs.OrderLemmas.{prefix_tie, prefixes_total}
 use Rattle.net_types.proofs.OrderedLemmas.{member_any}
 use Rattle.net_types.specs.Arp.{no_mac}
 use Rattle.net_types.specs.Exports.{pid_of}
-use Rattle.net_types.specs.Frames.{framed}
+use Rattle.net_types.specs.Frames.{destination, framed}
 use Rattle.net_types.specs.Keys.{prefix_cmp}
 use Rattle.net_types.specs.Naming.{named_in}
 use Rattle.net_types.specs.Policies.{Policy}

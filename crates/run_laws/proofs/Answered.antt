@@ -2,7 +2,8 @@
 use Rattle.std.proofs.Common.{◌≡◌, ℕ, Bool, true, false, cond, List, [], ◌∷◌, map, ap, sym, ◌∙◌, refl}
 use Rattle.std.specs.Prelude.{Option, Some, None, MatchOption, nat_lt, take}
 use Rattle.std.specs.FinMap.{get, keys}
-use Rattle.events.specs.Fits.{IsAnswer, IsBuilt, IsSent, IsTagged, IsTaken, IsWorked, adverts, asks_for, bare, by_table, destination, is_receivers, is_senders, none_rebuilt, responder_reply}
+use Rattle.events.specs.Fits.{IsAnswer, IsBuilt, IsSent, IsTagged, IsTaken, IsWorked, adverts, asks_for, bare, by_table, is_receivers, is_senders, none_rebuilt, responder_reply}
+use Rattle.net_types.specs.Frames.{destination}
 use Rattle.events.specs.Pending.{pending}
 use Rattle.events.specs.Resolving.{is_pool_request, is_resolved, pool_mac, tag_address, unresolved}
 use Rattle.events.specs.State.{State, port_of, told_to}

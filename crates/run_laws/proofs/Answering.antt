@@ -10,7 +10,8 @@ use Rattle.std.proofs.lemmas.Option.{option_and_then_some}
 use Rattle.std.specs.Prelude.{Result, Ok, Err, not, slice_get}
 use Rattle.grammar.specs.TextReading.{Fault as Misread}
 use Rattle.events.specs.After.{taken as takes, with_told, with_port, settled, after, bound_read, merged, next, next_by, received_by, running, ruled, sent_by, updated, with_known, without_from, with_outbound, with_named, worked}
-use Rattle.events.specs.Fits.{Fits, FitsBy, Passes, is_building, IsAnswer, IsBuilt, IsSent, IsTagged, IsTaken, IsWorked, bare, destination, is_receivers, is_senders, none_rebuilt, tag_changes}
+use Rattle.events.specs.Fits.{Fits, FitsBy, Passes, is_building, IsAnswer, IsBuilt, IsSent, IsTagged, IsTaken, IsWorked, bare, is_receivers, is_senders, none_rebuilt, tag_changes}
+use Rattle.net_types.specs.Frames.{destination}
 use Rattle.events.specs.Pending.{pending}
 use Rattle.events.specs.Refusals.{refusal}
 use Rattle.events.specs.declared.Refusal.{Refusal}

@@ -14,7 +14,8 @@ use Rattle.net_types.specs.declared.prefix.Prefix.{Prefix}
 use Rattle.net_types.specs.declared.route.PortInfo.{PortInfo}
 use Rattle.net_types.specs.declared.rule.Pair.{Pair}
 use Rattle.net_types.specs.declared.rule.Rule.{Rule}
-use Rattle.events.specs.Fits.{IsAnswer, IsBuilt, IsFinished, IsSent, IsTagged, IsTaken, IsWorked, added, all_flows, asks_for, bare, by_table, destination, dropped, flows_of, has_other_rules, is_receivers, is_senders, none_rebuilt, responder_reply}
+use Rattle.events.specs.Fits.{IsAnswer, IsBuilt, IsFinished, IsSent, IsTagged, IsTaken, IsWorked, added, all_flows, asks_for, bare, by_table, dropped, flows_of, has_other_rules, is_receivers, is_senders, none_rebuilt, responder_reply}
+use Rattle.net_types.specs.Frames.{destination}
 use Rattle.events.specs.Pending.{pending}
 use Rattle.events.specs.Resolving.{is_pool_request, is_resolved, pool_mac, tag_address, unresolved}
 use Rattle.events.specs.Sound.{cubes_of}

@@ -17,7 +17,8 @@ use Rattle.net_types.specs.declared.rule.Pair.{Pair}
 use Rattle.net_types.specs.declared.update.Fault.{Fault}
 use Rattle.net_types.specs.declared.update.Update.{Update as Message}
 use Rattle.events.specs.After.{after, all_units, bound_read, next, next_by, received_by, ruled, sent_by, updated, with_known}
-use Rattle.events.specs.Fits.{IsAnswer, IsBuilt, IsFinished, IsSent, IsTagged, IsTaken, IsWorked, asks_for, bare, by_table, destination, is_building, is_receivers, is_senders, none_rebuilt, responder_reply, tag_changes}
+use Rattle.events.specs.Fits.{IsAnswer, IsBuilt, IsFinished, IsSent, IsTagged, IsTaken, IsWorked, asks_for, bare, by_table, is_building, is_receivers, is_senders, none_rebuilt, responder_reply, tag_changes}
+use Rattle.net_types.specs.Frames.{destination}
 use Rattle.events.specs.Pending.{pending}
 use Rattle.events.specs.Resolving.{is_resolved, tag_address, unresolved}
 use Rattle.events.specs.State.{State, port_of, told_to}

@@ -19,7 +19,8 @@ use Rattle.net_types.specs.declared.route.PortInfo.{PortInfo}
 use Rattle.net_types.specs.declared.rule.Pair.{Pair}
 use Rattle.net_types.specs.declared.rule.Rule.{Rule}
 use Rattle.events.specs.After.{next}
-use Rattle.events.specs.Fits.{FitsBy, IsAccepted, IsAnswer, IsBuilt, IsSent, IsTagged, IsTaken, IsWorked, Passes, added, all_flows, asks_for, bare, by_table, destination, flows_of, is_building, is_receivers, is_senders, none_rebuilt, responder_reply}
+use Rattle.events.specs.Fits.{FitsBy, IsAccepted, IsAnswer, IsBuilt, IsSent, IsTagged, IsTaken, IsWorked, Passes, added, all_flows, asks_for, bare, by_table, flows_of, is_building, is_receivers, is_senders, none_rebuilt, responder_reply}
+use Rattle.net_types.specs.Frames.{destination}
 use Rattle.events.specs.Legal.{Legal, LegalFrom, state_after}
 use Rattle.events.specs.Pending.{pending}
 use Rattle.events.specs.Refusals.{refusal}

@@ -1,22 +1,13 @@
-use Rattle.std.proofs.Common.{set, ap, arith}
-use Rattle.border_router.proofs.AddressLemmas.{set_at, insert_gap, carried, seen}
+-- What is put into the entries is put into the map.
+use Rattle.std.proofs.Common.{ap, ◌∙◌, ◌≤◌, ◌+◌, Bool, true, false, cond, arith}
+use Rattle.std.specs.Prelude.{is_some}
+use Rattle.std.specs.FinMap.{from_sorted, insert}
+use Rattle.net_types.proofs.OrderLemmas.{ips_total}
+use Rattle.net_types.proofs.PlaceLemmas.{insert_sorted}
+use Rattle.net_types.specs.Keys.{ip_cmp}
 use Rattle.border_router.proofs.addresses.Addresses.put.Goals as goal
 
--- the address is there, and its MAC is exchanged
-pub invariant_of-self : goal.invariant_of-self
-invariant_of-self c = (carried (λ i. set c.self.inside.entries.items c.in-Ok.at ((c.index_mut.ensures.value i).0, c.args.mac)) (set_at c.deref.ensures.value (seen c.self.invariant c.self.view_is) c.in-Ok.ensures.found c.index_mut.result.now c.args.mac)).sorted
-
-pub returns-in-Ok-clause-map : goal.returns-in-Ok-clause-map
-returns-in-Ok-clause-map c = (carried (λ i. set c.self.inside.entries.items c.in-Ok.at ((c.index_mut.ensures.value i).0, c.args.mac)) (set_at c.deref.ensures.value (seen c.self.invariant c.self.view_is) c.in-Ok.ensures.found c.index_mut.result.now c.args.mac)).are
-
--- the address is new, and there is room
-pub unreachable-requires : goal.unreachable-requires
-unreachable-requires c =
-    let spare = ap (λ s. s.room) c.self.view_is in
-    omega (arith, c.requires, spare, c.in-Err-insert.ensures.full)
-
-pub invariant_of-self-in-Ok-insert : goal.invariant_of-self-in-Ok-insert
-invariant_of-self-in-Ok-insert c = (carried c.in-Ok-insert.ensures.items (insert_gap c.deref.ensures.value (seen c.self.invariant c.self.view_is) c.in-Err.ensures.absent c.args.mac)).sorted
-
-pub returns-in-Ok-insert-clause-map : goal.returns-in-Ok-insert-clause-map
-returns-in-Ok-insert-clause-map c = (carried c.in-Ok-insert.ensures.items (insert_gap c.deref.ensures.value (seen c.self.invariant c.self.view_is) c.in-Err.ensures.absent c.args.mac)).are
+pub returns-clause-map : goal.returns-clause-map
+returns-clause-map c =
+    ap (from_sorted {R = ip_cmp}) c.put.ensures.items ∙ insert_sorted ip_cmp ips_total c.args.ip c.args.mac c.self.inside.macs.items c.self.invariant
+    ∙ ap (λ s. insert s.map c.args.ip c.args.mac) c.self.view_is
