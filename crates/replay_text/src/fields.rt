@@ -8,18 +8,7 @@ use super::pieces::{four_pieces, split_once};
 use hex::FromHexError;
 use net_types::{Bytes, Ip, Mac, Memory, PortNo};
 use std::alloc::Global;
-
-fn is_letter(c: u8) -> bool
-    ensures { result ≡ is_letter c }
-{
-    c.is_ascii_alphabetic()
-}
-
-fn is_name_octet(c: u8) -> bool
-    ensures { result ≡ is_name_octet c }
-{
-    is_letter(c) || c.is_ascii_digit() || c == b'-' || c == b'_'
-}
+use text_fields::{is_letter, is_name_octet};
 
 fn are_name_octets(text: &[u8]) -> bool
     ensures { result ≡ list_all is_name_octet text.now }

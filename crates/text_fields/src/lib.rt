@@ -8,4 +8,6 @@ mod tokens;
 
 pub use fault::WrongOctet;
 pub use prefixes::{address, prefix};
-pub use tokens::{gap, is_letter, name, next_is, number, place, sign, spaces, word, wrong};
+pub use tokens::{
+    gap, is_letter, is_name_octet, name, next_is, number, place, sign, spaces, word, wrong,
+};

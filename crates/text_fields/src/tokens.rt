@@ -106,7 +106,8 @@ pub fn is_letter(octet: u8) -> bool
     octet.is_ascii_alphabetic()
 }
 
-fn is_name_octet(octet: u8) -> bool
+/// Whether an octet may stand in a name behind its first: a letter, a digit, a dash or a low line.
+pub fn is_name_octet(octet: u8) -> bool
     ensures { result ≡ is_name_octet octet }
 {
     is_letter(octet) || octet.is_ascii_digit() || octet == b'-' || octet == b'_'

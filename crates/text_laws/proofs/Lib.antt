@@ -16,3 +16,5 @@ pub mod Details
 pub mod Determined
 pub mod LegalReplies
 pub mod ReadEvents
+pub mod TokenFields
+pub mod TokenAddresses

@@ -1,7 +1,8 @@
-//! Laws of texts: the octets that are written name the replies. The functions have empty bodies, and their contracts are the
-//! laws.
+//! Laws of texts: the octets that are written name the replies, and lines and policies have the same tokens. The functions
+//! have empty bodies, and their contracts are the laws.
 #![tactic(auto)]
 
+ghost use Rattle.text_laws.specs.FieldTokens.{FieldsAreTokens};
 ghost use Rattle.text_laws.specs.Naming.{LegalRulesAreOfNoPort, OutputsNameReplies, ReadEventsAreWellFormed, RightRulesAreOfNoPort, TextsNameReplies, WritableTextsNameReplies};
 
 /// For given lines, two lists with a reply for each line and with the same text are the same list, where the numbers of the one
@@ -34,4 +35,9 @@ pub fn right_rules_are_of_no_port()
 /// In a legal run no rule of a reply has a cube of a port.
 pub fn legal_rules_are_of_no_port()
     ensures { LegalRulesAreOfNoPort }
+{}
+
+/// A field of a line is read as a name, a number or an address exactly where the token of policies and export rules spells it.
+pub fn fields_are_tokens()
+    ensures { FieldsAreTokens }
 {}
