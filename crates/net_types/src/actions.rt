@@ -6,8 +6,10 @@ ghost use Rattle.net_types.specs.Maps.{ordered};
 ghost use Rattle.net_types.specs.declared.actions.Action.{Action};
 
 use crate::address::PortNo;
+use crate::copy::TryCopy;
 use crate::headers::Assign;
 use crate::memory::Memory;
+use crate::shared_items::SharedItems;
 use std::alloc::Global;
 use std::cmp::Ordering;
 use std::marker::Model;
@@ -23,13 +25,13 @@ pub struct Action {
 /// before a present one.
 #[derive(Drop)]
 pub struct Actions {
-    items: Vec<Action>,
+    items: SharedItems<Action>,
 }
 
 impl Model for Actions {
     ghost Value = { List Action };
 
-    ghost view = { λ a. a.items.items };
+    ghost view = { λ a. a.items };
 }
 
 /// By srcip, dstip, srcport and dstport, an absent field before a present one.
@@ -63,7 +65,7 @@ impl Actions {
         ensures { result ≡ [] }
     {
         Actions {
-            items: Vec::new(alloc),
+            items: SharedItems::new(alloc),
         }
     }
 
@@ -72,14 +74,16 @@ impl Actions {
         ensures { result ≡ ordered action_cmp items.items }
     {
         put_in_order(&mut items);
-        Actions { items }
+        Actions {
+            items: SharedItems::from_vec(items),
+        }
     }
 
     /// The actions in order.
     pub fn items(&self) -> &[Action]
         ensures { result.now ≡ self.now }
     {
-        self.items.as_slice()
+        self.items.items()
     }
 
     /// Puts an action in at its place; one that is there already isn't put in again. After want of memory nothing is
@@ -88,19 +92,25 @@ impl Actions {
         ensures ok { OnOk result (self.new ≡ with_action self.old action) }
         ensures err { OnErr result (self.new ≡ self.old) }
     {
-        self.items.push(action)?;
-        put_in_order(&mut self.items);
+        let mut items = self.items.with(action)?;
+        put_in_order(&mut items);
+        self.items = SharedItems::from_vec(items);
         Ok(())
     }
 
-    /// Equal actions.
-    pub(crate) fn twin(&self) -> Result<Actions, Memory>
-        ensures { IfOk result (λ twin. twin ≡ self.now) }
+    /// The same actions, of which a copy is a further owner, without the actions being copied.
+    pub fn shared(self) -> Result<Actions, Memory>
+        ensures { IfOk result (λ shared. shared ≡ self) }
     {
-        let mut items = Vec::new(*self.items.allocator());
-        for action in self.items.as_slice() {
-            items.push(*action)?;
-        }
+        let items = self.items.shared()?;
+        Ok(Actions { items })
+    }
+}
+
+impl TryCopy for Actions {
+    /// A further owner of the actions where they are shared; else they are copied.
+    fn copy(&self) -> Result<Actions, Memory> {
+        let items = self.items.copy()?;
         Ok(Actions { items })
     }
 }

@@ -2,7 +2,6 @@
 
 ghost use Rattle.std.specs.Prelude.{◌≡◌, IfOk};
 
-use crate::actions::Actions;
 use crate::address::Pid;
 use crate::list::Items;
 use crate::memory::Memory;
@@ -104,12 +103,6 @@ impl TryCopy for Part {
             best: self.best,
             offers: self.offers.copy()?,
         })
-    }
-}
-
-impl TryCopy for Actions {
-    fn copy(&self) -> Result<Actions, Memory> {
-        self.twin()
     }
 }
 
