@@ -19,6 +19,7 @@ use Rattle.net_types.specs.declared.prefix.Prefix.{Prefix}
 use Rattle.ordered_map.specs.Entries.{without}
 use Rattle.advert_queue.proofs.RisingEntries.{fewer_without, find_below, find_without, length_put}
 use Rattle.advert_queue.specs.Changes.{AreNews, Change, changed, noted}
+use Rattle.events.proofs.SameEntries as same_entries
 
 -- what was told, or is present
 abbrev pub Told : Type 0
@@ -26,18 +27,8 @@ Told = FinMap prefix_cmp Entry
 
 -- ---- the test of entries decides whether they are equal
 
-entries_equal : (a b : Entry) → same_entry a b ≡ true → a ≡ b
-entries_equal a b e =
-    let parts = and_parts (same_tag a.tag b.tag) (same_attrs a.attrs b.attrs) e in
-    let attrs : a.attrs ≡ b.attrs = ap (λ o. unwrap_or o a.attrs) ((optional_test (Some a.attrs) (Some b.attrs)).0 parts.1) in
-    let tags : a.tag.0 ≡ b.tag.0 = eqb-true a.tag.0 b.tag.0 parts.0 in
-    λ i. record { attrs = attrs i; tag = record { 0 = tags i } }
-
-entry_itself : (e : Entry) → same_entry e e ≡ true
-entry_itself e = and_from (same_tag e.tag e.tag) (same_attrs e.attrs e.attrs) (nat_itself e.tag.0) (attrs_itself e.attrs)
-
 pub entry_test : IsEqualityTest (same_option same_entry)
-entry_test = option_test same_entry (from_itself same_entry entries_equal entry_itself)
+entry_test = option_test same_entry same_entries.entry_test
 
 -- ---- one change
 

@@ -16,11 +16,8 @@ use Rattle.net_types.specs.declared.prefix.Prefix.{Prefix}
 use Rattle.net_types.specs.declared.route.Attrs.{Attrs}
 use Rattle.net_types.specs.declared.route.Unknown.{Unknown}
 use Rattle.net_types.specs.declared.update.Update.{Update}
-
-less : (r : Ordering) → is_lt r ≡ true → r ≡ Less
-less Less e = refl
-less Equal e = cc
-less Greater e = cc
+use Rattle.net_types.proofs.TieLemmas.{less}
+use Rattle.std.proofs.lemmas.Option.{same_Some}
 
 pub before_itself : (p : Prefix) → is_before p p ≡ true → ⊥
 before_itself p e = false≢true (sym (ap is_lt (tied_itself prefixes_total p)) ∙ e)
@@ -43,14 +40,11 @@ one_ordered xs ys ps a b = rising_unique is_before before_itself before_trans xs
 one_without : (xs ys ps qs : List Prefix) → IsOrderedWithout xs ps qs → IsOrderedWithout ys ps qs → xs ≡ ys
 one_without xs ys ps qs a b = rising_unique is_before before_itself before_trans xs ys a.rising b.rising (record { onto = λ p m. b.back p (a.onto p m); back = λ p m. a.back p (b.onto p m) })
 
-pub some_of : {X : Type 0} (x y : X) → Some x ≡ Some y → x ≡ y
-some_of x y e = cc
-
 one_said : (s : Said) (a b : Attrs) → AreSaid s a → AreSaid s b → a ≡ b
 one_said s a b h k =
-    let origin : a.origin ≡ b.origin = some_of _ _ (sym h.origin ∙ k.origin) in
-    let path : a.path ≡ b.path = some_of _ _ (sym h.path ∙ k.path) in
-    let next_hop : a.next_hop ≡ b.next_hop = some_of _ _ (sym h.next_hop ∙ k.next_hop) in
+    let origin : a.origin ≡ b.origin = same_Some _ _ (sym h.origin ∙ k.origin) in
+    let path : a.path ≡ b.path = same_Some _ _ (sym h.path ∙ k.path) in
+    let next_hop : a.next_hop ≡ b.next_hop = same_Some _ _ (sym h.next_hop ∙ k.next_hop) in
     let med : a.med ≡ b.med = h.med ∙ sym k.med in
     let atomic : a.atomic ≡ b.atomic = h.atomic ∙ sym k.atomic in
     let aggregator : a.aggregator ≡ b.aggregator = h.aggregator ∙ sym k.aggregator in

@@ -35,6 +35,7 @@ use Rattle.bgp_update.proofs.SoundReading.{AreOctets, behind, front, longs_count
 use Rattle.bgp_update.proofs.SpelledAttributes.{octets_of}
 use Rattle.bgp_update.specs.Answers.{IsDecoded}
 use Rattle.bgp_update.specs.declared.fault.UpdateFault.{UpdateFault}
+use Rattle.std.proofs.Math.Bool.{and-true}
 
 -- ---- rising lists of members
 
@@ -246,14 +247,10 @@ abbrev said_size : Said → ℕ
 said_size s = length (unknown_octets s.unknown) + length (path_octets s.path) + wide_size s.wide + origin_size s.origin + next_hop_size s.next_hop
     + length (med_octets s.med) + length (atomic_octets s.atomic) + length (aggregator_octets s.aggregator) + length (communities_octets s.communities_partial s.communities)
 
-and_true : (b : Bool) → (b && true) ≡ b
-and_true true = refl
-and_true false = refl
-
 communities_size : (partial : Bool) (cs : List ℕ) → length (communities_octets (partial && not (eqb (length cs) 0)) cs) ≤ length (octets_of (attributes.Communities partial cs))
 communities_size partial [] = omega arith
 communities_size partial (c ∷ cs) =
-    let kept : (partial && not (eqb (length (c ∷ cs)) 0)) ≡ partial = ap (λ (b : Bool). partial && not b) (ne_eqb (length (c ∷ cs)) 0 (λ e. omega (arith, e))) ∙ and_true partial in
+    let kept : (partial && not (eqb (length (c ∷ cs)) 0)) ≡ partial = ap (λ (b : Bool). partial && not b) (ne_eqb (length (c ∷ cs)) 0 (λ e. omega (arith, e))) ∙ and-true partial in
     let same : length (communities_octets (partial && not (eqb (length (c ∷ cs)) 0)) (c ∷ cs)) ≡ length (octets_of (attributes.Communities partial (c ∷ cs))) = ap (λ (b : Bool). length (communities_octets b (c ∷ cs))) kept in
     omega (arith, same)
 

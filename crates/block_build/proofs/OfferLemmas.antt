@@ -2,7 +2,7 @@
 use Rattle.std.proofs.Common.{◌≡◌, Bool, true, false, not, ◌||◌, cond, List, [], ◌∷◌, refl, inl, inr, sym, ap, ◌∙◌}
 use Rattle.std.specs.Prelude.{Some, find, nat_eq}
 use Rattle.std.specs.Option.{option_map_or}
-use Rattle.std.proofs.lemmas.Bool.{cases_Bool, eqb-true, eq-eqb, and_parts, false≢true}
+use Rattle.std.proofs.lemmas.Bool.{cases_Bool, eqb-true, eq-eqb, and_parts, false≢true, not-true}
 use Rattle.net_types.specs.Answers.{is_offered, offered_hole, offered_port}
 use Rattle.net_types.specs.Sets.{Member}
 use Rattle.net_types.specs.declared.address.Pid.{Pid}
@@ -27,10 +27,6 @@ stands-offered (x ∷ xs) o (inr h) = elim (cases_Bool (nat_eq x.exporter.0 o.ex
   | inr other ↦ ap (λ b. b || is_offered xs o.exporter) other ∙ stands-offered xs o h
 ]
 
-not_true : (b : Bool) → not b ≡ true → b ≡ false
-not_true true e = cc
-not_true false e = refl
-
 -- what is found of the first offer of a participant, and what else
 module _ {A : Type 0} (of : Offer → A) (default : A) where
   abbrev found : List Offer → Pid → A
@@ -52,7 +48,7 @@ module _ {A : Type 0} (of : Offer → A) (default : A) where
   found-stands (x ∷ xs) o once (inr h) =
       let p = and_parts (not (is_offered xs x.exporter)) (each_once xs) once in
       elim (cases_Bool (nat_eq x.exporter.0 o.exporter.0)) [
-        | inl mine ↦ absurd (false≢true (sym (not_true (is_offered xs x.exporter) p.0) ∙ ap (is_offered xs) (pid_exact x.exporter o.exporter mine) ∙ stands-offered xs o h))
+        | inl mine ↦ absurd (false≢true (sym (not-true (is_offered xs x.exporter) p.0) ∙ ap (is_offered xs) (pid_exact x.exporter o.exporter mine) ∙ stands-offered xs o h))
         | inr other ↦ found-first x xs o.exporter false other ∙ found-stands xs o p.1 h
       ]
 

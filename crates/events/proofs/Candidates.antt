@@ -17,21 +17,7 @@ use Rattle.net_types.specs.declared.route.Offer.{Offer}
 use Rattle.net_types.proofs.FindLemmas.{find-IsFound, any_at}
 use Rattle.net_types.proofs.PassLemmas.{is_some-any, some_there}
 use Rattle.net_types.proofs.RisingLemmas.{filter-Member}
-use Rattle.net_types.proofs.SetLemmas.{Member-map, map-Member}
-
--- a member of what a function gives of some, with what it comes from
-record IsGivenBy {A B : Type 0} (f : A → Option B) (y : B) : Type 0 where
-  source : A
-  is : f source ≡ Some y
-
-given_case : {A B : Type 0} (f : A → Option B) (x : A) (ys : List B) (y : B) (o : Option B) → f x ≡ o → Member y (cons_option o ys) → (Member y ys → IsGivenBy f y) → IsGivenBy f y
-given_case f x ys y None e m later = later m
-given_case f x ys y (Some z) e (inl same) later = record { source = x; is = e ∙ ap Some (sym same) }
-given_case f x ys y (Some z) e (inr m) later = later m
-
-filter_map-Member : {A B : Type 0} (f : A → Option B) (xs : List A) (y : B) → Member y (filter_map f xs) → IsGivenBy f y
-filter_map-Member f [] y m = elim m [ ]
-filter_map-Member f (x ∷ xs) y m = given_case f x (filter_map f xs) y (f x) refl m (filter_map-Member f xs y)
+use Rattle.net_types.proofs.SetLemmas.{Member-map, map-Member, given_by}
 
 -- a candidate is a route that is exported
 pub record IsExported (r : Routing) (to : Pid) (p : Prefix) (c : Candidate) : Type 0 where
@@ -40,7 +26,7 @@ pub record IsExported (r : Routing) (to : Pid) (p : Prefix) (c : Candidate) : Ty
 
 pub candidate_exported : (r : Routing) (to : Pid) (p : Prefix) (c : Candidate) → Member c (candidates r to p) → IsExported r to p c
 candidate_exported r to p c m =
-    let g = filter_map-Member (given r to p) (pids r) c m in
+    let g = given_by (given r to p) (pids r) c m in
     let from : Pid = g.source in
     option_and_then_some (λ (attrs : Attrs). cond (is_given r from to p attrs) (Some (candidate r from attrs)) None) (route r from p) c g.is (λ attrs there is.
     let parts = cond_some (is_given r from to p attrs) (candidate r from attrs) c is in

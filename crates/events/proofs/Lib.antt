@@ -5,3 +5,4 @@ pub mod Drained
 pub mod Candidates
 pub mod Routed
 pub mod Accepted
+pub mod SameEntries

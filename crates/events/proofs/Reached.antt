@@ -43,6 +43,7 @@ use Rattle.net_types.specs.declared.route.Participant.{Participant}
 use Rattle.net_types.specs.declared.route.PortInfo.{PortInfo}
 use Rattle.net_types.specs.declared.rule.Pair.{Pair}
 use Rattle.net_types.specs.declared.rule.Rule.{Rule}
+use Rattle.std.proofs.lemmas.Option.{same_Some}
 
 -- ---- the state before the first line
 
@@ -87,11 +88,8 @@ pub record IsDeclared (s : State) : Type 0 where
   pub owners : (k : ℕ) (q : PortInfo) → slice_get s.routing.ports k ≡ Some q → q.owner.0 < length s.routing.participants
   pub told : length s.told ≡ length s.routing.participants
 
-some_of : {A : Type 0} (x y : A) → Some x ≡ Some y → x ≡ y
-some_of x y e = ap (λ o. unwrap_or o x) e
-
 found_case : (b : Bool) (n k length_of_rest : ℕ) (o : Option ℕ) → (o ≡ Some k → k < n + 1 + length_of_rest) → cond b (Some n) o ≡ Some k → k < n + suc length_of_rest
-found_case true n k l o rest e = let same : n ≡ k = some_of n k e in omega arith
+found_case true n k l o rest e = let same : n ≡ k = same_Some n k e in omega arith
 found_case false n k l o rest e = let below : k < n + 1 + l = rest e in omega arith
 
 -- a place that is found is in the list
@@ -101,16 +99,16 @@ found_within test n (m ∷ ms) k e = found_case (test m) n k (length ms) (positi
 
 pid_within : (o : Option ℕ) (n : ℕ) (who : Pid) → ((k : ℕ) → o ≡ Some k → k < n) → option_map (λ k. let w : Pid = record { 0 = k } in w) o ≡ Some who → who.0 < n
 pid_within None n who within e = cc
-pid_within (Some k) n who within e = let same : k ≡ who.0 = ap (λ (w : Pid). w.0) (some_of (record { 0 = k }) who e) in subst (λ x. x < n) same (within k refl)
+pid_within (Some k) n who within e = let same : k ≡ who.0 = ap (λ (w : Pid). w.0) (same_Some (record { 0 = k }) who e) in subst (λ x. x < n) same (within k refl)
 
 pub declared_pid : (r : Routing) (name : List ℕ) (who : Pid) → pid_of r name ≡ Some who → who.0 < length r.participants
 declared_pid r name who e =
     pid_within (position_from (λ (m : Participant). same_octets m.name name) 0 r.participants) (length r.participants) who (λ k is. let below : k < 0 + length r.participants = found_within (λ (m : Participant). same_octets m.name name) 0 r.participants k is in omega arith) e
 
 get_append : (qs : List PortInfo) (q : PortInfo) (k : ℕ) (o : PortInfo) (P : PortInfo → Type 0) → ((j : ℕ) (x : PortInfo) → slice_get qs j ≡ Some x → P x) → P q → slice_get (qs ++ q ∷ []) k ≡ Some o → P o
-get_append [] q zero o P all one e = subst P (some_of q o e) one
+get_append [] q zero o P all one e = subst P (same_Some q o e) one
 get_append [] q (suc k) o P all one e = cc
-get_append (x ∷ qs) q zero o P all one e = subst P (some_of x o e) (all 0 x refl)
+get_append (x ∷ qs) q zero o P all one e = subst P (same_Some x o e) (all 0 x refl)
 get_append (x ∷ qs) q (suc k) o P all one e = get_append qs q k o P (λ j y is. all (suc j) y is) one e
 
 pub set_length : {A : Type 0} (xs : List A) (k : ℕ) (x : A) → length (slice_set xs k x) ≡ length xs
@@ -241,7 +239,7 @@ port_declared [] n bound q all e = cc
 port_declared (x ∷ qs) n bound q all e = either_port (nat_eq x.number.0 n) (all 0 x refl) (port_declared qs n bound q (λ k o is. all (suc k) o is)) e
   where
     either_port : (b : Bool) → x.owner.0 < bound → (find (λ (o : PortInfo). nat_eq o.number.0 n) qs ≡ Some q → q.owner.0 < bound) → cond b (Some x) (find (λ (o : PortInfo). nat_eq o.number.0 n) qs) ≡ Some q → q.owner.0 < bound
-    either_port true here later e = subst (λ (o : PortInfo). o.owner.0 < bound) (some_of x q e) here
+    either_port true here later e = subst (λ (o : PortInfo). o.owner.0 < bound) (same_Some x q e) here
     either_port false here later e = later e
 
 pub owner_declared : (s : State) (n : PortNo) (q : PortInfo) → IsDeclared s → port_of s n ≡ Some q → q.owner.0 < length s.routing.participants

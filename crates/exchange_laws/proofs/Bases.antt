@@ -23,7 +23,7 @@ use Rattle.exchange_laws.specs.Whole.{IsWhole, KeptAreWhole}
 use Rattle.net_types.proofs.FindLemmas.{find-IsFound}
 use Rattle.net_types.proofs.OrderLemmas.{tags_total}
 use Rattle.net_types.proofs.SetLemmas.{map-Member}
-use Rattle.net_types.proofs.TieLemmas.{same_from_tie, tag_cmp-IsAntisymmetric}
+use Rattle.net_types.proofs.TieLemmas.{same_from_tie, tag_cmp-IsAntisymmetric, tag_tie}
 use Rattle.net_types.specs.Answers.{Policies, is_offered, policy_of}
 use Rattle.net_types.specs.Exports.{pid_of}
 use Rattle.net_types.specs.Keys.{tag_cmp}
@@ -185,11 +185,8 @@ trimmed_found who named (x ∷ xs) to =
 
 -- each kept signature is the one before, trimmed
 pub get_trimmed : (s : State) (who : Pid) (named : List Pid) (t : Tag) → get (trimmed_kept s who named) t ≡ option_map (trimmed who named) (get s.kept t)
-get_trimmed s who named t = get_tabulated tag_cmp tags_total tie (λ u. option_map (trimmed who named) (get s.kept u)) (keys s.kept) (λ u there.
-    key_Member tag_cmp tags_total tie s.kept u (sym (is_some-map (trimmed who named) (get s.kept u)) ∙ there)) t
-  where
-    tie : (x y : Tag) → eq_by_cmp tag_cmp x y ≡ true → x ≡ y
-    tie = same_from_tie tag_cmp tag_cmp-IsAntisymmetric
+get_trimmed s who named t = get_tabulated tag_cmp tags_total tag_tie (λ u. option_map (trimmed who named) (get s.kept u)) (keys s.kept) (λ u there.
+    key_Member tag_cmp tags_total tag_tie s.kept u (sym (is_some-map (trimmed who named) (get s.kept u)) ∙ there)) t
 
 module _ (s : State) (who : Pid) (text : List ℕ) (named : List Pid) where
   abbrev pub sent : State

@@ -27,7 +27,7 @@ use Rattle.exchange_laws.specs.Retagging.{KeptAreLive, LiveAreKept, TagsArePoole
 use Rattle.net_types.proofs.OrderLemmas.{pairs_total, tags_total}
 use Rattle.net_types.proofs.RisingLemmas.{Member-filter, before, before_itself, before_trans, filter-IsRising, filter-Member, keys-IsRising}
 use Rattle.net_types.proofs.SetLemmas.{rising_unique}
-use Rattle.net_types.proofs.TieLemmas.{pair_cmp-IsAntisymmetric, same_from_tie, tag_cmp-IsAntisymmetric, ties_itself}
+use Rattle.net_types.proofs.TieLemmas.{pair_cmp-IsAntisymmetric, pair_tie, tag_tie, ties_itself}
 use Rattle.net_types.proofs.ValueLemmas.{later_apart}
 use Rattle.net_types.specs.Keys.{pair_cmp, tag_cmp}
 use Rattle.net_types.specs.Routes.{numbers}
@@ -70,13 +70,10 @@ kept_tags s pooled kept live =
     rising_unique (before tag_cmp) (before_itself tag_cmp tags_total) (before_trans tag_cmp tags_total) (keys s.kept) (filter (is_live s) (tags s)) (keys-IsRising tag_cmp s.kept)
     (filter-IsRising (before tag_cmp) (is_live s) (tags s) (weaker (λ t u. nat_lt t.0 u.0) (before tag_cmp) tag_before (tags s) (tags_rise 1 s.size))) (record {
       onto = λ t m.
-          let is : is_live s t ≡ true = kept t (contains_key-keys s.kept t ∙ member_any tag_cmp tags_total tie t (keys s.kept) m) in
+          let is : is_live s t ≡ true = kept t (contains_key-keys s.kept t ∙ member_any tag_cmp tags_total tag_tie t (keys s.kept) m) in
           Member-filter (is_live s) (tags s) t (pooled t is) is;
-      back = λ t m. key_Member tag_cmp tags_total tie s.kept t (live t (filter-Member (is_live s) (tags s) t m).passes);
+      back = λ t m. key_Member tag_cmp tags_total tag_tie s.kept t (live t (filter-Member (is_live s) (tags s) t m).passes);
     })
-  where
-    tie : (x y : Tag) → eq_by_cmp tag_cmp x y ≡ true → x ≡ y
-    tie = same_from_tie tag_cmp tag_cmp-IsAntisymmetric
 
 pub free_tags_are_counted : FreeTagsAreCounted
 free_tags_are_counted s pooled kept live =
@@ -184,13 +181,10 @@ rules_are_counted s s1 is_rebuilt on = counted s s1 is_rebuilt on
 
 -- where the table has exactly the live pairs, they are its keys
 pub listed_pairs : (s : State) → HasLivePairs s → TagsArePooled s → keys s.table ≡ live_pairs s
-listed_pairs s has pooled = ordered_is pair_cmp pairs_total tie (keys s.table) (filter (is_live_pair s) (pairs s)) (keys-IsRising pair_cmp s.table) (record {
-  onto = λ q m. let live : is_live_pair s q ≡ true = sym (has q) ∙ contains_key-keys s.table q ∙ member_any pair_cmp pairs_total tie q (keys s.table) m in Member-filter (is_live_pair s) (pairs s) q (pair_listed s pooled q live) live;
-  back = λ q m. key_Member pair_cmp pairs_total tie s.table q (has q ∙ (filter-Member (is_live_pair s) (pairs s) q m).passes);
+listed_pairs s has pooled = ordered_is pair_cmp pairs_total pair_tie (keys s.table) (filter (is_live_pair s) (pairs s)) (keys-IsRising pair_cmp s.table) (record {
+  onto = λ q m. let live : is_live_pair s q ≡ true = sym (has q) ∙ contains_key-keys s.table q ∙ member_any pair_cmp pairs_total pair_tie q (keys s.table) m in Member-filter (is_live_pair s) (pairs s) q (pair_listed s pooled q live) live;
+  back = λ q m. key_Member pair_cmp pairs_total pair_tie s.table q (has q ∙ (filter-Member (is_live_pair s) (pairs s) q m).passes);
 })
-  where
-    tie : (x y : Pair) → eq_by_cmp pair_cmp x y ≡ true → x ≡ y
-    tie = same_from_tie pair_cmp pair_cmp-IsAntisymmetric
 
 pub pairs_are_live : PairsAreLive
 pairs_are_live s sound pooled = listed_pairs s sound.pairs pooled
@@ -217,23 +211,20 @@ sums_within f test xs =
 among : (ks xs : List Pair) → IsRising is_pair_before ks → IsRising is_pair_before xs → ((pair : Pair) → Member pair ks → Member pair xs) → ks ≡ filter (λ pair. list_any (eq_by_cmp pair_cmp pair) ks) xs
 among ks xs rising all stand =
     rising_unique (before pair_cmp) (before_itself pair_cmp pairs_total) (before_trans pair_cmp pairs_total) ks (filter stands xs) rising (filter-IsRising (before pair_cmp) stands xs all) (record {
-      onto = λ pair m. Member-filter stands xs pair (stand pair m) (member_any pair_cmp pairs_total tie pair ks m);
-      back = λ pair m. any_member pair_cmp pairs_total tie pair ks (filter-Member stands xs pair m).passes;
+      onto = λ pair m. Member-filter stands xs pair (stand pair m) (member_any pair_cmp pairs_total pair_tie pair ks m);
+      back = λ pair m. any_member pair_cmp pairs_total pair_tie pair ks (filter-Member stands xs pair m).passes;
     })
   where
-    tie : (x y : Pair) → eq_by_cmp pair_cmp x y ≡ true → x ≡ y
-    tie = same_from_tie pair_cmp pair_cmp-IsAntisymmetric
-
     stands : Pair → Bool
     stands pair = list_any (eq_by_cmp pair_cmp pair) ks
 
 -- the live pairs rise, and each stands among them
 pub live_rise : (s : State) → IsRising is_pair_before (live_pairs s)
-live_rise s = ordered_rises pair_cmp pairs_total (same_from_tie pair_cmp pair_cmp-IsAntisymmetric) (filter (is_live_pair s) (pairs s))
+live_rise s = ordered_rises pair_cmp pairs_total pair_tie (filter (is_live_pair s) (pairs s))
 
 pub live_Member : (s : State) → TagsArePooled s → (pair : Pair) → is_live_pair s pair ≡ true → Member pair (live_pairs s)
 live_Member s pooled pair live =
-    (ordered_same pair_cmp pairs_total (same_from_tie pair_cmp pair_cmp-IsAntisymmetric) (filter (is_live_pair s) (pairs s))).back pair
+    (ordered_same pair_cmp pairs_total pair_tie (filter (is_live_pair s) (pairs s))).back pair
     (Member-filter (is_live_pair s) (pairs s) pair (pair_listed s pooled pair live) live)
 
 pub numbers_fit_cells : NumbersFitCells

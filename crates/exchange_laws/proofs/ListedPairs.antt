@@ -18,14 +18,11 @@ use Rattle.exchange_laws.specs.Rules.{is_new}
 use Rattle.net_types.proofs.OrderLemmas.{pairs_total}
 use Rattle.net_types.proofs.RisingLemmas.{Member-filter, before, before_itself, before_trans, filter-IsRising, filter-Member, keys-IsRising}
 use Rattle.net_types.proofs.SetLemmas.{rising_unique, union-map}
-use Rattle.net_types.proofs.TieLemmas.{pair_cmp-IsAntisymmetric, same_from_tie}
+use Rattle.net_types.proofs.TieLemmas.{pair_cmp-IsAntisymmetric, same_from_tie, pair_tie}
 use Rattle.net_types.specs.Keys.{pair_cmp}
 use Rattle.net_types.specs.Sets.{IsRising, Member, union_over}
 use Rattle.net_types.specs.declared.rule.Pair.{Pair}
 use Rattle.net_types.specs.declared.rule.Rule.{Rule}
-
-tie : (x y : Pair) → eq_by_cmp pair_cmp x y ≡ true → x ≡ y
-tie = same_from_tie pair_cmp pair_cmp-IsAntisymmetric
 
 dead : (b : Bool) → (not b || false) ≡ true → b ≡ false
 dead true e = absurd (cc)
@@ -38,11 +35,11 @@ gone_are_dropped s s1 is_rebuilt ks has has1 are = rising_unique (before pair_cm
     (filter-IsRising (before pair_cmp) (λ pair. is_none (get s1.table pair) || is_rebuilt pair) (keys s.table) (keys-IsRising pair_cmp s.table)) are.rising (record {
       onto = λ pair m.
           let left = filter-Member (λ k. is_none (get s1.table k) || is_rebuilt k) (keys s.table) pair m in
-          are.all pair (and_from (is_live_pair s pair) (is_new s1 is_rebuilt pair) (sym (has pair) ∙ contains_key-keys s.table pair ∙ member_any pair_cmp pairs_total tie pair (keys s.table) left.stands)
+          are.all pair (and_from (is_live_pair s pair) (is_new s1 is_rebuilt pair) (sym (has pair) ∙ contains_key-keys s.table pair ∙ member_any pair_cmp pairs_total pair_tie pair (keys s.table) left.stands)
           (sym (absent_new s1 is_rebuilt has1 pair) ∙ left.passes));
       back = λ pair m.
           let each = and_parts (is_live_pair s pair) (is_new s1 is_rebuilt pair) (are.each pair m) in
-          Member-filter (λ k. is_none (get s1.table k) || is_rebuilt k) (keys s.table) pair (key_Member pair_cmp pairs_total tie s.table pair (has pair ∙ each.0)) (absent_new s1 is_rebuilt has1 pair ∙ each.1);
+          Member-filter (λ k. is_none (get s1.table k) || is_rebuilt k) (keys s.table) pair (key_Member pair_cmp pairs_total pair_tie s.table pair (has pair ∙ each.0)) (absent_new s1 is_rebuilt has1 pair ∙ each.1);
     })
 
 -- where no pair is built anew, the rules go of those that are live no more
@@ -99,10 +96,10 @@ module _ (s s1 : State) (is_rebuilt : Pair → Bool) (ks : List Pair) (rules : P
 
       by : (b : Bool) → list_any (eq_by_cmp pair_cmp q) ks ≡ b → cond (is_added q) (get s1.table q) None ≡ cond b (Some (rules q)) None
       by true is =
-          let m : Member q ks = any_member pair_cmp pairs_total tie q ks is in
+          let m : Member q ks = any_member pair_cmp pairs_total pair_tie q ks is in
           let new = and_parts (is_live_pair s1 q) (is_new s is_rebuilt q) (are.each q m) in
           ap (λ b. cond b (get s1.table q) None) (absent_new s is_rebuilt has q ∙ new.1) ∙ those q m
-      by false is = nothing (is_added q) (get s1.table q) refl refl (λ m. clash (member_any pair_cmp pairs_total tie q ks m) is)
+      by false is = nothing (is_added q) (get s1.table q) refl refl (λ m. clash (member_any pair_cmp pairs_total pair_tie q ks m) is)
 
   new_entries : where_key pair_cmp is_added (entries s1.table) ≡ map (λ pair. let e : Pair × List Rule = (pair, rules pair) in e) ks
   new_entries = same_entries pair_cmp pairs_total pair_cmp-IsAntisymmetric (where_key pair_cmp is_added (entries s1.table)) (map (λ pair. let e : Pair × List Rule = (pair, rules pair) in e) ks)

@@ -3,7 +3,7 @@ use Rattle.std.proofs.Common.{◌≡◌, ℕ, ◌<◌, ◌⊎◌, Bool, true, fa
 use Rattle.std.specs.Prelude.{Option, Some, None, Result, Ok, Err}
 use Rattle.std.specs.FinMap.{FinMap, get, get-insert, get-remove, insert, remove}
 use Rattle.std.specs.Ordering.{eq_by_cmp}
-use Rattle.std.proofs.lemmas.Bool.{and_parts, ltb-false}
+use Rattle.std.proofs.lemmas.Bool.{and_parts, ltb-false, not-false}
 use Rattle.events.proofs.Reached.{declared_pid, set_length}
 use Rattle.events.specs.After.{after, bound_read, ruled, updated, with_known, with_rules, with_update, without_from}
 use Rattle.events.specs.Refusals.{attrs_refusal, bound_refusal, has_next_hop, if_known, is_placed, or_else, refusal, refusal_in_place, rules_refusal, suits_job, tags_refusal, text_refusal, refused_if, update_refusal}
@@ -19,7 +19,7 @@ use Rattle.exchange_laws.specs.Fresh.{HasEnoughTags}
 use Rattle.exchange_laws.specs.Rerouting.{is_rerouting}
 use Rattle.exchange_laws.specs.Rules.{IsDeclaredAlike}
 use Rattle.net_types.proofs.OrderLemmas.{routes_total}
-use Rattle.net_types.proofs.TieLemmas.{route_cmp-IsAntisymmetric, same_from_tie}
+use Rattle.net_types.proofs.TieLemmas.{route_cmp-IsAntisymmetric, same_from_tie, route_tie}
 use Rattle.net_types.specs.Changes.{announced_by, announced_with, withdrawn}
 use Rattle.net_types.specs.Changes as changes
 use Rattle.net_types.specs.ExportReading.{rules_of_text}
@@ -68,9 +68,6 @@ enough_tags s r e = ltb-false (length (free_tags s)) (length (groups s r)) (not_
 abbrev RoutesOf : Type 0
 RoutesOf = FinMap route_cmp Attrs
 
-tie : (x y : RouteKey) → eq_by_cmp route_cmp x y ≡ true → x ≡ y
-tie = same_from_tie route_cmp route_cmp-IsAntisymmetric
-
 -- a route that stays was there
 pub still_there : (from : Pid) (ps : List Prefix) (m : RoutesOf) (k : RouteKey) (a : Attrs) → get (withdrawn from ps m) k ≡ Some a → get m k ≡ Some a
 still_there from [] m k a e = e
@@ -93,7 +90,7 @@ set_or_there from attrs (p ∷ ps) m k a e =
     ]
   where
     by : (b : Bool) → eq_by_cmp route_cmp k (record { from = from; prefix = p }) ≡ b → cond b (Some attrs) (get m k) ≡ Some a → (get m k ≡ Some a) ⊎ ((k.from ≡ from) × (attrs ≡ a))
-    by true is e = inr (ap (λ (x : RouteKey). x.from) (tie k (record { from = from; prefix = p }) is), some_of attrs a e)
+    by true is e = inr (ap (λ (x : RouteKey). x.from) (route_tie k (record { from = from; prefix = p }) is), some_of attrs a e)
     by false is e = inl e
 
 updated_from : (from : Pid) (u : Message) (m : RoutesOf) (k : RouteKey) (a : Attrs) → get (changes.updated from u m) k ≡ Some a → (get m k ≡ Some a) ⊎ ((k.from ≡ from) × (u.attrs ≡ Some a))
@@ -157,12 +154,8 @@ update_case s name bytes who declared (Ok u) read none =
       ];
     }
   where
-    turned : (b : Bool) → not b ≡ false → b ≡ true
-    turned true e = refl
-    turned false e = cc
-
     hop : (a : Attrs) → attrs_refusal s who (Some a) ≡ None → has_next_hop s who a.next_hop ≡ true
-    hop a none = turned (has_next_hop s who a.next_hop) (not_stopped (not (has_next_hop s who a.next_hop)) NextHop (neither _ (refused_if (not (has_next_hop s who a.next_hop)) NextHop) none).1)
+    hop a none = not-false (has_next_hop s who a.next_hop) (not_stopped (not (has_next_hop s who a.next_hop)) NextHop (neither _ (refused_if (not (has_next_hop s who a.next_hop)) NextHop) none).1)
 
 export_case : (s : State) (name text : List ℕ) (who : Pid) → pid_of s.routing name ≡ Some who → (o : Result (List NamedRule) ℕ) → rules_of_text text ≡ o → rules_refusal s who o ≡ None → Rerouted s (Export name text)
 export_case s name text who declared (Err at) read none = absurd (cc)

@@ -4,7 +4,7 @@ use Rattle.std.specs.Prelude.{Option, Some, None, is_some}
 use Rattle.std.specs.FinMap.{get, values}
 use Rattle.std.specs.List.{list_any}
 use Rattle.std.specs.Option.{option_and_then, option_map_or}
-use Rattle.std.proofs.lemmas.Bool.{false_from_ne_true, or_cases, or_left, or_right}
+use Rattle.std.proofs.lemmas.Bool.{false_from_ne_true, or_cases, or_left, or_right, not-false}
 use Rattle.events.specs.State.{State}
 use Rattle.events.specs.Tags.{Group, fresh_tag, group_of, group_with, groups, is_carried, is_changed, is_live, kept_signature, new_tag, retagged, same_tag, tags, tells}
 use Rattle.exchange_laws.proofs.FreshTags.{carried_announced, changed_have_fresh, fresh_free, group_listed, one_group}
@@ -51,12 +51,8 @@ record IsUnchanged (s : State) (r : Routing) (p : Prefix) : Type 0 where
   kept : get s.kept tag ≡ Some (signature r p)
 
 unchanged : (s : State) (r : Routing) (p : Prefix) → is_changed s r p ≡ false → IsUnchanged s r p
-unchanged s r p same = by (get s.tag p) refl ((signatures_test (option_and_then (get s.kept) (get s.tag p)) (Some (signature r p))).0 (turned _ same))
+unchanged s r p same = by (get s.tag p) refl ((signatures_test (option_and_then (get s.kept) (get s.tag p)) (Some (signature r p))).0 (not-false _ same))
   where
-    turned : (b : Bool) → not b ≡ false → b ≡ true
-    turned true e = refl
-    turned false e = cc
-
     by : (o : Option Tag) → get s.tag p ≡ o → option_and_then (get s.kept) o ≡ Some (signature r p) → IsUnchanged s r p
     by None is kept = absurd (cc)
     by (Some t) is kept = record { tag = t; tagged = is; kept = kept }

@@ -34,7 +34,7 @@ use Rattle.net_types.proofs.OrderLemmas.{tags_total}
 use Rattle.net_types.proofs.OrderedLemmas.{ordered_rises, ordered_same}
 use Rattle.net_types.proofs.PassLemmas.{some_there}
 use Rattle.net_types.proofs.RisingLemmas.{before, filter-IsRising, filter-Member}
-use Rattle.net_types.proofs.SetLemmas.{Member-map, map-Member}
+use Rattle.net_types.proofs.SetLemmas.{Member-map, map-Member, given_by}
 use Rattle.net_types.specs.Keys.{prefix_cmp, tag_cmp}
 use Rattle.net_types.specs.Maps.{ordered}
 use Rattle.net_types.specs.Routes.{announced}
@@ -47,7 +47,6 @@ use Rattle.prefix_classes.proofs.MergeLemmas.{only_moved}
 use Rattle.prefix_classes.proofs.TabulatedLemmas.{merged_tabulated}
 use Rattle.prefix_classes.specs.MergeLaws.{HaveSignatures}
 use Rattle.prefix_classes.specs.Merging.{IsMergeOf, moved}
-use Rattle.run_laws.proofs.Sharing.{given_by}
 
 -- moves in order are changes in order
 changes_rise : (ms : List (Prefix × Tag)) → IsRising is_before (map (λ m. m.0) ms) → IsRising is_change_before (map told_change ms)

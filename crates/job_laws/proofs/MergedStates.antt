@@ -29,7 +29,7 @@ use Rattle.net_types.specs.declared.prefix.Prefix.{Prefix}
 use Rattle.net_types.specs.declared.route.Part.{Part}
 use Rattle.net_types.specs.declared.route.PortInfo.{PortInfo}
 use Rattle.net_types.specs.declared.rule.Pair.{Pair}
-use Rattle.run_laws.proofs.Sharing.{given_by}
+use Rattle.net_types.proofs.SetLemmas.{given_by}
 
 -- ---- best routes
 

@@ -28,7 +28,7 @@ use Rattle.net_types.specs.Sets.{IsRising, Member}
 use Rattle.net_types.specs.Signatures.{signature}
 use Rattle.net_types.specs.declared.address.Tag.{Tag}
 use Rattle.net_types.specs.declared.prefix.Prefix.{Prefix}
-use Rattle.run_laws.proofs.Sharing.{given_by}
+use Rattle.net_types.proofs.SetLemmas.{given_by}
 
 -- ---- lists
 

@@ -9,12 +9,7 @@ use Rattle.std.specs.declared.cmp.Ordering.TheVariants.{Less, Equal, Greater}
 use Rattle.std.proofs.lemmas.Bool.{and_from, and_parts}
 use Rattle.std.proofs.lemmas.List.Sums.{sum_by-cons}
 use Rattle.net_types.proofs.PlaceLemmas.{without}
-use Rattle.net_types.proofs.TieLemmas.{tie_Equal}
-
-less : (r : Ordering) → is_lt r ≡ true → r ≡ Less
-less Less e = refl
-less Equal e = cc
-less Greater e = cc
+use Rattle.net_types.proofs.TieLemmas.{tie_Equal, less}
 
 pub sum-values : {K X : Type 0} (f : X → ℕ) (es : List (K × X)) → sum_by f (map (λ (e : K × X). e.1) es) ≡ sum_by (λ (e : K × X). f e.1) es
 sum-values f [] = refl

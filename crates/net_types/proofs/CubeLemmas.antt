@@ -13,16 +13,9 @@ use Rattle.net_types.specs.Prefixes.{any_prefix, covers, lies_within, meet_prefi
 use Rattle.net_types.specs.Headers.{apply, IsValid}
 use Rattle.net_types.specs.Cubes.{IsInRange, agrees, port_is, same_port, has, everything, cube_of, meet_values, meet_cubes, pull_value, pull_prefix, pull_cube, within_values, lies_within_cube}
 use Rattle.net_types.proofs.PrefixLemmas.{covers_option, covers-meet, same_bits_refl, within-covers, prefix_apart, prefix_antisym}
+use Rattle.std.proofs.Math.Bool.{and-false, and-true}
 
 -- ---- tests
-
-and_false : (x : Bool) → (x && false) ≡ false
-and_false true = refl
-and_false false = refl
-
-pub and_true : (x : Bool) → (x && true) ≡ x
-and_true true = refl
-and_true false = refl
 
 and_idem : (x : Bool) → (x && x) ≡ x
 and_idem true = refl
@@ -44,7 +37,7 @@ agrees_option fits (Some wanted) x = agrees fits wanted x
 -- what agrees with the meet agrees with both
 values-meet : {A X : Type 0} (same : A → A → Bool) (fits : A → X → Bool) → ((v w : A) → same v w ≡ true → v ≡ w) → ((v w : A) (x : X) → fits v x ≡ true → fits w x ≡ true → same v w ≡ true) → (a b : Option A) (x : X) → agrees_option fits (meet_values same a b) x ≡ (agrees fits a x && agrees fits b x)
 values-meet same fits exact joint None b x = refl
-values-meet same fits exact joint (Some v) None x = sym (and_true (fits v x))
+values-meet same fits exact joint (Some v) None x = sym (and-true (fits v x))
 values-meet same fits exact joint (Some v) (Some w) x = elim (cases_Bool (same v w)) [
   | inl equal ↦ ap (λ t. agrees_option fits (cond t (Some (Some v)) None) x) equal ∙ sym (and_idem (fits v x)) ∙ ap (λ u. fits v x && fits u x) (exact v w equal)
   | inr other ↦ ap (λ t. agrees_option fits (cond t (Some (Some v)) None) x) other ∙ sym (false_from_ne_true _ (λ both.
@@ -78,11 +71,11 @@ has_option (Some c) h = has c h
 has-cube_of : (inport : Option (Option PortNo)) (src dst : Option Prefix) (proto sport dport : Option (Option ℕ)) (h : Headers) → has_option (cube_of inport src dst proto sport dport) h ≡ (agrees_option same_port inport h.inport && (covers_option src h.src && (covers_option dst h.dst && (agrees_option eqb proto h.proto && (agrees_option port_is sport h.sport && agrees_option port_is dport h.dport)))))
 unfolding has
 has-cube_of None src dst proto sport dport h = refl
-has-cube_of (Some i) None dst proto sport dport h = sym (and_false _)
-has-cube_of (Some i) (Some s) None proto sport dport h = simp and_false
-has-cube_of (Some i) (Some s) (Some d) None sport dport h = simp and_false
-has-cube_of (Some i) (Some s) (Some d) (Some p) None dport h = simp and_false
-has-cube_of (Some i) (Some s) (Some d) (Some p) (Some sp) None h = simp and_false
+has-cube_of (Some i) None dst proto sport dport h = sym (and-false _)
+has-cube_of (Some i) (Some s) None proto sport dport h = simp and-false
+has-cube_of (Some i) (Some s) (Some d) None sport dport h = simp and-false
+has-cube_of (Some i) (Some s) (Some d) (Some p) None dport h = simp and-false
+has-cube_of (Some i) (Some s) (Some d) (Some p) (Some sp) None h = simp and-false
 has-cube_of (Some i) (Some s) (Some d) (Some p) (Some sp) (Some dp) h = refl
 
 interchange6 : (a b c d e f a' b' c' d' e' f' : Bool) → ((a && a') && ((b && b') && ((c && c') && ((d && d') && ((e && e') && (f && f')))))) ≡ ((a && (b && (c && (d && (e && f))))) && (a' && (b' && (c' && (d' && (e' && f'))))))
@@ -412,7 +405,7 @@ pub meet_comm : (a b : Cube) → meet_cubes a b ≡ meet_cubes b a
 meet_comm a b = option_ext _ _ (λ h. has-meet a b h ∙ and_swap (has a h) (has b h) ∙ sym (has-meet b a h))
 
 pub meet-everything : (a : Cube) → meet_cubes a everything ≡ Some a
-meet-everything a = option_ext _ (Some a) (λ h. has-meet a everything h ∙ ap (λ t. has a h && t) (has-everything h) ∙ and_true (has a h))
+meet-everything a = option_ext _ (Some a) (λ h. has-meet a everything h ∙ ap (λ t. has a h && t) (has-everything h) ∙ and-true (has a h))
 
 pub meet_same : (a : Cube) → meet_cubes a a ≡ Some a
 meet_same a = option_ext _ (Some a) (λ h. has-meet a a h ∙ and_idem (has a h))

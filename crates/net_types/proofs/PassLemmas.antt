@@ -8,19 +8,16 @@ use Rattle.std.proofs.lemmas.List.Sorted.{sum_by-IsPermutation}
 use Rattle.std.proofs.lemmas.List.Sums.{sum_by-cons}
 use Rattle.net_types.specs.Routes.{numbers}
 use Rattle.net_types.specs.Sets.{Member}
+use Rattle.std.proofs.Math.Bool.{or-false}
 
 -- ---- one member more
-
-or_false : (b : Bool) → (b || false) ≡ b
-or_false true = refl
-or_false false = refl
 
 or_more : (a b c : Bool) → (a || (b || c)) ≡ ((a || b) || c)
 or_more true b c = refl
 or_more false b c = refl
 
 pub any_more : {A : Type 0} (f : A → Bool) (xs : List A) (x : A) → list_any f (xs ++ x ∷ []) ≡ (list_any f xs || f x)
-any_more f [] x = or_false (f x)
+any_more f [] x = or-false (f x)
 any_more f (y ∷ xs) x = ap (λ b. f y || b) (any_more f xs x) ∙ or_more (f y) (list_any f xs) (f x)
 
 not_there : {A : Type 0} (y : A) → None ≡ Some y → ⊥

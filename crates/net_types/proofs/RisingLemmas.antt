@@ -8,10 +8,12 @@ use Rattle.std.specs.List.Sorted.{IsSortedBy}
 use Rattle.std.specs.Ordering.{eq_by_cmp, is_eq, is_lt, ordering_reverse}
 use Rattle.std.specs.declared.cmp.Ordering.{Ordering}
 use Rattle.std.specs.declared.cmp.Ordering.TheVariants.{Less, Equal, Greater}
-use Rattle.std.proofs.lemmas.Bool.{and_parts, false≢true}
+use Rattle.std.proofs.lemmas.Bool.{and_parts, false≢true, not-true}
 use Rattle.std.proofs.lemmas.Cmp.{tied_itself}
 use Rattle.std.proofs.lemmas.List.Sums.{sum_by-cons}
 use Rattle.net_types.specs.Sets.{Member, IsRising}
+use Rattle.net_types.proofs.TieLemmas.{less}
+use Rattle.net_types.proofs.TestLemmas.{shown}
 
 -- ---- filters
 
@@ -52,11 +54,6 @@ filter-IsRising below test (x ∷ xs) r = rising_case below test x xs (test x) r
 abbrev pub before : {K : Type 0} → (K → K → Ordering) → K → K → Bool
 before R x y = is_lt (R x y)
 
-less : (r : Ordering) → is_lt r ≡ true → r ≡ Less
-less Less e = refl
-less Equal e = cc
-less Greater e = cc
-
 pub before_itself : {K : Type 0} (R : K → K → Ordering) → IsTotalOrder R → (x : K) → before R x x ≡ true → ⊥
 before_itself R o x e = false≢true (sym (ap is_lt (tied_itself o x)) ∙ e)
 
@@ -64,10 +61,6 @@ pub before_trans : {K : Type 0} (R : K → K → Ordering) → IsTotalOrder R �
 before_trans R o x y z e f = ap is_lt (o.trans x y z (less (R x y) e) (less (R y z) f))
 
 -- ---- the keys of a map
-
-holds : (b : Bool) → T b → b ≡ true
-holds true h = refl
-holds false h = absurd h
 
 below_each : {K X : Type 0} (R : K → K → Ordering) (x : K) (es : List (K × X)) → below_all R x es ≡ true → (y : K) → Member y (map (λ (e : K × X). e.0) es) → before R x y ≡ true
 below_each R x [] h y m = elim m [ ]
@@ -81,17 +74,13 @@ entries_rise R (e ∷ es) h =
     (below_each R e.0 es parts.0, entries_rise R es parts.1)
 
 pub keys-IsRising : {K X : Type 0} (R : K → K → Ordering) (m : FinMap R X) → IsRising (before R) (keys m)
-keys-IsRising R m = entries_rise R (entries m) (holds (is_sorted R (entries m)) (entries_sorted m))
+keys-IsRising R m = entries_rise R (entries m) (shown (is_sorted R (entries m)) (entries_sorted m))
 
 -- ---- sorted lists
 
 -- no key is before an earlier one
 abbrev not_back : {K : Type 0} → (K → K → Ordering) → K → K → Bool
 not_back R x y = not (is_lt (R y x))
-
-not_true : (b : Bool) → not b ≡ true → b ≡ false
-not_true true e = cc
-not_true false e = refl
 
 turned : (r s : Ordering) → r ≡ ordering_reverse s → is_lt r ≡ false → (s ≡ Less) ⊎ (r ≡ Equal)
 turned Less s e f = cc
@@ -104,9 +93,9 @@ turned Greater Greater e f = cc
 not_back_trans : {K : Type 0} (R : K → K → Ordering) → IsTotalOrder R → (x y z : K) → not_back R x y ≡ true → not_back R y z ≡ true → not_back R x z ≡ true
 not_back_trans R o x y z e f = elim (is_lt (R z x)) as (λ b. is_lt (R z x) ≡ b → not b ≡ true) [
   | false ↦ λ t. refl
-  | true ↦ λ t. elim (turned (R z y) (R y z) (o.antisymm z y) (not_true (is_lt (R z y)) f)) [
-    | inl up ↦ absurd (false≢true (sym (not_true (is_lt (R y x)) e) ∙ ap is_lt (o.trans y z x up (less (R z x) t))))
-    | inr level ↦ absurd (false≢true (sym (not_true (is_lt (R y x)) e) ∙ ap is_lt (sym (o.congr z y x level)) ∙ t))
+  | true ↦ λ t. elim (turned (R z y) (R y z) (o.antisymm z y) (not-true (is_lt (R z y)) f)) [
+    | inl up ↦ absurd (false≢true (sym (not-true (is_lt (R y x)) e) ∙ ap is_lt (o.trans y z x up (less (R z x) t))))
+    | inr level ↦ absurd (false≢true (sym (not-true (is_lt (R y x)) e) ∙ ap is_lt (sym (o.congr z y x level)) ∙ t))
   ]
 ] refl
 
@@ -149,7 +138,7 @@ module _ {A K : Type 0} (R : K → K → Ordering) (o : IsTotalOrder R) (key : A
   strictly : (x : A) (xs : List A) (y : K) → Member y (map key xs) → not_back R (key x) y ≡ true → count (key x) (x ∷ xs) ≤ 1 → before R (key x) y ≡ true
   strictly x xs y m e once =
       let f : A → ℕ = λ z. cond (eq_by_cmp R (key x) (key z)) 1 0 in
-      elim (turned (R y (key x)) (R (key x) y) (o.antisymm y (key x)) (not_true (is_lt (R y (key x))) e)) [
+      elim (turned (R y (key x)) (R (key x) y) (o.antisymm y (key x)) (not-true (is_lt (R y (key x))) e)) [
         | inl up ↦ ap is_lt up
         | inr level ↦
             let here : f x ≡ 1 = ap (λ r. let one : ℕ = cond (is_eq r) 1 0 in one) (tied_itself o (key x)) in

@@ -7,8 +7,15 @@ use Rattle.std.specs.declared.cmp.Ordering.{Ordering}
 use Rattle.std.specs.declared.cmp.Ordering.TheVariants.{Less, Equal, Greater}
 use Rattle.std.proofs.lemmas.Bool.{false≢true}
 use Rattle.std.proofs.lemmas.Cmp.{tied_itself}
-use Rattle.net_types.specs.Keys.{prefix_cmp, tag_cmp, pair_cmp, route_cmp, ip_cmp}
+use Rattle.net_types.specs.Keys.{RouteKey, prefix_cmp, tag_cmp, pair_cmp, route_cmp, ip_cmp}
+use Rattle.net_types.specs.declared.address.Tag.{Tag}
+use Rattle.net_types.specs.declared.rule.Pair.{Pair}
 use Rattle.net_types.proofs.PrefixLemmas.{prefix_ext}
+
+pub less : (r : Ordering) → is_lt r ≡ true → r ≡ Less
+less Less e = refl
+less Equal e = cc
+less Greater e = cc
 
 pub tie_Equal : (r : Ordering) → is_eq r ≡ true → r ≡ Equal
 tie_Equal Less e = cc
@@ -65,6 +72,18 @@ route_cmp-IsAntisymmetric a b e = λ i. record {
 
 pub same_from_tie : {K : Type 0} (R : K → K → Ordering) → IsAntisymmetric R → (x y : K) → eq_by_cmp R x y ≡ true → x ≡ y
 same_from_tie R same x y e = same x y (tie_Equal (R x y) e)
+
+-- tags that tie are equal
+pub tag_tie : (t u : Tag) → eq_by_cmp tag_cmp t u ≡ true → t ≡ u
+tag_tie = same_from_tie tag_cmp tag_cmp-IsAntisymmetric
+
+-- pairs that tie are equal
+pub pair_tie : (p q : Pair) → eq_by_cmp pair_cmp p q ≡ true → p ≡ q
+pair_tie = same_from_tie pair_cmp pair_cmp-IsAntisymmetric
+
+-- a participant's routes for prefixes that tie are for the same one, of the same participant
+pub route_tie : (a b : RouteKey) → eq_by_cmp route_cmp a b ≡ true → a ≡ b
+route_tie = same_from_tie route_cmp route_cmp-IsAntisymmetric
 
 pub ties_itself : {K : Type 0} {R : K → K → Ordering} → IsTotalOrder R → (x : K) → eq_by_cmp R x x ≡ true
 ties_itself o x = ap is_eq (tied_itself o x)

@@ -28,22 +28,9 @@ use Rattle.prefix_classes.proofs.MemberLemmas.{has_member, some_member}
 use Rattle.prefix_classes.proofs.MergeLemmas.{has_least, is_used, unmoved, used_is, no_move, some_is}
 use Rattle.prefix_classes.specs.MergeLaws.{HaveSignatures, least_tag}
 use Rattle.prefix_classes.specs.Merging.{IsLeastTag, IsMergeOf, moved, used_sig}
+use Rattle.net_types.proofs.SetLemmas.{given_by}
 
 -- ---- what a list gives through a function that may give nothing
-
-record IsGivenBy {A B : Type 0} (f : A → Option B) (xs : List A) (y : B) : Type 0 where
-  pub source : A
-  pub stands : Member source xs
-  pub is : f source ≡ Some y
-
-given_by : {A B : Type 0} (f : A → Option B) (xs : List A) (y : B) → Member y (filter_map f xs) → IsGivenBy f xs y
-given_by f [] y m = elim m [ ]
-given_by {A} {B} f (x ∷ xs) y m = by (f x) refl m (λ later. (let from = given_by f xs y later in record { source = from.source; stands = inr from.stands; is = from.is }))
-  where
-    by : (o : Option B) → f x ≡ o → Member y (cons_option o (filter_map f xs)) → (Member y (filter_map f xs) → IsGivenBy f (x ∷ xs) y) → IsGivenBy f (x ∷ xs) y
-    by None e stands later = later stands
-    by (Some z) e (inl same) later = record { source = x; stands = inl refl; is = e ∙ ap Some (sym same) }
-    by (Some z) e (inr stands) later = later stands
 
 -- the first of rising tags is the least
 first_least : (ts : List Tag) (t : Tag) → IsRising (before tag_cmp) ts → Member t ts → ((u : Tag) → Member u ts → t.0 ≤ u.0) → first_of_list ts ≡ Some t

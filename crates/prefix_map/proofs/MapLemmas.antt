@@ -22,10 +22,7 @@ use Rattle.prefix_map.specs.declared.trie.Trie.{Trie}
 use Rattle.prefix_map.proofs.LongestLemmas.{longest_key}
 use Rattle.prefix_map.proofs.NodeLemmas.{tied_itself}
 use Rattle.prefix_map.proofs.SortLemmas.{trie_sorted}
-
-holds : (b : Bool) → b ≡ true → T b
-holds true e = tt
-holds false e = cc
+use Rattle.net_types.proofs.TestLemmas.{holds}
 
 -- ---- look-ups and edits, in the words of the map
 

@@ -16,6 +16,7 @@ use Rattle.prefix_map.specs.Tries.{AllKeys}
 use Rattle.prefix_map.proofs.HalfLemmas.{begins}
 use Rattle.prefix_map.proofs.ListLemmas.{all_of, all_append, IsPast, IsBefore, find_past, put_past, without_past, above_past, find_none, put_front, without_none, above_all, find_before, put_before, without_before, above_before}
 use Rattle.prefix_map.proofs.StandLemmas.{low_in, high_in, itself_in, low_after, high_after, low_before_high, low_before, high_before, in_low, in_high, apart_before, apart_after, before_in, before_by_address, turned}
+use Rattle.net_types.proofs.TieLemmas.{less}
 
 -- a prefix's value, and the entries with another value for it and without it
 pub record IsTold {V : Type 0} (q : Prefix) (es : List (Prefix × V)) (value : Option V) (changed : V → List (Prefix × V)) (rest : List (Prefix × V)) : Type 0 where
@@ -138,8 +139,3 @@ none_first (x ∷ l) h e = cc
 pub some_first : {A : Type 0} (l h : List A) (x : A) → first_of_list l ≡ Some x → first_of_list (l ++ h) ≡ Some x
 some_first [] h x e = cc
 some_first (y ∷ l) h x e = e
-
-pub less : (r : Ordering) → is_lt r ≡ true → r ≡ Less
-less Less e = refl
-less Equal e = cc
-less Greater e = cc

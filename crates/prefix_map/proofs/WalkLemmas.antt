@@ -12,7 +12,8 @@ use Rattle.net_types.specs.declared.prefix.Prefix.{Prefix}
 use Rattle.prefix_map.specs.Entries.{above, left_after}
 use Rattle.net_types.specs.Routes.{first_of_list}
 use Rattle.prefix_map.proofs.ListLemmas.{IsBefore, above_all}
-use Rattle.prefix_map.proofs.NodeLemmas.{less, tied_itself}
+use Rattle.net_types.proofs.TieLemmas.{less}
+use Rattle.prefix_map.proofs.NodeLemmas.{tied_itself}
 use Rattle.prefix_map.proofs.StandLemmas.{turned}
 
 same_first : {A : Type 0} (x y : A) → Some x ≡ Some y → x ≡ y

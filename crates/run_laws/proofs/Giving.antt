@@ -37,7 +37,7 @@ use Rattle.net_types.proofs.PassLemmas.{is_some-any, some_there}
 use Rattle.net_types.proofs.PrefixLemmas.{prefix_ext}
 use Rattle.net_types.proofs.RisingLemmas.{Member-filter, filter-Member}
 use Rattle.net_types.proofs.SameLemmas.{nat_itself}
-use Rattle.net_types.proofs.SetLemmas.{Member-append_right, Member-map, map-Member}
+use Rattle.net_types.proofs.SetLemmas.{Member-append_right, Member-map, map-Member, given_by}
 use Rattle.net_types.proofs.TieLemmas.{same_from_tie, tag_cmp-IsAntisymmetric}
 use Rattle.net_types.proofs.ValueLemmas.{any_value}
 use Rattle.net_types.specs.Answers.{is_offered}
@@ -62,7 +62,7 @@ use Rattle.net_types.specs.declared.route.Part.{Part}
 use Rattle.net_types.specs.declared.update.Fault.{Fault}
 use Rattle.net_types.specs.declared.update.Update.{Update as Message}
 use Rattle.run_laws.proofs.Answering.{Kind, answer_is, fresh_dead, kind_of, resolved_is}
-use Rattle.run_laws.proofs.Sharing.{change_of, given_by}
+use Rattle.run_laws.proofs.Sharing.{change_of}
 use Rattle.run_laws.proofs.Taking.{Entries, all_news_at}
 use Rattle.run_laws.specs.Given.{IsGivenIn, IsHeld, KeptOffersWereExported, OffersExporters, given_from, gives}
 

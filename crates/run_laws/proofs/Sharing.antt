@@ -26,7 +26,7 @@ use Rattle.net_types.proofs.OrderedLemmas.{ordered_same}
 use Rattle.net_types.proofs.PassLemmas.{some_there}
 use Rattle.net_types.proofs.RisingLemmas.{filter-Member}
 use Rattle.net_types.proofs.SameLemmas.{nat_itself, option_itself}
-use Rattle.net_types.proofs.SetLemmas.{map-Member}
+use Rattle.net_types.proofs.SetLemmas.{map-Member, given_by}
 use Rattle.net_types.proofs.TieLemmas.{same_from_tie, tag_cmp-IsAntisymmetric}
 use Rattle.net_types.specs.Attributes.{same_option, same_signature}
 use Rattle.net_types.specs.Keys.{prefix_cmp, tag_cmp}
@@ -64,21 +64,6 @@ change_of old new c m =
         let clash : false ≡ true = ap not (sym alike) ∙ apart in cc
 
 -- ---- the end of a job
-
--- a member of what a function gives of some, with what it comes from
-pub record IsGivenBy {A B : Type 0} (f : A → Option B) (xs : List A) (y : B) : Type 0 where
-  pub source : A
-  pub stands : Member source xs
-  pub is : f source ≡ Some y
-
-given_case : {A B : Type 0} (f : A → Option B) (x : A) (xs : List A) (y : B) (o : Option B) → f x ≡ o → Member y (cons_option o (filter_map f xs)) → (Member y (filter_map f xs) → IsGivenBy f xs y) → IsGivenBy f (x ∷ xs) y
-given_case f x xs y None e m later = let from = later m in record { source = from.source; stands = inr from.stands; is = from.is }
-given_case f x xs y (Some z) e (inl same) later = record { source = x; stands = inl refl; is = e ∙ ap Some (sym same) }
-given_case f x xs y (Some z) e (inr m) later = let from = later m in record { source = from.source; stands = inr from.stands; is = from.is }
-
-pub given_by : {A B : Type 0} (f : A → Option B) (xs : List A) (y : B) → Member y (filter_map f xs) → IsGivenBy f xs y
-given_by f [] y m = elim m [ ]
-given_by f (x ∷ xs) y m = given_case f x xs y (f x) refl m (given_by f xs y)
 
 -- where a prefix has a tag after a job, it is the least of its signature
 least_is : (s s1 : State) (p : Prefix) (t : Tag) → s1.tag ≡ (merged s).tag → get s1.tag p ≡ Some t → least_tag s (signature s.routing p) ≡ Some t

@@ -33,6 +33,7 @@ use Rattle.net_types.specs.Sets.{Member}
 use Rattle.net_types.specs.declared.address.Pid.{Pid}
 use Rattle.net_types.specs.declared.prefix.Prefix.{Prefix}
 use Rattle.run_laws.specs.Taking.{TakesTellTheFirst, TellsOf}
+use Rattle.events.proofs.SameEntries.{entry_test, same_attributes}
 
 -- ---- a map with news
 
@@ -67,22 +68,6 @@ all_news_at known told (q ∷ ps) p =
     ∙ either_news (eq_by_cmp prefix_cmp p q) (list_any (eq_by_cmp prefix_cmp p) ps) (get known p) (get told p)
 
 -- ---- what isn't pending
-
-same_attributes : (a b : Entry) → same_attrs a.attrs b.attrs ≡ true → a.attrs ≡ b.attrs
-same_attributes a b e = ap (λ o. unwrap_or o a.attrs) ((optional_test (Some a.attrs) (Some b.attrs)).0 e)
-
-entries_equal : (a b : Entry) → same_entry a b ≡ true → a ≡ b
-entries_equal a b e =
-    let parts = and_parts (same_tag a.tag b.tag) (same_attrs a.attrs b.attrs) e in
-    let attrs : a.attrs ≡ b.attrs = same_attributes a b parts.1 in
-    let tags : a.tag.0 ≡ b.tag.0 = eqb-true a.tag.0 b.tag.0 parts.0 in
-    λ i. record { attrs = attrs i; tag = record { 0 = tags i } }
-
-entry_itself : (e : Entry) → same_entry e e ≡ true
-entry_itself e = and_from (same_tag e.tag e.tag) (same_attrs e.attrs e.attrs) (nat_itself e.tag.0) (attrs_itself e.attrs)
-
-entry_test : IsEqualityTest same_entry
-entry_test = from_itself same_entry entries_equal entry_itself
 
 pub listed : (m : Entries) (p : Prefix) → is_some (get m p) ≡ true → Member p (keys m)
 listed m p there = any_member prefix_cmp prefixes_total prefix_tie p (keys m) (sym (contains_key-keys m p) ∙ there)

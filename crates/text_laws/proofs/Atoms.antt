@@ -11,6 +11,7 @@ use Rattle.net_types.specs.declared.cube.Cube.{Cube}
 use Rattle.net_types.specs.declared.headers.Assign.{Assign}
 use Rattle.net_types.specs.declared.prefix.Prefix.{Prefix}
 use Rattle.text_laws.proofs.Fields.{each_append}
+use Rattle.std.proofs.lemmas.Option.{same_Some}
 
 -- ---- fields
 
@@ -35,9 +36,6 @@ pulled P (Some n) wanted is = by (agrees nat_eq wanted n)
     by : (b : Bool) → Met P (cond b (Some None) None)
     by true = tt
     by false = tt
-
-some_of : {X : Type 0} (x y : X) → Some x ≡ Some y → x ≡ y
-some_of x y e = cc
 
 -- ---- cubes and tests
 
@@ -90,7 +88,7 @@ module _ (ports : PortNo → Type 0) (protos sources targets : ℕ → Type 0) w
 
   made : (i : Option (Option PortNo)) (s d : Option Prefix) (p q r : Option (Option ℕ)) (c : Cube) → Met ports i → Met protos p → Met sources q → Met targets r → cube_of i s d p q r ≡ Some c → P c
   made (Some i) (Some s) (Some d) (Some p) (Some q) (Some r) c one two three four e =
-      subst P (some_of (record { inport = i; src = s; dst = d; proto = p; sport = q; dport = r }) c e) (record { inport = one; proto = two; sport = three; dport = four })
+      subst P (same_Some (record { inport = i; src = s; dst = d; proto = p; sport = q; dport = r }) c e) (record { inport = one; proto = two; sport = three; dport = four })
   made i s d p q r c one two three four e = absurd (cc)
 
   meets : (a b c : Cube) → P a → P b → meet_cubes a b ≡ Some c → P c

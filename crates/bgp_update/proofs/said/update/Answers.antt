@@ -1,11 +1,14 @@
 -- The parts are joined as the value says.
-use Rattle.std.proofs.Common.{List, subst}
-use Rattle.net_types.specs.UpdateSpelling.{IsOrderedWithout}
+use Rattle.std.proofs.Common.{List, subst, sym}
+use Rattle.net_types.specs.UpdateSpelling.{IsOrderedWithout, is_before}
 use Rattle.net_types.specs.declared.prefix.Prefix.{Prefix}
 use Rattle.bgp_update.proofs.Finished.{finished_err, finished_ok, given_at}
 use Rattle.bgp_update.proofs.PrefixLists.{in_order}
-use Rattle.net_types.proofs.OrderLemmas.{prefix_tie}
+use Rattle.net_types.specs.Sets.{IsRising}
 use Rattle.bgp_update.proofs.said.update.Goals as goal
+
+pub without-requires : goal.without-requires
+without-requires c = subst (λ (ps : List Prefix). IsRising is_before ps) (sym c.as_slice.ensures.value) (in_order c.args.announced.items _ c.ascending-announced.ensures).rising
 
 pub returns-in-Ok : goal.returns-in-Ok
 returns-in-Ok c =

@@ -7,7 +7,8 @@ use Rattle.prefix_map.specs.Entries.{entries_of, node_entries, own, above, seen_
 use Rattle.net_types.specs.Routes.{first_of_list}
 use Rattle.prefix_map.specs.Tries.{IsTrie, IsNode}
 use Rattle.prefix_map.specs.declared.trie.Node.{Full}
-use Rattle.prefix_map.proofs.NodeLemmas.{above_before_all, above_low, above_high, none_first, less}
+use Rattle.prefix_map.proofs.NodeLemmas.{above_before_all, above_low, above_high, none_first}
+use Rattle.net_types.proofs.TieLemmas.{less}
 use Rattle.prefix_map.proofs.trie.+next_after.Goals as goal
 
 pub returns-then-is_lt : goal.returns-then-is_lt

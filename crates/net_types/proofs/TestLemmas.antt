@@ -1,0 +1,11 @@
+-- A test that passes, as an equation and as a proposition.
+use Rattle.std.proofs.Common.{◌≡◌, Bool, true, false, refl}
+use Rattle.std.specs.Prelude.{T}
+
+pub holds : (b : Bool) → b ≡ true → T b
+holds true e = tt
+holds false e = cc
+
+pub shown : (b : Bool) → T b → b ≡ true
+shown true h = refl
+shown false h = absurd h
