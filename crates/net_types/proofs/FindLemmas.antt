@@ -1,6 +1,7 @@
 -- What is found in a list, and where a test passes.
 use Rattle.std.proofs.Common.{◌≡◌, ℕ, zero, suc, ◌+◌, Bool, true, false, cond, ◌||◌, List, [], ◌∷◌, ◌<◌, length, map, take, sym, ap, subst, ◌∙◌, refl, arith, inl, inr}
-use Rattle.std.specs.Prelude.{Option, Some, None, is_some, find, slice_get}
+use Rattle.std.specs.Prelude.{Option, Some, None, is_some, find, option_copied, slice_get}
+use Rattle.std.specs.Borrow.{Bor}
 use Rattle.std.specs.List.{list_any, filter_map, cons_option}
 use Rattle.std.proofs.lemmas.Bool.{or_left, or_right}
 use Rattle.net_types.specs.Routes.{numbers}
@@ -75,3 +76,8 @@ pub slice_get_some : {A : Type 0} (xs : List A) (k : ℕ) → k < length xs → 
 slice_get_some [] k h = absurd (omega arith)
 slice_get_some (x ∷ xs) zero h = (x, refl)
 slice_get_some (x ∷ xs) (suc k) h = slice_get_some xs k (omega arith)
+
+-- a value that is lent is there where its copy is
+pub is_some-copied : {A : Type 0} (o : Option (Bor A)) → is_some (option_copied o) ≡ is_some o
+is_some-copied None = refl
+is_some-copied (Some x) = refl

@@ -1,7 +1,6 @@
 -- The tags of a grouping as a map, when one is put in and when the least one of its signature is asked for.
 use Rattle.std.proofs.Common.{◌≡◌, ◌∙◌, ◌≤◌, Bool, true, false, cond, List, sym, ap, refl}
-use Rattle.std.specs.Prelude.{Option, Some, None, is_some, option_copied}
-use Rattle.std.specs.Borrow.{Bor}
+use Rattle.std.specs.Prelude.{Option, Some, None, is_some}
 use Rattle.std.specs.FinMap.{FinMap, from_sorted, get, get-insert, get-remove, insert, remove, same_map}
 use Rattle.std.specs.FinMap.Entries.{find, put, is_sorted}
 use Rattle.std.specs.Ordering.{eq_by_cmp}
@@ -17,10 +16,6 @@ use Rattle.prefix_classes.proofs.LeastLemmas.{key}
 use Rattle.prefix_classes.proofs.PlacedLemmas.{is_sig_itself, put_in, same_sig}
 use Rattle.prefix_classes.specs.Placed.{IsIndexed, IsLeastBeside, placed_cmp}
 use Rattle.prefix_classes.specs.declared.placed.Placed.{Placed}
-
-pub is_some-copied : {A : Type 0} (o : Option (Bor A)) → is_some (option_copied o) ≡ is_some o
-is_some-copied None = refl
-is_some-copied (Some x) = refl
 
 -- ---- a tag is put in
 

@@ -12,10 +12,7 @@ use Rattle.net_types.specs.declared.rule.Pair.{Pair}
 use Rattle.net_types.specs.declared.rule.Rule.{Rule}
 use Rattle.ordered_map.specs.Entries.{without}
 use Rattle.recompile.specs.Underway.{BuiltPairs}
-
-pub is_some-copied : {A : Type 0} (o : Option (Bor A)) → is_some (option_copied o) ≡ is_some o
-is_some-copied None = refl
-is_some-copied (Some x) = refl
+use Rattle.net_types.proofs.FindLemmas.{is_some-copied}
 
 module _ (es : List (Pair × Option (List Rule))) (rises : is_sorted pair_cmp es ≡ true) (m : BuiltPairs) (is : from_sorted es ≡ m) where
   pub found_is : (pair : Pair) → find pair_cmp pair es ≡ get m pair

@@ -3,8 +3,8 @@ use Rattle.std.specs.Prelude.{is_some}
 use Rattle.std.specs.FinMap.{get}
 use Rattle.net_types.proofs.PlaceLemmas.{get_sorted}
 use Rattle.net_types.specs.Keys.{tag_cmp}
-use Rattle.prefix_classes.proofs.GroupingLemmas.{is_some-copied}
 use Rattle.prefix_classes.proofs.grouping.Grouping.has.Goals as goal
+use Rattle.net_types.proofs.FindLemmas.{is_some-copied}
 
 pub returns : goal.returns
 returns c =
