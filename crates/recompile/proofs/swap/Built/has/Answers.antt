@@ -1,7 +1,8 @@
 -- What the entries have of the pair tells.
 use Rattle.std.proofs.Common.{ap, sym, ◌∙◌}
 use Rattle.std.specs.Prelude.{is_some}
-use Rattle.recompile.proofs.BuiltLemmas.{found_is, is_some-copied}
+use Rattle.net_types.proofs.FindLemmas.{is_some-copied}
+use Rattle.recompile.proofs.BuiltLemmas.{found_is}
 use Rattle.recompile.proofs.swap.Built.has.Goals as goal
 
 pub returns : goal.returns
