@@ -155,10 +155,14 @@ address_back a b c d la lb lc ld at =
     octet : (n : ℕ) → n < 256 → (at : ℕ) → (number 0 255).Spells at (decimal n) n
     octet n lt at = decimal_number 0 255 n (omega arith) (omega arith) (omega arith) at
 
+regrouped : (a b c d dot : List ℕ) → a ++ dot ++ b ++ dot ++ c ++ dot ++ d ≡ a ++ (dot ++ (b ++ (dot ++ (c ++ (dot ++ d)))))
+regrouped a b c d dot = append_assoc _ dot d ∙ append_assoc _ c _ ∙ append_assoc _ dot _ ∙ append_assoc _ b _ ∙ append_assoc a dot _
+
 pub ip_back : (ip : ℕ) → ip < 2 ^ 32 → Anywhere address (address_text ip) ip
 ip_back ip lt at =
-    subst (λ (x : ℕ). address.Spells at (address_text ip) x) (omega arith)
-    (address_back (ip / 16777216) (ip / 65536 % 256) (ip / 256 % 256) (ip % 256) (omega arith) (omega arith) (omega arith) (omega arith) at)
+    let back = address_back (ip / 16777216) (ip / 65536 % 256) (ip / 256 % 256) (ip % 256) (omega arith) (omega arith) (omega arith) (omega arith) at in
+    subst (λ (t : List ℕ). address.Spells at t ip) (sym (regrouped (decimal (ip / 16777216)) (decimal (ip / 65536 % 256)) (decimal (ip / 256 % 256)) (decimal (ip % 256)) (codes ".")))
+    (subst (λ (x : ℕ). address.Spells at (decimal (ip / 16777216) ++ (codes "." ++ (decimal (ip / 65536 % 256) ++ (codes "." ++ (decimal (ip / 256 % 256) ++ (codes "." ++ decimal (ip % 256))))))) x) (omega arith) back)
 
 prefix_is : (p : Prefix) → prefix_of p.address.0 p.len ≡ p
 prefix_is p = sym (is_prefix_of p.address.0 p.len p p.short refl (same_bits_refl p.len p.address.0))
