@@ -11,8 +11,8 @@ use Rattle.net_types.specs.Updates.{segment_octets, wide_segment_octets}
 use Rattle.net_types.specs.declared.route.Segment.{Segment}
 use Rattle.net_types.specs.declared.route.Segment.TheVariants.{Set, Sequence}
 use Rattle.bgp_update.proofs.LengthSums.{attribute_length, longs_len, shorts_len}
-use Rattle.bgp_update.proofs.OneUpdate.{some_of}
 use Rattle.bgp_update.proofs.PathLists.{joined_more}
+use Rattle.std.proofs.lemmas.Option.{same_Some}
 
 -- how many octets are written of all
 abbrev pub size : {A : Type 0} → (A → List ℕ) → List A → ℕ
@@ -103,7 +103,7 @@ whole_size path (Some wide) =
 
 pub said_path_size : (o wide : Option (List Segment)) (path : List Segment) → option_map (λ ss. whole_path ss wide) o ≡ Some path → length (path_octets (Some path)) ≤ length (path_octets o) + wide_size wide
 said_path_size None wide path e = absurd cc
-said_path_size (Some ss) wide path e = subst (λ (p : List Segment). length (path_octets (Some p)) ≤ length (path_octets (Some ss)) + wide_size wide) (some_of (whole_path ss wide) path e) (whole_size ss wide)
+said_path_size (Some ss) wide path e = subst (λ (p : List Segment). length (path_octets (Some p)) ≤ length (path_octets (Some ss)) + wide_size wide) (same_Some (whole_path ss wide) path e) (whole_size ss wide)
 
 -- a path counts no more numbers than it is written with octets
 pub hops_size : (path : List Segment) → hops path ≤ size segment_octets path
