@@ -63,7 +63,7 @@ use Rattle.net_types.specs.declared.update.Update.{Update as Message}
 use Rattle.run_laws.proofs.Carried.{written_runs_hold}
 use Rattle.run_laws.proofs.Fitting.{RoutesOf, set_or_there}
 use Rattle.run_laws.proofs.Giving.{found, settled_kept, trimmed_narrower}
-use Rattle.run_laws.proofs.Sharing.{given_by}
+use Rattle.net_types.proofs.SetLemmas.{given_by}
 
 clash : {b : Bool} → b ≡ true → b ≡ false → ⊥
 clash e f = cc
