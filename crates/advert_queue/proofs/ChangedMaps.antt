@@ -9,10 +9,10 @@ use Rattle.events.specs.Pending.{same_entry, with_news}
 use Rattle.events.specs.Tags.{same_tag}
 use Rattle.events.specs.declared.Entry.{Entry}
 use Rattle.net_types.proofs.EqualLemmas.{IsEqualityTest, from_itself, option_test, optional_test}
-use Rattle.net_types.proofs.OrderLemmas.{prefixes_total}
+use Rattle.net_types.proofs.OrderLemmas.{prefixes_total, prefix_tie}
 use Rattle.net_types.proofs.PlaceLemmas.{put_sorted, without_sorted}
 use Rattle.net_types.proofs.SameLemmas.{attrs_itself, nat_itself}
-use Rattle.net_types.proofs.TieLemmas.{prefix_cmp-IsAntisymmetric, same_from_tie, tie_Equal}
+use Rattle.net_types.proofs.TieLemmas.{prefix_cmp-IsAntisymmetric, tie_Equal}
 use Rattle.net_types.specs.Attributes.{same_attrs, same_option}
 use Rattle.net_types.specs.Keys.{prefix_cmp}
 use Rattle.net_types.specs.declared.prefix.Prefix.{Prefix}
@@ -37,9 +37,6 @@ get_with told k None q = get-remove prefixes_total told k q
 get_with told k (Some e) q = get-insert prefixes_total told k e q
 
 -- ---- all of them
-
-pub prefix_same : (x y : Prefix) → eq_by_cmp prefix_cmp x y ≡ true → x ≡ y
-prefix_same = same_from_tie prefix_cmp prefix_cmp-IsAntisymmetric
 
 -- a prefix has its change, or else what was told
 pub get_changed : (told : Told) (cs : List Change) (q : Prefix) → is_sorted prefix_cmp cs ≡ true → get (changed told cs) q ≡ unwrap_or (find prefix_cmp q cs) (get told q)
@@ -85,14 +82,14 @@ module _ (told : Told) (cs : List Change) (k : Prefix) (entry : Option Entry) (s
       ∙ sym (get_with (changed told cs) k entry q))
     where
       by : (q : Prefix) (b : Bool) → eq_by_cmp prefix_cmp q k ≡ b → unwrap_or (cond b None (find prefix_cmp q cs)) (get told q) ≡ cond b entry (unwrap_or (find prefix_cmp q cs) (get told q))
-      by q true tie = ap (get told) (prefix_same q k tie) ∙ was
+      by q true tie = ap (get told) (prefix_tie q k tie) ∙ was
       by q false apart = refl
 
   pub news_put : AreNews told cs → ¬ get told k ≡ entry → AreNews told (put prefix_cmp k entry cs)
   news_put news other p now is = by (eq_by_cmp prefix_cmp p k) refl (sym (find-put prefix_cmp prefixes_total p k entry cs) ∙ is)
     where
       by : (b : Bool) → eq_by_cmp prefix_cmp p k ≡ b → cond b (Some entry) (find prefix_cmp p cs) ≡ Some now → ¬ get told p ≡ now
-      by true tie at same = other (ap (get told) (sym (prefix_same p k tie)) ∙ same ∙ sym (ap (λ o. unwrap_or o entry) at))
+      by true tie at same = other (ap (get told) (sym (prefix_tie p k tie)) ∙ same ∙ sym (ap (λ o. unwrap_or o entry) at))
       by false apart at same = news p now at same
 
   pub news_without : AreNews told cs → AreNews told (without prefix_cmp k cs)

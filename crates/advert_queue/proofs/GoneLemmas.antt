@@ -24,7 +24,7 @@ use Rattle.advert_queue.proofs.EntryLists.{found_itself, map-filter}
 use Rattle.advert_queue.proofs.Fronts.{front_all, front_more}
 use Rattle.advert_queue.proofs.PendingLemmas.{told_among}
 use Rattle.advert_queue.proofs.RisingEntries.{find_below, keys_rise, rising_alike}
-use Rattle.advert_queue.proofs.TakenLemmas.{at_change, taken_member}
+use Rattle.advert_queue.proofs.TakenLemmas.{at_change}
 use Rattle.advert_queue.specs.Changes.{AreNews, Change, changed, tag_in}
 use Rattle.advert_queue.specs.Counts.{AreCounts, IsRecounted, by_side, counted, entry_tag, has_tag, is_told_tag, number, uses, uses_in}
 use Rattle.advert_queue.specs.declared.counts.Side.{Side}
@@ -34,6 +34,7 @@ use Rattle.advert_queue.specs.Leaving.{is_gone, left, none_present}
 use Rattle.advert_queue.specs.Advertised.{is_told}
 use Rattle.advert_queue.specs.Taken.{gone_tags, untold}
 use Rattle.advert_queue.specs.Telling.{tags_of}
+use Rattle.net_types.proofs.FindLemmas.{Member-take}
 
 tag_same : (t u : Tag) → eq_by_cmp tag_cmp t u ≡ true → t ≡ u
 tag_same = same_from_tie tag_cmp tag_cmp-IsAntisymmetric
@@ -152,7 +153,7 @@ module _ (told : Told) (cs : List Change) (sorted : is_sorted prefix_cmp cs ≡ 
   none_comes : (t : Tag) → uses present t ≡ 0 → joined (take count cs) t ≡ 0
   none_comes t none = none_joined (take count cs) t (λ c m.
       let one = uses_one present c.0 t in
-      let same : has_tag t (tag_in (get present c.0)) ≡ has_tag t (tag_in c.1) = ap (λ o. has_tag t (tag_in o)) (at_change told cs sorted news c (taken_member count cs c m)) in
+      let same : has_tag t (tag_in (get present c.0)) ≡ has_tag t (tag_in c.1) = ap (λ o. has_tag t (tag_in o)) (at_change told cs sorted news c (Member-take count cs c m)) in
       omega (arith, one, same, none))
 
   then_uses : (t : Tag) → uses present t ≡ 0 → uses then t + left told (take count cs) t ≡ uses told t

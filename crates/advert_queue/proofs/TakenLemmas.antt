@@ -1,5 +1,5 @@
 -- What is pending is what is news, and what becomes of it when some is told.
-use Rattle.std.proofs.Common.{◌≡◌, ℕ, zero, suc, ◌≤◌, Bool, true, false, not, List, [], ◌∷◌, ◌++◌, map, take, drop, length, sym, ap, subst, ◌∙◌, refl, arith, inl, inr}
+use Rattle.std.proofs.Common.{◌≡◌, ℕ, ◌≤◌, Bool, true, false, not, List, [], ◌∷◌, ◌++◌, map, take, drop, length, sym, ap, subst, ◌∙◌, refl, arith, inl, inr}
 use Rattle.std.specs.Prelude.{Option, Some, None, IfSome, is_some, unwrap_or}
 use Rattle.std.specs.FinMap.{get, keys, contains_key-keys}
 use Rattle.std.specs.FinMap.Entries.{find, is_sorted, is_some-find}
@@ -24,6 +24,7 @@ use Rattle.advert_queue.specs.Advertised.{first_pending, present_at}
 use Rattle.advert_queue.specs.Changes.{AreNews, AreSmall, Change, changed, limited, message_of}
 use Rattle.advert_queue.specs.Taken.{first_of, news_of, told_then}
 use Rattle.advert_queue.specs.Telling.{advert_with, adverts, pending}
+use Rattle.net_types.proofs.FindLemmas.{Member-take}
 
 -- the prefix of a change
 abbrev pub place : Change → Prefix
@@ -45,13 +46,6 @@ first_taken (Some count) xs = sym (take_min count xs)
 pub limited-le : (limit : Option ℕ) (n : ℕ) → limited limit n ≤ n
 limited-le None n = omega arith
 limited-le (Some count) n = omega arith
-
--- what is taken was there
-pub taken_member : {A : Type 0} (count : ℕ) (xs : List A) (x : A) → Member x (take count xs) → Member x xs
-taken_member zero xs x m = elim m [ ]
-taken_member (suc n) [] x m = elim m [ ]
-taken_member (suc n) (y ∷ ys) x (inl e) = inl e
-taken_member (suc n) (y ∷ ys) x (inr m) = inr (taken_member n ys x m)
 
 module _ (told : Told) (cs : List Change) (sorted : is_sorted prefix_cmp cs ≡ true) (news : AreNews told cs) where
   abbrev present : Told
@@ -150,7 +144,7 @@ module _ (told : Told) (cs : List Change) (sorted : is_sorted prefix_cmp cs ≡ 
   told_are (Some count) =
       ap (λ ps. with_all_news present told (take count ps)) pending_news
       ∙ ap (with_all_news present told) (take-map place count cs)
-      ∙ told_each told (take count cs) (λ c m. at_change c (taken_member count cs c m))
+      ∙ told_each told (take count cs) (λ c m. at_change c (Member-take count cs c m))
       ∙ ap (changed told) (sym (take_min count cs))
 
   -- what is present stays where some of it is told

@@ -1,5 +1,5 @@
 -- What is told: the tags in it, and what is pending (this exchange's own rule).
-use Rattle.std.specs.Prelude.{ℕ, ◌+◌, Bool, not, List, ◌++◌, map, filter, Option, Some, None, is_none}
+use Rattle.std.specs.Prelude.{ℕ, not, List, ◌++◌, map, filter, Option, Some, None}
 use Rattle.std.specs.FinMap.{FinMap, get, keys, values}
 use Rattle.events.specs.Pending.{same_entry}
 use Rattle.events.specs.declared.Entry.{Entry}
@@ -28,19 +28,3 @@ advert_with base p (Some entry) = announcement p entry.attrs (address_of base en
 -- what is told of each of these prefixes, in their order
 abbrev pub adverts : Ip → FinMap prefix_cmp Entry → List Prefix → List (List ℕ)
 adverts base present ps = map (λ p. advert_with base p (get present p)) ps
-
--- the prefix of an entry
-abbrev pub entry_key : Prefix × Entry → Prefix
-entry_key e = e.0
-
--- the tag of an entry
-abbrev pub entry_tag : Prefix × Entry → Tag
-entry_tag e = e.1.tag
-
--- the map has another entry for the prefix, or none
-abbrev pub is_other_in : FinMap prefix_cmp Entry → Prefix × Entry → Bool
-is_other_in present e = not (same_option same_entry (Some e.1) (get present e.0))
-
--- the map has no entry for the prefix
-abbrev pub is_new_in : FinMap prefix_cmp Entry → Prefix × Entry → Bool
-is_new_in told e = is_none (get told e.0)

@@ -1,6 +1,6 @@
 //! What the participants were told, and what is present for them.
 
-ghost use Rattle.std.specs.Prelude.{◌≡◌, ◌≤◌, ◌<◌, ◌+◌, ◌++◌, ◌∷◌, [], ◌||◌, Some, IfOk, IfSome, OnOk, OnErr, length, option_copied, slice_set};
+ghost use Rattle.std.specs.Prelude.{◌≡◌, ◌≤◌, ◌<◌, ◌+◌, ◌++◌, ◌∷◌, [], ◌||◌, Some, IfOk, IfSome, OnOk, OnErr, length, option_copied, slice_set, IsOk};
 ghost use Rattle.std.specs.FinMap as map;
 ghost use Rattle.std.specs.List.{list_any};
 ghost use Rattle.std.specs.Option.{option_map};
@@ -81,6 +81,7 @@ impl Adverts {
         ensures present { self.new.present ≡ self.old.present }
         ensures room { OnOk result (entries ≤ room_of self.new who) }
         ensures kept { (other : AnyPid) → room_of self.old other ≤ room_of self.new other }
+        ensures enough { entries ≤ room_of self.old who → IsOk result }
     {
         self.sessions[who.0 as usize].reserve(entries)
     }

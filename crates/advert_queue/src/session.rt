@@ -1,6 +1,6 @@
 //! What one participant was told, and what is news for it.
 
-ghost use Rattle.std.specs.Prelude.{◌≡◌, ◌≤◌, ◌<◌, ◌+◌, ◌||◌, Some, IfOk, IfSome, OnOk, option_copied};
+ghost use Rattle.std.specs.Prelude.{◌≡◌, ◌≤◌, ◌<◌, ◌+◌, ◌||◌, Some, IfOk, IfSome, OnOk, option_copied, IsOk};
 ghost use Rattle.std.specs.FinMap as map;
 ghost use Rattle.std.specs.Option.{option_map};
 ghost use Rattle.events.specs.Pending.{with_news};
@@ -70,6 +70,7 @@ impl Session {
         ensures present { self.new.present ≡ self.old.present }
         ensures room { OnOk result (entries ≤ self.new.room) }
         ensures kept { self.old.room ≤ self.new.room }
+        ensures enough { entries ≤ self.old.room → IsOk result }
     {
         if entries <= self.room {
             return Ok(());

@@ -1,8 +1,9 @@
 -- With the rules of the dropped pairs taken out, and those of the planned ones put in, the table is one for the state afterwards.
+use Rattle.std.proofs.Math.Bool.{and-false}
 use Rattle.std.proofs.Common.{◌≡◌, ◌<◌, ◌^◌, Bool, true, false, ◌&&◌, ◌||◌, not, List, [], ◌∷◌, map, nat_eq, sym, ap, subst, ◌∙◌, refl, arith}
 use Rattle.std.specs.Prelude.{Some, None, is_some}
 use Rattle.std.specs.FinMap.{get, insert, remove}
-use Rattle.std.proofs.lemmas.Bool.{eqb-true}
+use Rattle.std.proofs.lemmas.Bool.{eqb-true, and_parts}
 use Rattle.events.specs.After.{without_pairs}
 use Rattle.events.specs.State.{State, ArePolicies}
 use Rattle.events.specs.Tags.{is_live_pair, retagged}
@@ -36,15 +37,6 @@ with_is m (b ∷ bs) = with_is (insert m b.0 b.1) bs
 pub without_is : (m : TableOf) (qs : List Pair) → without_pairs m qs ≡ without_all pair_cmp pairs_total tie m qs
 without_is m [] = refl
 without_is m (q ∷ qs) = without_is (remove m q) qs
-
-and_false : (b : Bool) → (b && false) ≡ false
-and_false true = refl
-and_false false = refl
-
-both_true : (a b : Bool) → (a && b) ≡ true → (a ≡ true) × (b ≡ true)
-both_true true true e = (refl, refl)
-both_true true false e = cc
-both_true false b e = cc
 
 -- a block of a pair
 pub record IsBlockOf (blocks : List Block) (pair : Pair) : Type 0 where
@@ -94,7 +86,7 @@ module _ (s : State) (r : Routing) (is_rebuilt : Pair → Bool) (drops : List Pa
   not_left pair e = by (is_live_pair s pair) (is_rebuilt pair) refl refl
     where
       parts : (is_live_pair s1 pair ≡ true) × (is_new s is_rebuilt pair ≡ true)
-      parts = both_true (is_live_pair s1 pair) (is_new s is_rebuilt pair) e
+      parts = and_parts (is_live_pair s1 pair) (is_new s is_rebuilt pair) e
 
       by : (l b : Bool) → is_live_pair s pair ≡ l → is_rebuilt pair ≡ b → get left pair ≡ None
       by true true live built = gone_rules pair (λ i. live i && (not (parts.0 i) || built i))
@@ -122,7 +114,7 @@ module _ (s : State) (r : Routing) (is_rebuilt : Pair → Bool) (drops : List Pa
   old_rules pair rules same at = by (goes s s1 is_rebuilt pair) refl
     where
       left_at : get left pair ≡ Some rules
-      left_at = sym (other_rules pair (ap (λ b. is_live_pair s1 pair && b) same ∙ and_false (is_live_pair s1 pair))) ∙ at
+      left_at = sym (other_rules pair (ap (λ b. is_live_pair s1 pair && b) same ∙ and-false (is_live_pair s1 pair))) ∙ at
 
       by : (b : Bool) → goes s s1 is_rebuilt pair ≡ b → get s.table pair ≡ Some rules
       by true e = let never = ap is_some (sym (gone_rules pair e) ∙ left_at) in cc

@@ -1,4 +1,5 @@
 -- With all changes of tags made, the prefixes have the tags that they are to have.
+use Rattle.std.proofs.lemmas.Bool.{not-false}
 use Rattle.std.proofs.Common.{◌≡◌, Bool, true, false, not, List, [], ◌∷◌, ◌++◌, filter, map, sym, ap, subst, ◌∙◌, refl}
 use Rattle.std.specs.Prelude.{Option, Some, None}
 use Rattle.std.specs.FinMap.{FinMap, get, keys, same_map}
@@ -30,10 +31,6 @@ TagsOf = FinMap prefix_cmp Tag
 places_of : (f : Prefix → Option Tag) (ps : List Prefix) → map (λ (c : Change). c.0) (map change_of (map (λ p. let c : TagChange = record { prefix = p; tag = f p } in c) ps)) ≡ ps
 places_of f [] = refl
 places_of f (p ∷ ps) = ap (λ qs. p ∷ qs) (places_of f ps)
-
-turned : (b : Bool) → not b ≡ false → b ≡ true
-turned true e = refl
-turned false e = absurd (cc)
 
 module _ (old new : TagsOf) where
   abbrev differs : Prefix → Bool
@@ -80,7 +77,7 @@ module _ (old new : TagsOf) where
           (Member-map change_of (tag_changes old new) (change_at p) (Member-map change_at places p
           (Member-filter differs _ p ((ordered_same prefix_cmp prefixes_total prefix_tie (keys old ++ keys new)).back p (listed p differ)) differ)))
       by false same = other_prefixes_keep_their_tags old (map change_of (tag_changes old new)) p (λ after m. clash (made after m) same)
-          ∙ (tags_test (get old p) (get new p)).0 (turned (same_option same_tag (get old p) (get new p)) same)
+          ∙ (tags_test (get old p) (get new p)).0 (not-false (same_option same_tag (get old p) (get new p)) same)
 
   -- with the changes made the tags are those
   pub tags_then : tags_with old (tag_changes old new) ≡ new

@@ -5,7 +5,7 @@ use Rattle.std.specs.Cmp.{unsigned_ties}
 use Rattle.std.specs.FinMap.{FinMap, get, keys}
 use Rattle.std.specs.Ordering.{eq_by_cmp}
 use Rattle.std.specs.List.{cons_option}
-use Rattle.std.proofs.lemmas.Bool.{eq-eqb, eqb-true, false_from_ne_true}
+use Rattle.std.proofs.lemmas.Bool.{eq-eqb, eqb-true, false_from_ne_true, not-false}
 use Rattle.std.proofs.lemmas.List.Sums.{sum_by-cons}
 use Rattle.net_types.proofs.OrderedLemmas.{ordered_rises, ordered_same}
 use Rattle.events.specs.Fits.{tag_changes}
@@ -35,10 +35,6 @@ use Rattle.prefix_classes.proofs.ChangeLemmas.{changed_prefixes_have_new_tags, c
 use Rattle.prefix_classes.proofs.MemberLemmas.{no_members}
 use Rattle.prefix_classes.specs.Classes.{has_tag, is_tag, members}
 use Rattle.prefix_classes.specs.Laws.{AreRising, Change, changed, joined, left}
-
-turned_not : (b : Bool) → not b ≡ false → b ≡ true
-turned_not true e = refl
-turned_not false e = cc
 
 tag_tie : (t u : Tag) → eq_by_cmp tag_cmp t u ≡ true → t ≡ u
 tag_tie = same_from_tie tag_cmp tag_cmp-IsAntisymmetric
@@ -180,7 +176,7 @@ module _ (m m1 : FinMap prefix_cmp Tag) where
           let kept = filter-Member differs (ordered prefix_cmp (keys m ++ keys m1)) one.of one.stands in
           let same : p ≡ one.of = ap (λ (c : Change). c.0) image.is ∙ ap (λ (c : TagChange). c.prefix) one.is in
           clash (ap differs same ∙ kept.passes) is)
-          ∙ (tags_test (get m p) (get m1 p)).0 (turned_not (same_option same_tag (get m p) (get m1 p)) is)
+          ∙ (tags_test (get m p) (get m1 p)).0 (not-false (same_option same_tag (get m p) (get m1 p)) is)
 
   -- a change has the prefix's new tag, and that is another one
   pub change_is : (c : TagChange) → Member c cs → (get m1 c.prefix ≡ c.tag) × (differs c.prefix ≡ true)

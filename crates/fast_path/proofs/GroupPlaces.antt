@@ -1,7 +1,6 @@
 -- What ties in the order of groups is one group; where groups are found once there is one more.
 use Rattle.std.proofs.Common.{◌≡◌, ℕ, ◌+◌, Bool, true, false, cond, ◌||◌, List, [], ◌∷◌, ◌++◌, length, sym, ap, ◌∙◌, refl, arith}
-use Rattle.std.specs.Prelude.{Option, Some, None, is_some, option_copied}
-use Rattle.std.specs.Borrow.{Bor}
+use Rattle.std.specs.Prelude.{Option, Some, None, is_some}
 use Rattle.std.specs.FinMap.Entries.{find, put, find-put}
 use Rattle.std.specs.List.{list_any, position_from}
 use Rattle.std.specs.Option.{option_cmp}
@@ -44,10 +43,6 @@ same_as_tied a b = by (eq_by_cmp group_cmp a b) (same_group a b) refl refl
     by false true tie same = sym tie ∙ ap (eq_by_cmp group_cmp a) (sym (group_same a b same)) ∙ ties_itself groups_total a
 
 -- ---- places
-
-pub is_copied : {A : Type 0} (o : Option (Bor A)) → is_some (option_copied o) ≡ is_some o
-is_copied None = refl
-is_copied (Some x) = refl
 
 -- an element stands in a list where it has a place
 pub any_placed : {A : Type 0} (p : A → Bool) (n : ℕ) (xs : List A) → list_any p xs ≡ is_some (position_from p n xs)

@@ -1,10 +1,10 @@
 -- The pairs of the fresh tags are those that become live, and the signatures of all tags afterwards.
-use Rattle.std.proofs.Common.{◌≡◌, ℕ, zero, suc, ◌<◌, Bool, true, false, cond, not, List, [], ◌∷◌, length, filter, map, nat_eq, sym, ap, subst, ◌∙◌, refl, inl, inr}
+use Rattle.std.proofs.Common.{◌≡◌, ℕ, zero, suc, ◌<◌, Bool, true, false, cond, List, [], ◌∷◌, length, filter, map, nat_eq, sym, ap, subst, ◌∙◌, refl, inl, inr}
 use Rattle.std.specs.Prelude.{Option, Some, None, find, slice_get, is_some}
 use Rattle.std.specs.FinMap.{get}
 use Rattle.std.specs.List.{list_any}
 use Rattle.std.specs.Option.{option_and_then, option_map_or}
-use Rattle.std.proofs.lemmas.Bool.{false_from_ne_true, or_cases, or_left, or_right}
+use Rattle.std.proofs.lemmas.Bool.{false_from_ne_true, or_cases, or_left, or_right, not-false}
 use Rattle.std.proofs.lemmas.Option.{slice_get_within}
 use Rattle.events.specs.Sound.{owners_part, part_of}
 use Rattle.events.specs.State.{State, port_of, present, told_to}
@@ -37,7 +37,7 @@ use Rattle.net_types.proofs.RisingLemmas.{filter-Member}
 use Rattle.net_types.proofs.SetLemmas.{Member-map, Member-union, map-Member, union-Member}
 use Rattle.net_types.specs.Exports.{Routing}
 use Rattle.net_types.specs.Keys.{prefix_cmp}
-use Rattle.net_types.specs.Maps.{each_once, ordered}
+use Rattle.net_types.specs.Maps.{ordered}
 use Rattle.net_types.specs.Routes.{announced, best}
 use Rattle.net_types.specs.Sets.{Member}
 use Rattle.net_types.specs.Signatures.{signature}
@@ -49,16 +49,7 @@ use Rattle.net_types.specs.declared.route.Part.{Part}
 use Rattle.net_types.specs.declared.route.PortInfo.{PortInfo}
 use Rattle.net_types.specs.declared.rule.Pair.{Pair}
 use Rattle.registry.specs.Registered.{Registered, ports_of}
-
--- the different ones are among all
-pub once_of : {A : Type 0} (same : A → A → Bool) (xs : List A) (y : A) → Member y (each_once same xs) → Member y xs
-once_of same [] y m = elim m [ ]
-once_of same (x ∷ xs) y (inl e) = inl e
-once_of same (x ∷ xs) y (inr m) = inr (once_of same xs y (filter-Member (λ z. not (same x z)) (each_once same xs) y m).stands)
-
-turned : (b : Bool) → not b ≡ false → b ≡ true
-turned true e = refl
-turned false e = cc
+use Rattle.fast_path.proofs.CommitLemmas.{once_of}
 
 -- ---- fresh tags with their signatures
 
@@ -179,7 +170,7 @@ module _ (s : State) (r : Routing) (change : IsChange s r) (own : PortsDiffer s.
       -- a prefix that keeps its tag keeps its signature
       not_kept : is_changed s r p ≡ false → get s.tag p ≡ Some pair.tag → ⊥
       not_kept same before =
-          let kept = (signatures_test (option_and_then (get s.kept) (get s.tag p)) (Some (signature r p))).0 (turned _ same) in
+          let kept = (signatures_test (option_and_then (get s.kept) (get s.tag p)) (Some (signature r p))).0 (not-false _ same) in
           let alike : signature r p ≡ signature s.routing p = some_of (signature r p) (signature s.routing p) (sym kept ∙ ap (option_and_then (get s.kept)) before ∙ change.tagged.kept p pair.tag before) in
           clash (live_from s pair q at (or_right (tells (told_to s q.owner) pair.tag) (tells (present s q.owner) pair.tag)
           (present_from s q.owner p pair.tag (same_senders r s.routing p p q.owner alike (declared q (port_Member s pair q at)) routed) before))) dead

@@ -21,6 +21,7 @@ use Rattle.net_types.specs.declared.prefix.Prefix.{Prefix}
 use Rattle.fast_path.proofs.ListPlaces.{mapped_at}
 use Rattle.fast_path.specs.Offers.{AreOffers, IsOffered, Present, all_present, offered, offered_all, present_to}
 use Rattle.fast_path.specs.declared.planned.Advert.{Advert}
+use Rattle.exchange_laws.proofs.Counted.{how_many}
 
 abbrev Entries : Type 0
 Entries = FinMap prefix_cmp Entry
@@ -116,7 +117,7 @@ module _ (then : Present) where
 abbrev pub pid_at : ℕ → Pid
 pid_at n = record { 0 = n }
 
-number_at : {A : Type 0} (at : ℕ → A) (low count k : ℕ) → k < count → slice_get (map at (numbers low count)) k ≡ Some (at (low + k))
+pub number_at : {A : Type 0} (at : ℕ → A) (low count k : ℕ) → k < count → slice_get (map at (numbers low count)) k ≡ Some (at (low + k))
 number_at at low zero k within = absurd (omega arith)
 number_at at low (suc count) zero within = ap (λ n. Some (at n)) (let same : low ≡ low + 0 = omega arith in same)
 number_at at low (suc count) (suc k) within = number_at at (low + 1) count k (omega arith) ∙ ap (λ n. Some (at n)) (let same : low + 1 + k ≡ low + suc k = omega arith in same)
@@ -125,12 +126,8 @@ number_at at low (suc count) (suc k) within = number_at at (low + 1) count k (om
 pub listed_at : (count : ℕ) (who : Pid) → who.0 < count → slice_get (map pid_at (numbers 0 count)) who.0 ≡ Some who
 listed_at count who declared = number_at pid_at 0 count who.0 declared ∙ ap (λ n. Some (pid_at n)) (let same : 0 + who.0 ≡ who.0 = omega arith in same)
 
-count_is : {A : Type 0} (at : ℕ → A) (low count : ℕ) → length (map at (numbers low count)) ≡ count
-count_is at low zero = refl
-count_is at low (suc count) = ap suc (count_is at (low + 1) count)
-
 pub state_length : (s : State) → length (all_present s) ≡ length s.routing.participants
-state_length s = length-map (pids s.routing) (present s) ∙ count_is pid_at 0 (length s.routing.participants)
+state_length s = length-map (pids s.routing) (present s) ∙ how_many pid_at 0 (length s.routing.participants)
 
 pub state_at : (s : State) (who : Pid) → who.0 < length s.routing.participants → present_to (all_present s) who ≡ present s who
 state_at s who declared =

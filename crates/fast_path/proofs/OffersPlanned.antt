@@ -32,6 +32,7 @@ use Rattle.fast_path.specs.Offers.{AreOffers, IsOffered, advert_of, adverts_from
 use Rattle.fast_path.specs.declared.fresh.Fresh.{Fresh}
 use Rattle.fast_path.specs.declared.planned.Advert.{Advert}
 use Rattle.route_server.specs.Proposed.{Proposed}
+use Rattle.net_types.proofs.MemberLemmas.{same_map_on}
 
 -- ---- the touched prefixes with their tags
 
@@ -56,11 +57,6 @@ then_left [] zero y ys e = absurd (cc)
 then_left [] (suc n) y ys e = absurd (cc)
 then_left (x ∷ xs) zero y ys e = cc
 then_left (x ∷ xs) (suc n) y ys e = (let next : suc n + 1 ≡ suc (n + 1) = omega arith in ap (λ k. drop k (x ∷ xs)) next) ∙ then_left xs n y ys e
-
--- maps that agree on the members
-mapped_alike : {A B : Type 0} (f g : A → B) (xs : List A) → ((x : A) → Member x xs → f x ≡ g x) → map f xs ≡ map g xs
-mapped_alike f g [] same = refl
-mapped_alike f g (x ∷ xs) same = ap (λ y. y ∷ map f xs) (same x (inl refl)) ∙ ap (λ ys. g x ∷ ys) (mapped_alike f g xs (λ y m. same y (inr m)))
 
 -- an entry is the best attributes with the tag
 entry_is : (s : State) (who : Pid) (p : Prefix) → entry_of (best_attrs s.routing who p) (get s.tag p) ≡ present_entry s who p
@@ -98,7 +94,7 @@ module _ (p : Proposed) (s : State) (ps : List Prefix) (bests : p.bests ≡ map 
   adverts_are : (n : ℕ) (qs : List Prefix) → drop n p.bests ≡ map bests_of qs → adverts_from p (pids s.routing) n (map with_tag qs) ≡ union_over (λ q. map (advert q) (pids s.routing)) qs
   adverts_are n [] left = refl
   adverts_are n (q ∷ qs) left =
-      ap (λ os. os ++ adverts_from p (pids s.routing) (n + 1) (map with_tag qs)) (mapped_alike (advert_of (best_at p n) (with_tag q)) (advert q) (pids s.routing) (λ who m.
+      ap (λ os. os ++ adverts_from p (pids s.routing) (n + 1) (map with_tag qs)) (same_map_on (advert_of (best_at p n) (with_tag q)) (advert q) (pids s.routing) (λ who m.
       advert_is n q who (first_left p.bests n (bests_of q) (map bests_of qs) left) (pid_within s.routing who m)))
       ∙ ap (λ os. map (advert q) (pids s.routing) ++ os) (adverts_are (n + 1) qs (then_left p.bests n (bests_of q) (map bests_of qs) left))
 

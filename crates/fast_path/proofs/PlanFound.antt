@@ -7,7 +7,7 @@ use Rattle.std.specs.List.{list_any}
 use Rattle.std.specs.Option.{option_map}
 use Rattle.std.specs.Ordering.{is_lt}
 use Rattle.std.specs.declared.cmp.Ordering.TheVariants.{Less}
-use Rattle.std.proofs.lemmas.Bool.{false_from_ne_true, ltb-true}
+use Rattle.std.proofs.lemmas.Bool.{false_from_ne_true, ltb-true, and_parts}
 use Rattle.block_build.specs.Lent.{Lent}
 use Rattle.events.specs.Fits.{tag_changes}
 use Rattle.events.specs.Sound.{owners_part}
@@ -78,11 +78,6 @@ class_signatures (f ∷ fs) = ap (λ sigs. f.sig ∷ sigs) (class_signatures fs)
 class_count : (fs : List Fresh) → length (groups_of fs) ≡ length fs
 class_count [] = refl
 class_count (f ∷ fs) = ap suc (class_count fs)
-
-both_true : (a b : Bool) → (a && b) ≡ true → (a ≡ true) × (b ≡ true)
-both_true true true e = (refl, refl)
-both_true true false e = cc
-both_true false b e = cc
 
 -- ---- emptied tags ascend
 
@@ -226,7 +221,7 @@ module _ (s : State) (r : Routing) (is_rebuilt : Pair → Bool) (names : Registe
       goes_each : (pair : Pair) → Member pair (gone ++ rebuild) → goes s s1 is_rebuilt pair ≡ true
       goes_each pair m = elim (Member-append_cases gone rebuild pair m) [
         | inl left ↦ let at = gone_are.each pair left in λ i. at.0 i && (not (at.1 i) || is_rebuilt pair)
-        | inr again ↦ let at = both_true (is_live_pair s pair) (is_rebuilt pair) (asked.rebuilt.each pair again) in (λ i. at.0 i && (not (is_live_pair s1 pair) || at.1 i)) ∙ or_true (not (is_live_pair s1 pair))
+        | inr again ↦ let at = and_parts (is_live_pair s pair) (is_rebuilt pair) (asked.rebuilt.each pair again) in (λ i. at.0 i && (not (is_live_pair s1 pair) || at.1 i)) ∙ or_true (not (is_live_pair s1 pair))
       ]
         where
           or_true : (b : Bool) → (true && (b || true)) ≡ true
@@ -237,7 +232,7 @@ module _ (s : State) (r : Routing) (is_rebuilt : Pair → Bool) (names : Registe
       goes_all pair e = by (is_live_pair s1 pair) refl
         where
           parts : (is_live_pair s pair ≡ true) × ((not (is_live_pair s1 pair) || is_rebuilt pair) ≡ true)
-          parts = both_true (is_live_pair s pair) (not (is_live_pair s1 pair) || is_rebuilt pair) e
+          parts = and_parts (is_live_pair s pair) (not (is_live_pair s1 pair) || is_rebuilt pair) e
 
           by : (b : Bool) → is_live_pair s1 pair ≡ b → Member pair (gone ++ rebuild)
           by false dead = Member-append_left gone rebuild pair (gone_are.all pair parts.0 dead)
@@ -275,16 +270,16 @@ module _ (s : State) (r : Routing) (is_rebuilt : Pair → Bool) (names : Registe
 
           stays : (pair : Pair) → Member pair rebuild → not (is_among gone pair) ≡ true → (b : Bool) → is_live_pair s1 pair ≡ b → comes s s1 is_rebuilt pair ≡ true
           stays pair stands passes true live =
-              let at = both_true (is_live_pair s pair) (is_rebuilt pair) (asked.rebuilt.each pair stands) in (λ i. live i && (not (is_live_pair s pair) || at.1 i)) ∙ or_true (is_live_pair s pair)
+              let at = and_parts (is_live_pair s pair) (is_rebuilt pair) (asked.rebuilt.each pair stands) in (λ i. live i && (not (is_live_pair s pair) || at.1 i)) ∙ or_true (is_live_pair s pair)
           stays pair stands passes false dead =
-              let at = both_true (is_live_pair s pair) (is_rebuilt pair) (asked.rebuilt.each pair stands) in
+              let at = and_parts (is_live_pair s pair) (is_rebuilt pair) (asked.rebuilt.each pair stands) in
               absurd (clash passes (ap not (member_any pair_cmp pairs_total tie pair gone (gone_are.all pair at.0 dead))))
 
       comes_all : (pair : Pair) → comes s s1 is_rebuilt pair ≡ true → Member pair coming
       comes_all pair e = by (is_live_pair s pair) refl
         where
           parts : (is_live_pair s1 pair ≡ true) × (is_new s is_rebuilt pair ≡ true)
-          parts = both_true (is_live_pair s1 pair) (is_new s is_rebuilt pair) e
+          parts = and_parts (is_live_pair s1 pair) (is_new s is_rebuilt pair) e
 
           by : (b : Bool) → is_live_pair s pair ≡ b → Member pair coming
           by false dead = Member-append_left (fresh_pairs (registered s) (made s r change asked.base.apart draft.tags)) (staying gone rebuild) pair (new_pairs_all s r change asked.base.apart draft.tags pair parts.0 dead)
@@ -306,14 +301,14 @@ module _ (s : State) (r : Routing) (is_rebuilt : Pair → Bool) (names : Registe
           (filter-IsRising (before pair_cmp) (comes s s1 is_rebuilt) (live_pairs s1) (live_rise s1)) (record {
             onto = λ pair m.
                 let come = built_are.each pair m in
-                Member-filter (comes s s1 is_rebuilt) (live_pairs s1) pair (live_Member s1 (tags_stay_pooled s r asked.base.pooled) pair (both_true (is_live_pair s1 pair) (is_new s is_rebuilt pair) come).0) come;
+                Member-filter (comes s s1 is_rebuilt) (live_pairs s1) pair (live_Member s1 (tags_stay_pooled s r asked.base.pooled) pair (and_parts (is_live_pair s1 pair) (is_new s is_rebuilt pair) come).0) come;
             back = λ pair m. built_are.all pair (filter-Member (comes s s1 is_rebuilt) (live_pairs s1) pair m).passes;
           }))
 
       -- ---- their parts
 
       owners : (pair : Pair) → comes s s1 is_rebuilt pair ≡ true → HasOwners s r change asked.base.apart draft.tags known pair
-      owners pair come = owners_found s r change asked.base.apart draft.tags known (sym asked.shown.kept) asked.base.whole pair (both_true (is_live_pair s1 pair) (is_new s is_rebuilt pair) come).0
+      owners pair come = owners_found s r change asked.base.apart draft.tags known (sym asked.shown.kept) asked.base.whole pair (and_parts (is_live_pair s1 pair) (is_new s is_rebuilt pair) come).0
 
       part_is : (pair : Pair) → part_at names known draft.fresh.items pair ≡ part_at (registered s) known (made s r change asked.base.apart draft.tags) pair
       part_is pair = ap (λ n. part_at n known draft.fresh.items pair) names_are ∙ ap (λ cs. part_at (registered s) known cs pair) fresh_are

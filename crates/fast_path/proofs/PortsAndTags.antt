@@ -24,15 +24,12 @@ use Rattle.net_types.specs.declared.prefix.Prefix.{Prefix}
 use Rattle.net_types.specs.declared.route.PortInfo.{PortInfo}
 use Rattle.net_types.specs.declared.rule.Pair.{Pair}
 use Rattle.registry.specs.Registered.{ports_of}
+use Rattle.block_build.proofs.OfferLemmas.{pid_exact}
 
 pub tie : (x y : Pair) → eq_by_cmp pair_cmp x y ≡ true → x ≡ y
 tie = same_from_tie pair_cmp pair_cmp-IsAntisymmetric
 
 -- ---- ports
-
--- participants are numbers
-pub same_pid : (a b : Pid) → nat_eq a.0 b.0 ≡ true → a ≡ b
-same_pid a b e = λ i. record { 0 = eqb-true a.0 b.0 e i }
 
 -- a port of a participant
 pub record IsPortOf (s : State) (who : Pid) (n : PortNo) : Type 0 where
@@ -45,7 +42,7 @@ pub port_listed : (s : State) (who : Pid) (n : PortNo) → Member n (ports_of (r
 port_listed s who n m =
     let image = map-Member (λ (q : PortInfo). q.number) (filter (λ (q : PortInfo). nat_eq q.owner.0 who.0) s.routing.ports) n m in
     let left = filter-Member (λ (q : PortInfo). nat_eq q.owner.0 who.0) s.routing.ports image.of image.stands in
-    record { port = image.of; stands = left.stands; owner = same_pid image.of.owner who left.passes; number = image.is }
+    record { port = image.of; stands = left.stands; owner = pid_exact image.of.owner who left.passes; number = image.is }
 
 pub number_listed : (s : State) (q : PortInfo) → Member q s.routing.ports → Member q.number (ports_of (registered s) q.owner)
 number_listed s q m =

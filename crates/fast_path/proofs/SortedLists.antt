@@ -3,18 +3,18 @@ use Rattle.std.proofs.Common.{◌≡◌, ℕ, zero, suc, ◌+◌, ◌<◌, arith
 use Rattle.std.specs.Cmp.{IsTotalOrder, unsigned_ties}
 use Rattle.std.specs.List.{dedup, list_any}
 use Rattle.std.specs.List.Sorted.{IsBinarySearchResult, IsSearchInRange, IsSorted, IsSortedBy}
-use Rattle.std.specs.Prelude.{◌⊎◌, is_ok, slice_index_or}
-use Rattle.std.specs.Ordering.{eq_by_cmp, is_eq, is_lt, nat_cmp, ordering_reverse}
+use Rattle.std.specs.Prelude.{is_ok, slice_index_or}
+use Rattle.std.specs.Ordering.{eq_by_cmp, is_eq, is_lt, nat_cmp}
 use Rattle.std.specs.declared.cmp.Ordering.{Ordering}
-use Rattle.std.specs.declared.cmp.Ordering.TheVariants.{Less, Equal, Greater}
+use Rattle.std.specs.declared.cmp.Ordering.TheVariants.{Equal}
 use Rattle.std.proofs.lemmas.Cmp.{tied_itself}
-use Rattle.std.proofs.lemmas.Bool.{cases_lt, false_from_ne_true, false≢true}
+use Rattle.std.proofs.lemmas.Bool.{cases_lt, false_from_ne_true}
 use Rattle.std.proofs.lemmas.List.Sorted.{searchable_from_sorted}
 use Rattle.net_types.proofs.OrderedLemmas.{any_member, member_any, deduped_is}
 use Rattle.net_types.proofs.MemberLemmas.{Contains-Member, Member-at}
 use Rattle.net_types.proofs.OrderLemmas.{pairs_total, tags_total}
 use Rattle.net_types.proofs.RisingLemmas.{before}
-use Rattle.net_types.proofs.TieLemmas.{same_from_tie, tag_cmp-IsAntisymmetric, then_ties}
+use Rattle.net_types.proofs.TieLemmas.{same_from_tie, tag_cmp-IsAntisymmetric, then_ties, backward, not_tied}
 use Rattle.net_types.specs.Keys.{pair_cmp, tag_cmp}
 use Rattle.net_types.specs.Maps.{ordered}
 use Rattle.net_types.specs.Sets.{IsRising}
@@ -36,15 +36,6 @@ pub tags_in_order : (xs ys : List Tag) → IsPermutation xs ys → IsSorted tag_
 tags_in_order = deduped_is tag_cmp tags_total (same_from_tie tag_cmp tag_cmp-IsAntisymmetric) (λ t u. eqb t.0 u.0) (λ t u. unsigned_ties t.0 u.0)
 
 -- ---- search
-
-pub backward : (r s : Ordering) → r ≡ ordering_reverse s → is_lt r ≡ true → is_lt s ≡ false
-backward r Less e h = let k : is_lt r ≡ false = ap is_lt e in absurd (false≢true (sym k ∙ h))
-backward r Equal e h = refl
-backward r Greater e h = refl
-
-pub not_tied : (r : Ordering) → r ≡ Equal → (r ≡ Less) ⊎ (r ≡ Greater) → ⊥
-not_tied r e (inl h) = cc
-not_tied r e (inr h) = cc
 
 module _ {K : Type 0} (R : K → K → Ordering) (o : IsTotalOrder R) (tie : (x y : K) → eq_by_cmp R x y ≡ true → x ≡ y) where
   -- a rising list is sorted

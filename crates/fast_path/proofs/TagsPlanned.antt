@@ -29,6 +29,7 @@ use Rattle.fast_path.specs.Offers.{others, tagged}
 use Rattle.fast_path.specs.declared.fresh.Fresh.{Fresh}
 use Rattle.fast_path.proofs.CommittedMaps.{get_front}
 use Rattle.fast_path.proofs.GroupLemmas.{place_among}
+use Rattle.net_types.proofs.PassLemmas.{filter_twice}
 
 -- ---- a signature has parts where somebody has a best route
 
@@ -52,14 +53,6 @@ pub empty_uncarried : (r : Routing) (p : Prefix) → is_empty (signature r p) �
 empty_uncarried r p = empty_parts (part r p) (pids r) ∙ ap not (any_alike (λ to. is_some (part r p to)) (λ to. is_some (best r to p)) (λ to. part_some r p to (best r to p)) (pids r))
 
 -- ---- groups, each once
-
-filter_both : {A : Type 0} (f g : A → Bool) (xs : List A) → filter f (filter g xs) ≡ filter (λ x. g x && f x) xs
-filter_both f g [] = refl
-filter_both f g (x ∷ xs) = by (g x) (filter_both f g xs)
-  where
-    by : (b : Bool) → filter f (filter g xs) ≡ filter (λ y. g y && f y) xs → filter f (cond b (x ∷ filter g xs) (filter g xs)) ≡ cond (b && f x) (x ∷ filter (λ y. g y && f y) xs) (filter (λ y. g y && f y) xs)
-    by true later = ap (λ ys. cond (f x) (x ∷ ys) ys) later
-    by false later = later
 
 filter_alike : {A : Type 0} (f g : A → Bool) → ((x : A) → f x ≡ g x) → (xs : List A) → filter f xs ≡ filter g xs
 filter_alike f g same [] = refl
@@ -110,12 +103,12 @@ besides_last gs x y = ap not (any_last y x gs) ∙ ap (λ b. not (list_any (same
 more_with : (gs xs : List Group) (x : Group) (b : Bool) → list_any (same_group x) gs ≡ b → ((hs : List Group) → more_groups hs xs ≡ hs ++ filter (is_other hs) (each_once same_group xs))
     → more_groups (cond b gs (gs ++ x ∷ [])) xs ≡ gs ++ cond (not b) (x ∷ filter (is_other gs) (filter (λ y. not (same_group x y)) (each_once same_group xs))) (filter (is_other gs) (filter (λ y. not (same_group x y)) (each_once same_group xs)))
 more_with gs xs x true there later =
-    later gs ∙ ap (λ ys. gs ++ ys) (sym (filter_both (is_other gs) (λ y. not (same_group x y)) (each_once same_group xs)
+    later gs ∙ ap (λ ys. gs ++ ys) (sym (filter_twice (is_other gs) (λ y. not (same_group x y)) (each_once same_group xs)
     ∙ filter_alike (λ y. not (same_group x y) && is_other gs y) (is_other gs) (λ y. already gs x y there) (each_once same_group xs)))
 more_with gs xs x false there later =
     later (gs ++ x ∷ []) ∙ append_assoc gs (x ∷ []) (filter (is_other (gs ++ x ∷ [])) (each_once same_group xs))
     ∙ ap (λ ys. gs ++ x ∷ ys) (filter_alike (is_other (gs ++ x ∷ [])) (λ y. not (same_group x y) && is_other gs y) (λ y. besides_last gs x y) (each_once same_group xs)
-    ∙ sym (filter_both (is_other gs) (λ y. not (same_group x y)) (each_once same_group xs)))
+    ∙ sym (filter_twice (is_other gs) (λ y. not (same_group x y)) (each_once same_group xs)))
 
 -- behind the groups so far come those that are none of them, each once
 more_is : (gs xs : List Group) → more_groups gs xs ≡ gs ++ filter (is_other gs) (each_once same_group xs)

@@ -1,15 +1,14 @@
 -- A line that builds no rules gives no prefix another tag, keeps the signatures of tags that prefixes have, and adds no rules.
-use Rattle.std.proofs.Common.{◌≡◌, ℕ, Bool, true, false, cond, ◌&&◌, List, [], ◌∷◌, ◌++◌, map, sym, ap, subst, ◌∙◌, refl, inr}
-use Rattle.std.specs.Prelude.{Option, Some, None, MatchOption, is_some, slice_set, take}
+use Rattle.std.proofs.Common.{◌≡◌, ℕ, Bool, true, false, cond, List, [], ◌∷◌, map, sym, ap, subst, ◌∙◌, refl, inr}
+use Rattle.std.specs.Prelude.{Option, Some, None, MatchOption, is_some, take}
 use Rattle.std.specs.FinMap.{FinMap, get, get-remove, keys, remove}
-use Rattle.std.specs.Option.{option_map_or}
 use Rattle.std.specs.Ordering.{eq_by_cmp}
-use Rattle.events.specs.After.{accepted, after, next, next_by, put_flows, rules_put, running, settled, with_known, with_port, with_told, without_pairs}
+use Rattle.events.specs.After.{accepted, after, next, next_by, put_flows, rules_put, running, settled, with_port, with_told, without_pairs}
 use Rattle.events.specs.Fits.{Fits, FitsBy, IsAccepted, IsAnswer, IsSent, IsTagged, IsTaken, Passes, asks_for, bare, by_table, is_building, is_of_job, responder_reply}
 use Rattle.net_types.specs.Frames.{destination}
 use Rattle.events.specs.Pending.{pending, with_all_news}
 use Rattle.events.specs.Refusals.{refusal}
-use Rattle.events.specs.Resolving.{is_pool_request, is_resolved, pool_mac, port_place, resolved_at, tag_address, unresolved, with_answer, with_resolved}
+use Rattle.events.specs.Resolving.{is_pool_request, is_resolved, pool_mac, tag_address, unresolved, with_answer, with_resolved}
 use Rattle.events.specs.State.{State, port_of, present, told_to}
 use Rattle.events.specs.Tags.{is_live}
 use Rattle.events.specs.declared.Entry.{Entry}
@@ -30,13 +29,9 @@ use Rattle.net_types.proofs.OrderLemmas.{pairs_total, tags_total}
 use Rattle.net_types.proofs.TieLemmas.{tag_cmp-IsAntisymmetric}
 use Rattle.net_types.specs.Arp.{arp_reply, asked_ip, asker_ip, asker_mac}
 use Rattle.net_types.specs.Exports.{pid_of}
-use Rattle.net_types.specs.Keys.{ip_cmp, pair_cmp, prefix_cmp, tag_cmp}
-use Rattle.net_types.specs.Maps.{ordered}
-use Rattle.net_types.specs.Octets.{same_octets}
+use Rattle.net_types.specs.Keys.{pair_cmp, prefix_cmp, tag_cmp}
 use Rattle.net_types.specs.Routes.{longest_of}
-use Rattle.net_types.specs.declared.address.Ip.{Ip}
 use Rattle.net_types.specs.declared.address.Pid.{Pid}
-use Rattle.net_types.specs.declared.address.PortNo.{PortNo}
 use Rattle.net_types.specs.declared.address.Tag.{Tag}
 use Rattle.net_types.specs.declared.prefix.Prefix.{Prefix}
 use Rattle.net_types.specs.declared.route.PortInfo.{PortInfo}
@@ -45,6 +40,7 @@ use Rattle.prefix_classes.specs.Classes.{members}
 use Rattle.recompile.specs.Changing.{IsChange}
 use Rattle.recompile.specs.Covering.{AreFew}
 use Rattle.recompile.specs.Setting.{setting_of}
+use Rattle.run_laws.proofs.Known.{answer_is, known_holds, resolved_is}
 
 -- prefixes have the same tags, and these the same signatures
 pub record Keeps (s s1 : State) : Type 0 where
@@ -56,10 +52,6 @@ same s s1 tag kept = record { tag = tag; kept = λ p t at. ap (λ m. get m t) ke
 
 -- ---- the state after a line
 
-known_keeps : {X : Type 0} (s : State) (k : Option X) (f : X → State) → ((x : X) → Keeps s (f x)) → Keeps s (with_known s k f)
-known_keeps s None f is = same s s refl refl
-known_keeps s (Some x) f is = is x
-
 told_keeps : (s : State) (who : Pid) (entries : FinMap prefix_cmp Entry) → Keeps s (settled (running (with_told s who entries)))
 told_keeps s who entries = record {
   tag = refl;
@@ -68,26 +60,12 @@ told_keeps s who entries = record {
       ∙ ap (λ b. cond b (get s.kept t) None) (live_of (running (with_told s who entries)) p t at);
 }
 
-resolved_keeps : (s : State) (n : PortNo) (ips : List Ip) → Keeps s (running (with_resolved s n ips))
-resolved_keeps s n ips = by (port_place s n)
-  where
-    by : (place : Option ℕ) → Keeps s (running (option_map_or (λ k. let x : State = record s { resolved = slice_set s.resolved k (ordered ip_cmp (resolved_at s n ++ ips)) } in x) place s))
-    by None = same s (running s) refl refl
-    by (Some place) = same s (running (record s { resolved = slice_set s.resolved place (ordered ip_cmp (resolved_at s n ++ ips)) })) refl refl
-
-answer_keeps : (s : State) (q : PortInfo) (bytes : List ℕ) → Keeps s (running (with_answer s q bytes))
-answer_keeps s q bytes = by (is_pool_request s bytes && same_octets (asker_mac bytes).0 q.mac.0)
-  where
-    by : (b : Bool) → Keeps s (running (cond b (with_resolved s q.number (asked_ip bytes ∷ [])) s))
-    by true = resolved_keeps s q.number (asked_ip bytes ∷ [])
-    by false = same s (running s) refl refl
-
 keeps_after : (s : State) (e : Event) → is_of_job e ≡ false → is_building e ≡ false → Keeps s (after s e)
 keeps_after s Bad other quiet = same s s refl refl
 keeps_after s (Exchange base size capacity) other quiet = same s (after s (Exchange base size capacity)) refl refl
 keeps_after s (DeclaresParticipant name asn id) other quiet = same s (after s (DeclaresParticipant name asn id)) refl refl
 keeps_after s (DeclaresPort name number ip mac) other quiet =
-    known_keeps s (pid_of s.routing name) (λ who. with_port s (record { owner = who; number = number; ip = ip; mac = mac }))
+    known_holds (Keeps s) s (pid_of s.routing name) (λ who. with_port s (record { owner = who; number = number; ip = ip; mac = mac })) (same s s refl refl)
     (λ who. same s (with_port s (record { owner = who; number = number; ip = ip; mac = mac })) refl refl)
 keeps_after s (Update name bytes) other quiet = absurd (cc)
 keeps_after s (Down name) other quiet = absurd (cc)
@@ -96,10 +74,10 @@ keeps_after s (Outbound name text) other quiet = absurd (cc)
 keeps_after s (Inbound name text) other quiet = absurd (cc)
 keeps_after s (Take name count) other quiet =
     let entries : Pid → FinMap prefix_cmp Entry = λ who. with_all_news (present s who) (told_to s who) (take count (pending s who)) in
-    known_keeps s (pid_of s.routing name) (λ who. settled (running (with_told s who (entries who)))) (λ who. told_keeps s who (entries who))
-keeps_after s (Drain name) other quiet = known_keeps s (pid_of s.routing name) (λ who. settled (running (with_told s who (present s who)))) (λ who. told_keeps s who (present s who))
-keeps_after s (Arp n bytes) other quiet = known_keeps s (port_of s n) (λ q. running (with_answer s q bytes)) (λ q. answer_keeps s q bytes)
-keeps_after s (Resolve n) other quiet = known_keeps s (port_of s n) (λ q. running (with_resolved s n (unresolved s q))) (λ q. resolved_keeps s n (unresolved s q))
+    known_holds (Keeps s) s (pid_of s.routing name) (λ who. settled (running (with_told s who (entries who)))) (same s s refl refl) (λ who. told_keeps s who (entries who))
+keeps_after s (Drain name) other quiet = known_holds (Keeps s) s (pid_of s.routing name) (λ who. settled (running (with_told s who (present s who)))) (same s s refl refl) (λ who. told_keeps s who (present s who))
+keeps_after s (Arp n bytes) other quiet = known_holds (Keeps s) s (port_of s n) (λ q. running (with_answer s q bytes)) (same s s refl refl) (λ q. subst (λ x. Keeps s (running x)) (sym (answer_is s q bytes)) (same s _ refl refl))
+keeps_after s (Resolve n) other quiet = known_holds (Keeps s) s (port_of s n) (λ q. running (with_resolved s n (unresolved s q))) (same s s refl refl) (λ q. subst (λ x. Keeps s (running x)) (sym (resolved_is s n (unresolved s q))) (same s _ refl refl))
 keeps_after s (Packet n bytes) other quiet = same s (running s) refl refl
 keeps_after s (Frame n bytes) other quiet = same s (running s) refl refl
 keeps_after s Recompile other quiet = absurd (cc)

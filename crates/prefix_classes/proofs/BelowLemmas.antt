@@ -8,7 +8,7 @@ use Rattle.std.specs.declared.cmp.Ordering.TheVariants.{Less, Equal, Greater}
 use Rattle.std.specs.FinMap.{FinMap, remove, entries, entries_sorted, from_sorted, entries-from_sorted, same_entries_map, IsAntisymmetric}
 use Rattle.std.specs.FinMap.Entries.{find, find-where_key, is_sorted, below_all}
 use Rattle.std.proofs.lemmas.Bool.{and_parts}
-use Rattle.net_types.proofs.PlaceLemmas.{without, entries_of_sorted, without_sorted, remove_sorted}
+use Rattle.net_types.proofs.PlaceLemmas.{without, entries_of_sorted, without_sorted, remove_sorted, cond_not}
 
 pub shown : (b : Bool) → T b → b ≡ true
 shown true h = refl
@@ -18,10 +18,6 @@ pub less : (r : Ordering) → is_lt r ≡ true → r ≡ Less
 less Less e = refl
 less Equal e = cc
 less Greater e = cc
-
-turned : {A : Type 0} (b : Bool) (x y : A) → cond (not b) x y ≡ cond b y x
-turned true x y = refl
-turned false x y = refl
 
 module _ {K X : Type 0} (R : K → K → Ordering) where
   -- the first key is below all that follow
@@ -76,4 +72,4 @@ module _ {K X : Type 0} (R : K → K → Ordering) where
     pub find-without : (k q : K) (es : List (K × X)) → find R q (without R k es) ≡ cond (eq_by_cmp R q k) None (find R q es)
     find-without k q es =
         find-where_key R (λ x. not (eq_by_cmp R k x)) q (λ x e. ap (λ r. not (is_eq r)) (sym (alike_right o q x k e))) es
-        ∙ turned (eq_by_cmp R k q) _ _ ∙ ap (λ b. cond b None (find R q es)) ((eq_by_cmp_equiv o).symm k q)
+        ∙ cond_not (eq_by_cmp R k q) _ _ ∙ ap (λ b. cond b None (find R q es)) ((eq_by_cmp_equiv o).symm k q)

@@ -1,11 +1,11 @@
 -- The first key above another one, and with it the least tag of a signature.
+use Rattle.std.proofs.lemmas.Option.{same_Some}
 use Rattle.std.proofs.Common.{◌≡◌, ◌∙◌, T, ◌<◌, ◌≤◌, Bool, true, false, cond, List, [], ◌∷◌, sym, ap, subst, refl, arith}
 use Rattle.std.specs.Prelude.{Some, None, is_some}
 use Rattle.std.specs.Cmp.{IsTotalOrder, alike_right, ranked}
 use Rattle.std.proofs.lemmas.Cmp.{tied_itself}
 use Rattle.std.proofs.lemmas.Bool.{and_parts}
 use Rattle.std.specs.FinMap.Entries.{find, find-where_key, where_key, is_sorted, is_sorted-where_key, below_all}
-use Rattle.std.specs.Option.{unwrap_or}
 use Rattle.std.specs.Ordering.{eq_by_cmp, is_lt, nat_cmp, ordering_reverse, ordering_then}
 use Rattle.std.specs.declared.cmp.Ordering.{Ordering}
 use Rattle.std.specs.declared.cmp.Ordering.TheVariants.{Less, Equal, Greater}
@@ -19,16 +19,13 @@ use Rattle.prefix_classes.specs.Placed.{placed_cmp, sig_cmp}
 use Rattle.prefix_classes.specs.PlacedLaws.{placed_total, sigs_total}
 use Rattle.prefix_classes.specs.declared.placed.Placed.{Placed}
 
-same_first : {A : Type 0} (x y : A) → Some x ≡ Some y → x ≡ y
-same_first x y e = ap (λ o. unwrap_or o x) e
-
 module _ {K X : Type 0} (R : K → K → Ordering) where
   first_passes : (p : K → Bool) (es : List (K × X)) (e : K × X) → head_of (where_key R p es) ≡ Some e → p e.0 ≡ true
   first_passes p [] e is = cc
   first_passes p (d ∷ es) e is = by (p d.0) refl is (λ later. first_passes p es e later)
     where
       by : (b : Bool) → p d.0 ≡ b → head_of (cond b (d ∷ where_key R p es) (where_key R p es)) ≡ Some e → (head_of (where_key R p es) ≡ Some e → p e.0 ≡ true) → p e.0 ≡ true
-      by true passes first rest = ap (λ (f : K × X). p f.0) (sym (same_first d e first)) ∙ passes
+      by true passes first rest = ap (λ (f : K × X). p f.0) (sym (same_Some d e first)) ∙ passes
       by false fails later rest = rest later
 
   -- an entry is the first of those above a key
@@ -63,7 +60,7 @@ module _ {K X : Type 0} (R : K → K → Ordering) where
     first_is_least k (d ∷ es) e sorted is found = by (eq_by_cmp R k d.0) refl found
       where
         to_first : is_lt (R k d.0) ≡ false → is_lt (R k e.0) ≡ false
-        to_first h = ap (λ (f : K × X). is_lt (R k f.0)) (sym (same_first d e is)) ∙ h
+        to_first h = ap (λ (f : K × X). is_lt (R k f.0)) (sym (same_Some d e is)) ∙ h
 
         by : (b : Bool) → eq_by_cmp R k d.0 ≡ b → is_some (cond b (Some d.1) (find R k es)) ≡ true → is_lt (R k e.0) ≡ false
         by true tie here = to_first (ap is_lt (tie_Equal _ tie))
@@ -71,7 +68,7 @@ module _ {K X : Type 0} (R : K → K → Ordering) where
 
     first_is_there : (es : List (K × X)) (e : K × X) → head_of es ≡ Some e → is_some (find R e.0 es) ≡ true
     first_is_there [] e is = cc
-    first_is_there (d ∷ es) e is = ap (λ (f : K × X). is_some (find R f.0 (d ∷ es))) (sym (same_first d e is)) ∙ ap (λ b. is_some (cond b (Some d.1) (find R d.0 es))) (ties_itself o d.0)
+    first_is_there (d ∷ es) e is = ap (λ (f : K × X). is_some (find R f.0 (d ∷ es))) (sym (same_Some d e is)) ∙ ap (λ b. is_some (cond b (Some d.1) (find R d.0 es))) (ties_itself o d.0)
 
     pub next_found : (q : K) (es : List (K × X)) (e : K × X) → is_sorted R es ≡ true → head_of (above R q es) ≡ Some e → IsNext q es e
     next_found q es e sorted is = record {

@@ -1,6 +1,6 @@
 //! The classes of prefixes.
 
-ghost use Rattle.std.specs.Prelude.{◌≡◌, ◌≤◌, ◌<◌, ◌+◌, None, Some, IfNone, IfOk, IfSome, IsTrue, OnOk, length, option_copied, is_some};
+ghost use Rattle.std.specs.Prelude.{◌≡◌, ◌≤◌, ◌<◌, ◌+◌, None, Some, IfNone, IfOk, IfSome, IsTrue, OnOk, length, option_copied, is_some, IsOk};
 ghost use Rattle.std.specs.FinMap as map;
 ghost use Rattle.std.specs.Option.{option_map};
 ghost use Rattle.net_types.specs.Signatures.{trimmed};
@@ -64,6 +64,7 @@ impl ClassMap {
         ensures tags { OnOk result (tags ≤ self.new.tags) }
         ensures prefixes_stay { self.old.prefixes ≤ self.new.prefixes }
         ensures tags_stay { self.old.tags ≤ self.new.tags }
+        ensures enough { (prefixes ≤ self.old.prefixes) × (tags ≤ self.old.tags) → IsOk result }
     {
         self.tags.reserve(prefixes)?;
         self.kept.reserve(tags)?;

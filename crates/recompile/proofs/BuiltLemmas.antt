@@ -1,7 +1,6 @@
 -- What entries that rise are seen as, and what it is without one of them or with another.
-use Rattle.std.proofs.Common.{◌≡◌, true, List, refl, sym, ap, ◌∙◌}
-use Rattle.std.specs.Prelude.{Option, Some, None, is_some, option_copied}
-use Rattle.std.specs.Borrow.{Bor}
+use Rattle.std.proofs.Common.{◌≡◌, true, List, sym, ap, ◌∙◌}
+use Rattle.std.specs.Prelude.{Option}
 use Rattle.std.specs.FinMap.{from_sorted, get, insert, remove}
 use Rattle.std.specs.FinMap.Entries.{find, is_sorted, put}
 use Rattle.net_types.proofs.OrderLemmas.{pairs_total}
@@ -12,7 +11,6 @@ use Rattle.net_types.specs.declared.rule.Pair.{Pair}
 use Rattle.net_types.specs.declared.rule.Rule.{Rule}
 use Rattle.ordered_map.specs.Entries.{without}
 use Rattle.recompile.specs.Underway.{BuiltPairs}
-use Rattle.net_types.proofs.FindLemmas.{is_some-copied}
 
 module _ (es : List (Pair × Option (List Rule))) (rises : is_sorted pair_cmp es ≡ true) (m : BuiltPairs) (is : from_sorted es ≡ m) where
   pub found_is : (pair : Pair) → find pair_cmp pair es ≡ get m pair

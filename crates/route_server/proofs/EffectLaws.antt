@@ -5,7 +5,7 @@ use Rattle.std.specs.List.{list_all, list_any}
 use Rattle.std.specs.Ordering.{eq_by_cmp}
 use Rattle.std.specs.Option.{option_map, option_map_or, option_and_then}
 use Rattle.std.specs.FinMap.{get}
-use Rattle.std.proofs.lemmas.Bool.{and_parts}
+use Rattle.std.proofs.lemmas.Bool.{and_parts, not-true}
 use Rattle.std.proofs.lemmas.List.{take_more, take_all}
 use Rattle.std.proofs.lemmas.List.Elements.{filter-append}
 use Rattle.std.proofs.lemmas.Option.{slice_get-get_or}
@@ -201,10 +201,6 @@ filter_prefixes t (c ∷ cs) = by (t c.prefix) (filter_prefixes t cs)
     by true e = ap (λ ps. c.prefix ∷ ps) e
     by false e = e
 
-not_true_is : (b : Bool) → not b ≡ true → b ≡ false
-not_true_is true e = absurd (true≢false (sym e))
-not_true_is false e = refl
-
 member_or : (t : Prefix → Bool) (ps : List Prefix) (p : Prefix) → t p ≡ true → Member p (filter t ps) ⊎ (Member p ps → ⊥)
 member_or t ps p e = by (list_any (eq_by_cmp prefix_cmp p) ps) refl
   where
@@ -215,7 +211,7 @@ member_or t ps p e = by (list_any (eq_by_cmp prefix_cmp p) ps) refl
 -- The effects of changes touch exactly the prefixes that differ, where those that have no change don't.
 pub touched_are : (r s : Routing) (cs : List Change) (es : List Effect) → AreEffects r s cs (length cs) es → IsRising is_before (map (λ (c : Change). c.prefix) cs) → ((p : Prefix) → (Member p (map (λ (c : Change). c.prefix) cs) → ⊥) → Differs r s p → ⊥) → AreTouched r s (map (λ (e : Effect). e.prefix) es)
 touched_are r s cs es f rising elsewhere = subst (AreTouched r s) (sym now) (record {
-  each = λ p m. differs_from r s p (not_true_is (is_same r s p) (filter-Member t own p m).passes);
+  each = λ p m. differs_from r s p (not-true (is_same r s p) (filter-Member t own p m).passes);
   all = λ p d. kept p d (is_same r s p) refl;
   ascending = filter-IsRising is_before t own rising;
 })

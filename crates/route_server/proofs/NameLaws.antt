@@ -1,11 +1,13 @@
 -- Other names of one participant.
-use Rattle.std.proofs.Common.{◌≡◌, ℕ, ◌<◌, Bool, true, false, cond, ◌&&◌, ◌||◌, not, eqb, List, [], ◌∷◌, map, filter, length, set, sym, ap, ◌∙◌, refl, inl, inr, true≢false}
-use Rattle.std.specs.Prelude.{Option, Some, None, is_some}
+use Rattle.std.proofs.Math.Bool.{and-false}
+use Rattle.std.proofs.Common.{◌≡◌, ℕ, ◌<◌, Bool, true, false, cond, ◌&&◌, ◌||◌, not, eqb, List, [], ◌∷◌, map, filter, length, set, sym, ap, subst, ◌∙◌, refl, inl, inr, true≢false}
+use Rattle.std.specs.Prelude.{Option, Some, None, is_some, nat_lt}
 use Rattle.std.specs.List.{list_any, filter_map, cons_option}
 use Rattle.std.specs.Option.{option_map, option_and_then}
 use Rattle.std.specs.FinMap.{FinMap, get}
 use Rattle.std.specs.Cmp.{nat_eq_equiv}
-use Rattle.std.proofs.lemmas.Bool.{or_parts, eqb-true, false_from_ne_true}
+use Rattle.std.proofs.lemmas.Bool.{or_parts, eqb-true, false_from_ne_true, ltb-false, ltb-true}
+use Rattle.std.proofs.lemmas.List.{set_past}
 use Rattle.net_types.specs.Changes.{Differs}
 use Rattle.net_types.specs.Exports.{Routing, named_by, is_given, route}
 use Rattle.net_types.specs.Keys.{route_cmp}
@@ -28,10 +30,6 @@ named_in names n = list_any (λ (q : Pid). eqb q.0 n) names
 pid_is : (p q : Pid) → p.0 ≡ q.0 → p ≡ q
 pid_is p q e = λ i. record { 0 = e i }
 
-and_false : (a : Bool) → (a && false) ≡ false
-and_false true = refl
-and_false false = refl
-
 or_and : (e a b : Bool) → (e || (a && b)) ≡ ((e || a) && (e || b))
 or_and true a b = refl
 or_and false a b = refl
@@ -50,7 +48,7 @@ any_both (p ∷ old) new n =
     step : (b e a d x : Bool) → (e ≡ true → b ≡ d) → x ≡ (a && d) → cond b (e || x) x ≡ ((e || a) && d)
     step true true a d x same h = same refl
     step true false a d x same h = h
-    step false true a d x same h = h ∙ ap (λ z. a && z) (sym (same refl)) ∙ and_false a ∙ same refl
+    step false true a d x same h = h ∙ ap (λ z. a && z) (sym (same refl)) ∙ and-false a ∙ same refl
     step false false a d x same h = h
 
 counts_both : (old new : List Pid) (chosen who : Pid) → counts (both old new) chosen who ≡ (counts old chosen who && counts new chosen who)
@@ -152,7 +150,7 @@ module _ (r : Routing) (who : Pid) (named : List Pid) (known : who.0 < length r.
       by : (d : Bool) → named_in named f.0 ≡ d → (o : Bool) → named_in (named_by r who) f.0 ≡ o → (o && d) ≡ d
       by true t true s = refl
       by true t false s = absurd (true≢false (sym (ap is_some (sym (none f t s) ∙ there))))
-      by false t o s = and_false o
+      by false t o s = and-false o
 
   given_same : (chosen to : Pid) (xs : List Pid) → counted_by still chosen (filter_map (given r to q) xs) ≡ counted_by named chosen (filter_map (given r to q) xs)
   given_same chosen to [] = refl
@@ -181,9 +179,23 @@ module _ (r : Routing) (who : Pid) (named : List Pid) (known : who.0 < length r.
           ∙ lists (eqb who.0 to.0) c.from
           ∙ ap (λ names. counted_by names c.from (candidates r to q)) (sym (set_lists r.named who.0 named to.0 known)))
 
-  pub no_names : Differs (trimmed_routing r who named) now q → ⊥
-  no_names (inl d) = d (filter_map_alike (part (trimmed_routing r who named) q) (part now q) part_same (pids r))
-  no_names (inr d) = d.2 refl
+  none_where_known : Differs (trimmed_routing r who named) now q → ⊥
+  none_where_known (inl d) = d (filter_map_alike (part (trimmed_routing r who named) q) (part now q) part_same (pids r))
+  none_where_known (inr d) = d.2 refl
+
+not_from_itself : (r : Routing) (q : Prefix) → Differs r r q → ⊥
+not_from_itself r q (inl d) = d refl
+not_from_itself r q (inr d) = d.2 refl
+
+-- and where there is no such participant, nothing is another at all
+pub no_names : (r : Routing) (who : Pid) (named : List Pid) (q : Prefix) → ((f : Pid) → named_in named f.0 ≡ true → named_in (named_by r who) f.0 ≡ false → route r f q ≡ None) → Differs (trimmed_routing r who named) (record r { named = set r.named who.0 named }) q → ⊥
+no_names r who named q none = by (nat_lt who.0 (length r.named)) refl
+  where
+    by : (b : Bool) → nat_lt who.0 (length r.named) ≡ b → Differs (trimmed_routing r who named) (record r { named = set r.named who.0 named }) q → ⊥
+    by true known = none_where_known r who named (ltb-true who.0 (length r.named) known) q none
+    by false past =
+        let same : set r.named who.0 (both (named_by r who) named) ≡ set r.named who.0 named = set_past r.named who.0 _ (ltb-false who.0 (length r.named) past) ∙ sym (set_past r.named who.0 named (ltb-false who.0 (length r.named) past)) in
+        subst (λ ns. Differs (record r { named = ns }) (record r { named = set r.named who.0 named }) q → ⊥) (sym same) (not_from_itself (record r { named = set r.named who.0 named }) q)
 
 none_added : (old new : List Pid) (g : Pid → Bool) → list_any g (added old new) ≡ false → (x : Pid) → named_in new x.0 ≡ true → named_in old x.0 ≡ false → g x ≡ false
 none_added old [] g h x m n = absurd (true≢false (sym m))

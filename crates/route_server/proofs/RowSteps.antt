@@ -15,6 +15,7 @@ use Rattle.decision.specs.declared.candidate.Candidate.{Candidate}
 use Rattle.net_types.specs.declared.address.Pid.{Pid}
 use Rattle.route_server.specs.Rows.{held_by, held_given, offered, held_at}
 use Rattle.route_server.specs.declared.held.Held.{Held}
+use Rattle.net_types.proofs.FindLemmas.{slice_get_some}
 
 pub offered_more : (r : Routing) (to : Pid) (p : Prefix) (row : List Held) (i : ℕ) (h : Held) (b : Bool) → i < length row → h ≡ get_or row i h → b ≡ is_given r h.from to p h.attrs
     → offered r to p (take (i + 1) row) ≡ offered r to p (take i row) ++ cons_option (cond b (Some (held_by r h)) None) []
@@ -88,11 +89,6 @@ seen_best r to p row place count seen places i s all best within =
     ∙ sym (slice_get-map (held_at r row) (take count places) i) ∙ ap (λ ys. slice_get ys i) where_at ∙ slice_get-map (λ g. Some g) gs i)
     ∙ sym (best gs (sym looks))
 
-some_at : {X : Type 0} (xs : List X) (i : ℕ) → i < length xs → (x : X) × (slice_get xs i ≡ Some x)
-some_at [] i lt = absurd (omega (arith, lt))
-some_at (x ∷ xs) zero lt = (x, refl)
-some_at (x ∷ xs) (suc i) lt = some_at xs i (omega (arith, lt))
-
 held_within : (r : Routing) (row : List Held) (n : ℕ) (g : routes.Candidate) → held_at r row n ≡ Some g → n < length row
 held_within r [] n g e = cc
 held_within r (h ∷ hs) zero g e = omega arith
@@ -102,7 +98,7 @@ pub seen_within : (r : Routing) (to : Pid) (p : Prefix) (row : List Held) (place
 seen_within r to p row place count seen places i s all best within =
     let gs = offered r to p row in
     let looks : take count seen ≡ map see.seen gs = s.looks ∙ ap (λ xs. map see.seen (offered r to p xs)) all in
-    let there = some_at gs i (subst (λ n. i < n) (ap length looks ∙ length_mapped see.seen gs) within) in
+    let there = slice_get_some gs i (subst (λ n. i < n) (ap length looks ∙ length_mapped see.seen gs) within) in
     held_within r row (get_or places i 0) there.0
     (seen_best r to p row place count seen places i s all best within
     ∙ best gs (sym looks) ∙ there.1)

@@ -9,8 +9,8 @@ use Rattle.route_server.specs.declared.change.Change.{Change}
 use Rattle.std.proofs.lemmas.Bool.{and_parts, and_from, or_parts, eqb-true, eq-eqb, both_ways, false_from_ne_true}
 use Rattle.std.proofs.lemmas.List.Folds.{list_any-append}
 use Rattle.net_types.proofs.PrefixLemmas.{prefix_ext}
-use Rattle.net_types.proofs.OrderLemmas.{routes_total, prefixes_total}
-use Rattle.net_types.proofs.TieLemmas.{same_from_tie, route_cmp-IsAntisymmetric, prefix_cmp-IsAntisymmetric, ties_itself}
+use Rattle.net_types.proofs.OrderLemmas.{routes_total, prefixes_total, prefix_tie}
+use Rattle.net_types.proofs.TieLemmas.{same_from_tie, route_cmp-IsAntisymmetric, ties_itself}
 use Rattle.net_types.proofs.MapLemmas.{get-tabulate}
 use Rattle.net_types.specs.Keys.{RouteKey, prefix_cmp, route_cmp}
 use Rattle.net_types.specs.Exports.{same_prefix}
@@ -33,12 +33,9 @@ use Rattle.route_server.proofs.RowLaws.{candidates_offered, look_below}
 exact_route : (q k : RouteKey) → eq_by_cmp route_cmp q k ≡ true → q ≡ k
 exact_route = same_from_tie route_cmp route_cmp-IsAntisymmetric
 
-exact_prefix : (p q : Prefix) → eq_by_cmp prefix_cmp p q ≡ true → p ≡ q
-exact_prefix = same_from_tie prefix_cmp prefix_cmp-IsAntisymmetric
-
 same_key : (q : RouteKey) (p : Prefix) (h : Held) → eq_by_cmp prefix_cmp q.prefix p ≡ true → eqb h.from.0 q.from.0 ≡ true → eq_by_cmp route_cmp q (record { from = h.from; prefix = p }) ≡ true
 same_key q p h s e =
-    let prefix = exact_prefix q.prefix p s in
+    let prefix = prefix_tie q.prefix p s in
     let from = eqb-true h.from.0 q.from.0 e in
     let is : q ≡ record { from = h.from; prefix = p } = λ i. record { from = record { 0 = sym from i }; prefix = prefix i } in
     subst (λ k. eq_by_cmp route_cmp q k ≡ true) is (ties_itself routes_total q)
@@ -108,7 +105,7 @@ same_of p q = tied_is (eq_by_cmp prefix_cmp q p) refl (same_prefix p q) refl
 
     tied_is : (b : Bool) → eq_by_cmp prefix_cmp q p ≡ b → (d : Bool) → same_prefix p q ≡ d → b ≡ d
     tied_is true e true k = refl
-    tied_is true e false k = sym (subst (λ x. same_prefix p x ≡ true) (sym (exact_prefix q p e)) (self p)) ∙ k
+    tied_is true e false k = sym (subst (λ x. same_prefix p x ≡ true) (sym (prefix_tie q p e)) (self p)) ∙ k
     tied_is false e true k =
         let parts = and_parts (eqb p.address.0 q.address.0) (eqb p.len q.len) k in
         let is : q ≡ p = prefix_ext q p (sym (eqb-true p.address.0 q.address.0 parts.0)) (sym (eqb-true p.len q.len parts.1)) in

@@ -12,10 +12,10 @@ use Rattle.std.proofs.lemmas.List.Sorted.{sum_by-IsPermutation, IsPermutation-sy
 use Rattle.std.proofs.lemmas.Option.{slice_get-get_or}
 use Rattle.net_types.proofs.FindLemmas.{slice_get-Member}
 use Rattle.net_types.proofs.MemberLemmas.{Member-permutation}
-use Rattle.net_types.proofs.OrderLemmas.{routes_total, prefixes_total}
+use Rattle.net_types.proofs.OrderLemmas.{routes_total, prefixes_total, prefix_tie}
 use Rattle.net_types.proofs.RisingLemmas.{before_itself, sorted-IsRising}
 use Rattle.net_types.proofs.SetLemmas.{Member-append_left, Member-append_right, Member-append_cases, Member-map, map-Member, map-append}
-use Rattle.net_types.proofs.TieLemmas.{same_from_tie, route_cmp-IsAntisymmetric, prefix_cmp-IsAntisymmetric, ties_itself}
+use Rattle.net_types.proofs.TieLemmas.{same_from_tie, route_cmp-IsAntisymmetric, ties_itself}
 use Rattle.net_types.specs.Changes.{withdrawn, announced_by, announced_with, updated}
 use Rattle.net_types.specs.Keys.{RouteKey, prefix_cmp, route_cmp}
 use Rattle.net_types.specs.Sets.{Member, IsRising}
@@ -256,12 +256,9 @@ count_none q (p ∷ ps) h =
     sum_by-cons (λ p. cond (eq_by_cmp prefix_cmp q p) 1 0) p ps
     ∙ ap (λ b. cond b 1 0 + count q ps) (h p (inl refl)) ∙ ap (λ n. 0 + n) (count_none q ps (λ r k. h r (inr k)))
 
-exact_prefix : (p q : Prefix) → eq_by_cmp prefix_cmp p q ≡ true → p ≡ q
-exact_prefix = same_from_tie prefix_cmp prefix_cmp-IsAntisymmetric
-
 -- a prefix that comes before all others is none of them
 none_later : (q p : Prefix) (ps : List Prefix) → eq_by_cmp prefix_cmp q p ≡ true → ((r : Prefix) → Member r ps → is_before p r ≡ true) → (r : Prefix) → Member r ps → eq_by_cmp prefix_cmp q r ≡ false
-none_later q p ps e below r k = false_from_ne_true _ (λ t. before_itself prefix_cmp prefixes_total p (subst (λ x. is_before p x ≡ true) (sym (sym (exact_prefix q p e) ∙ exact_prefix q r t)) (below r k)))
+none_later q p ps e below r k = false_from_ne_true _ (λ t. before_itself prefix_cmp prefixes_total p (subst (λ x. is_before p x ≡ true) (sym (sym (prefix_tie q p e) ∙ prefix_tie q r t)) (below r k)))
 
 count_rising : (q : Prefix) (ps : List Prefix) → IsRising is_before ps → count q ps ≤ 1
 count_rising q [] r = omega arith
@@ -278,7 +275,7 @@ count_both q (p ∷ gone) here g h away =
     later : eq_by_cmp prefix_cmp q p ≡ true → (r : Prefix) → Member r (gone ++ here) → eq_by_cmp prefix_cmp q r ≡ false
     later t r k = elim (Member-append_cases gone here r k) [
       | inl a ↦ none_later q p gone t g.0 r a
-      | inr b ↦ false_from_ne_true _ (λ same. away p (inl refl) (subst (λ x. Member x here) (sym (exact_prefix q r same) ∙ exact_prefix q p t) b))
+      | inr b ↦ false_from_ne_true _ (λ same. away p (inl refl) (subst (λ x. Member x here) (sym (prefix_tie q r same) ∙ prefix_tie q p t) b))
     ]
 
 count_changes : (q : Prefix) (cs : List Change) → sum_by (λ (c : Change). cond (eq_by_cmp prefix_cmp q c.prefix) 1 0) cs ≡ count q (prefixes_of cs)

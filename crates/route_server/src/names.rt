@@ -55,13 +55,14 @@ fn copied(alloc: Global, lists: &[Pids]) -> Result<Vec<Pids>, Memory>
     Ok(twins)
 }
 
-/// A copy of all lists of names, with a participant's own in place of its earlier one.
+/// A copy of all lists of names, with a participant's own in place of its earlier one, where it has one.
 fn with_names(alloc: Global, lists: &[Pids], who: Pid, own: Pids) -> Result<Vec<Pids>, Memory>
-    requires { who.0 < length lists.now }
     ensures { IfOk result (λ after. after.items ≡ slice_set lists.now who.0 own) }
 {
     let mut after = copied(alloc, lists)?;
-    after[who.0 as usize] = own;
+    if let Some(there) = after.get_mut(who.0 as usize) {
+        *there = own;
+    }
     Ok(after)
 }
 
@@ -88,7 +89,6 @@ fn prefixes_of_any(server: &RouteServer, froms: &[Pid]) -> Result<Vec<Prefix>, M
 
 /// The names without those of a participant that aren't named from now on.
 fn names_before(alloc: Global, lists: &[Pids], who: Pid, named: &[Pid]) -> Result<Vec<Pids>, Memory>
-    requires { who.0 < length lists.now }
     ensures { IfOk result (λ before. before.items ≡ slice_set lists.now who.0 (both (names_at lists.now who.0) named.now)) }
 {
     let kept = Items::from_vec(both(alloc, names_at(lists, who), named)?);
@@ -97,7 +97,6 @@ fn names_before(alloc: Global, lists: &[Pids], who: Pid, named: &[Pid]) -> Resul
 
 /// The names with those of a participant from now on.
 fn names_after(alloc: Global, lists: &[Pids], who: Pid, named: &[Pid]) -> Result<Vec<Pids>, Memory>
-    requires { who.0 < length lists.now }
     ensures { IfOk result (λ after. after.items ≡ slice_set lists.now who.0 named.now) }
 {
     let own = Items::from_vec(Vec::from_slice(alloc, named)?);
@@ -114,7 +113,6 @@ fn effects_of_names(
     changes: &[Change],
 ) -> Result<Vec<Effect>, Memory>
     requires declared { AreDeclared names.now server.now.routes }
-    requires known { who.0 < length server.now.named }
     requires rows { AreRowsOf changes.now server.now.routes }
     ensures { IfOk result (λ effects. AreEffects (trimmed_routing (routing names.now server.now) who named.now) (record (routing names.now server.now) { named = slice_set server.now.named who.0 named.now }) changes.now (length changes.now) effects.items) }
 {
@@ -153,10 +151,10 @@ impl RouteServer {
     /// What it does that the outbound policy of a participant names these in a forward, in place of those that it named: the
     /// signatures that the new names make.
     ///
-    /// They are compared with the signatures as they are without those that aren't named any more.
+    /// They are compared with the signatures as they are without those that aren't named any more. Where the server was told
+    /// of no such participant, nothing becomes another.
     pub fn propose_named(&self, names: &Registry, who: Pid, named: Pids) -> Result<Proposal, Memory>
-        requires declared { AreDeclared names.now self.now.routes }
-        requires known { who.0 < length self.now.named }
+        requires { AreDeclared names.now self.now.routes }
         ensures rules { IfOk result (λ p. p.rules ≡ None) }
         ensures named { IfOk result (λ p. p.named ≡ Some (who, named)) }
         ensures proposal { IfOk result (λ p. IsProposal (trimmed_routing (routing names.now self.now) who named) (record (routing names.now self.now) { named = slice_set self.now.named who.0 named }) p) }

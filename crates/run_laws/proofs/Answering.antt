@@ -1,4 +1,5 @@
 -- What the reply to an accepted line may give tags of: none, those of a line that changes the routes, or those of a job's end.
+use Rattle.std.proofs.lemmas.Bool.{not-true}
 use Rattle.events.proofs.Drained.{some_cond}
 use Rattle.std.proofs.Common.{◌≡◌, ◌⊎◌, ◌-◌, ℕ, Bool, true, false, cond, List, [], ◌∷◌, ap, sym, ◌∙◌, refl, inl, inr}
 use Rattle.std.specs.Prelude.{Option, Some, None, MatchOption, nat_lt, take}
@@ -15,7 +16,7 @@ use Rattle.net_types.specs.Frames.{destination}
 use Rattle.events.specs.Pending.{pending}
 use Rattle.events.specs.Refusals.{refusal}
 use Rattle.events.specs.declared.Refusal.{Refusal}
-use Rattle.events.specs.Resolving.{is_pool_request, is_resolved, pool_mac, port_place, resolved_at, tag_address, unresolved, with_answer, with_resolved}
+use Rattle.events.specs.Resolving.{is_pool_request, is_resolved, pool_mac, tag_address, unresolved, with_answer, with_resolved}
 use Rattle.events.specs.State.{State, port_of, present, told_to}
 use Rattle.events.specs.Tags.{Group, free_tags, fresh_tag, group_of, groups, is_carried, is_changed, is_live, new_tag, retagged, same_group, tags, tags_after}
 use Rattle.events.specs.declared.Entry.{Entry}
@@ -31,13 +32,7 @@ use Rattle.net_types.proofs.RisingLemmas.{filter-Member}
 use Rattle.net_types.specs.Arp.{arp_reply, asked_ip, asker_ip, asker_mac}
 use Rattle.net_types.specs.ExportReading.{rules_of_text}
 use Rattle.net_types.specs.Exports.{Routing, pid_of}
-use Rattle.net_types.specs.Keys.{ip_cmp, prefix_cmp}
-use Rattle.net_types.specs.Maps.{ordered}
-use Rattle.net_types.specs.Octets.{same_octets}
-use Rattle.net_types.specs.declared.address.Ip.{Ip}
-use Rattle.net_types.specs.declared.address.PortNo.{PortNo}
-use Rattle.std.specs.Option.{option_map_or}
-use Rattle.std.specs.Prelude.{slice_set, ◌++◌, ◌&&◌}
+use Rattle.net_types.specs.Keys.{prefix_cmp}
 use Rattle.net_types.specs.Policies.{Policy}
 use Rattle.net_types.specs.PolicyReading.{policy_of_text}
 use Rattle.net_types.specs.Routes.{announced, longest_of}
@@ -50,6 +45,7 @@ use Rattle.net_types.specs.declared.route.PortInfo.{PortInfo}
 use Rattle.net_types.specs.declared.rule.Pair.{Pair}
 use Rattle.net_types.specs.declared.update.Fault.{Fault}
 use Rattle.net_types.specs.declared.update.Update.{Update as Message}
+use Rattle.run_laws.proofs.Known.{answer_is, resolved_is}
 
 -- ---- three kinds of replies
 
@@ -80,14 +76,10 @@ Kind s e r = IsQuiet s e r ⊎ (IsRetagging s e r ⊎ IsEnding s e r)
 
 -- ---- tags after a change of the routes
 
-not_true : (b : Bool) → not b ≡ true → b ≡ false
-not_true true e = cc
-not_true false e = refl
-
 pub fresh_dead : (s : State) (r : Routing) (g : Group) (t : Tag) → fresh_tag s r g ≡ Some t → is_live s t ≡ false
 fresh_dead s r g t e =
     option_and_then_some (slice_get (free_tags s)) (position_from (same_group g) 0 (groups s r)) t e (λ k place is.
-    not_true (is_live s t) (filter-Member (λ u. not (is_live s u)) (tags s) t (slice_get-Member (free_tags s) k t is)).passes)
+    not-true (is_live s t) (filter-Member (λ u. not (is_live s u)) (tags s) t (slice_get-Member (free_tags s) k t is)).passes)
 
 pub retagged_dead : (s : State) (r : Routing) (p : Prefix) (t : Tag) → get (tags_after s r) p ≡ Some t → (get s.tag p ≡ Some t) ⊎ (is_live s t ≡ false)
 retagged_dead s r p t e =
@@ -136,21 +128,6 @@ next_tag s e r Silent same = same
 known_tag : {X : Type 0} (s : State) (o : Option X) (f : X → State) → ((x : X) → (f x).tag ≡ s.tag) → (with_known s o f).tag ≡ s.tag
 known_tag s None f is = refl
 known_tag s (Some x) f is = is x
-
--- what routers resolve changes nothing else
-pub resolved_is : (s : State) (n : PortNo) (ips : List Ip) → with_resolved s n ips ≡ record s { resolved = (with_resolved s n ips).resolved }
-resolved_is s n ips = by (port_place s n)
-  where
-    by : (o : Option ℕ) → let f : ℕ → State = λ place. record s { resolved = slice_set s.resolved place (ordered ip_cmp (resolved_at s n ++ ips)) } in option_map_or f o s ≡ record s { resolved = (option_map_or f o s).resolved }
-    by None = refl
-    by (Some place) = refl
-
-pub answer_is : (s : State) (q : PortInfo) (frame : List ℕ) → with_answer s q frame ≡ record s { resolved = (with_answer s q frame).resolved }
-answer_is s q frame = by (is_pool_request s frame && same_octets (asker_mac frame).0 q.mac.0)
-  where
-    by : (b : Bool) → cond b (with_resolved s q.number (asked_ip frame ∷ [])) s ≡ record s { resolved = (cond b (with_resolved s q.number (asked_ip frame ∷ [])) s).resolved }
-    by true = resolved_is s q.number (asked_ip frame ∷ [])
-    by false = refl
 
 -- a reply without tags whose head ends no job, to a line that changes no tags
 quiet_as : (s : State) (e : Event) (r x : Reply) → r ≡ x → ¬ x.head ≡ Finished → x.tags ≡ [] → (after s e).tag ≡ s.tag → Kind s e r

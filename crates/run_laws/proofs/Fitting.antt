@@ -1,19 +1,19 @@
 -- Each route of a state that a legal run reaches can be told in a message, and so can whatever is present.
-use Rattle.std.proofs.Common.{◌≡◌, ◌⊎◌, ℕ, ◌+◌, ◌-◌, ◌/◌, ◌≤◌, Bool, true, false, cond, ◌&&◌, nat_lt, List, [], ◌∷◌, ◌++◌, length, take, sym, ap, subst, ◌∙◌, refl, inl, inr, arith}
-use Rattle.std.specs.Prelude.{Option, Some, None, Result, Ok, Err, slice_set, min}
+use Rattle.std.proofs.Common.{◌≡◌, ◌⊎◌, ℕ, ◌+◌, ◌-◌, ◌/◌, ◌≤◌, Bool, true, false, cond, nat_lt, List, [], ◌∷◌, length, take, sym, ap, subst, ◌∙◌, refl, inl, inr, arith}
+use Rattle.std.specs.Prelude.{Option, Some, None, Result, Ok, Err, min}
 use Rattle.std.specs.FinMap.{FinMap, get, get-empty, get-insert, insert}
 use Rattle.std.specs.List.{list_any}
-use Rattle.std.specs.Option.{option_and_then, option_map, option_map_or}
+use Rattle.std.specs.Option.{option_and_then, option_map}
 use Rattle.std.specs.Ordering.{eq_by_cmp}
 use Rattle.std.proofs.lemmas.Bool.{false_from_ne_true, ltb-false}
 use Rattle.std.proofs.lemmas.List.{length-append, length-take}
 use Rattle.events.proofs.Candidates.{best_Member, candidate_exported}
-use Rattle.events.specs.After.{after, bound_read, merged, next, received_by, ruled, running, sent_by, settled, taken, updated, with_known, with_port, with_told, with_update, without_from, worked}
+use Rattle.events.specs.After.{after, bound_read, merged, next, received_by, ruled, running, sent_by, settled, taken, updated, with_port, with_told, with_update, without_from, worked}
 use Rattle.events.specs.Fits.{FitsBy, IsAccepted, Passes, advert, adverts, is_building}
 use Rattle.events.specs.Legal.{Legal, state_after}
 use Rattle.events.specs.Pending.{pending}
-use Rattle.events.specs.Refusals.{attrs_refusal, if_known, refusal, refused_if, tags_refusal, update_refusal}
-use Rattle.events.specs.Resolving.{is_pool_request, port_place, resolved_at, tag_address, unresolved, with_answer, with_resolved}
+use Rattle.events.specs.Refusals.{attrs_refusal, refusal, refused_if, tags_refusal, update_refusal}
+use Rattle.events.specs.Resolving.{tag_address, unresolved, with_answer, with_resolved}
 use Rattle.events.specs.State.{State, port_of, present, present_entry}
 use Rattle.events.specs.Tags.{retagged}
 use Rattle.events.specs.declared.Entry.{Entry}
@@ -29,14 +29,12 @@ use Rattle.net_types.proofs.MapLemmas.{get-tabulate}
 use Rattle.net_types.proofs.OrderLemmas.{prefix_tie, prefixes_total, routes_total}
 use Rattle.net_types.proofs.SetLemmas.{map-Member}
 use Rattle.net_types.proofs.TieLemmas.{route_cmp-IsAntisymmetric, same_from_tie}
-use Rattle.net_types.specs.Arp.{asked_ip, asker_mac}
 use Rattle.net_types.specs.Changes as changes
 use Rattle.net_types.specs.Changes.{announced_by, announced_with, withdrawn}
 use Rattle.net_types.specs.ExportReading.{rules_of_text}
 use Rattle.net_types.specs.Exports.{pid_of, route}
-use Rattle.net_types.specs.Keys.{RouteKey, ip_cmp, prefix_cmp, route_cmp}
-use Rattle.net_types.specs.Maps.{ordered}
-use Rattle.net_types.specs.Octets.{address_octets, same_octets}
+use Rattle.net_types.specs.Keys.{RouteKey, prefix_cmp, route_cmp}
+use Rattle.net_types.specs.Octets.{address_octets}
 use Rattle.net_types.specs.Policies.{Policy}
 use Rattle.net_types.specs.PolicyReading.{policy_of_text}
 use Rattle.net_types.specs.Routes.{Candidate, announced, best}
@@ -45,17 +43,16 @@ use Rattle.net_types.specs.UpdateReading.{decoded}
 use Rattle.net_types.specs.Updates.{announcement, attrs_octets, is_oversize, is_oversize_with, prefix_octets, update_message, withdrawal}
 use Rattle.net_types.specs.declared.address.Ip.{Ip}
 use Rattle.net_types.specs.declared.address.Pid.{Pid}
-use Rattle.net_types.specs.declared.address.PortNo.{PortNo}
 use Rattle.net_types.specs.declared.address.Tag.{Tag}
 use Rattle.net_types.specs.declared.export.ExportRule.{ExportRule}
 use Rattle.net_types.specs.declared.prefix.Prefix.{Prefix}
 use Rattle.net_types.specs.declared.route.Attrs.{Attrs}
-use Rattle.net_types.specs.declared.route.PortInfo.{PortInfo}
 use Rattle.net_types.specs.declared.update.Fault.{Fault}
 use Rattle.net_types.specs.declared.update.Update.{Update as Message}
 use Rattle.run_laws.proofs.Answered.{answered}
 use Rattle.run_laws.proofs.Carried.{runs_hold}
 use Rattle.run_laws.specs.Promises.{AdvertsFitMessages}
+use Rattle.run_laws.proofs.Known.{answer_is, free_holds, known_holds, resolved_is}
 
 -- ---- messages
 
@@ -159,50 +156,27 @@ worked_fits : (s : State) (units owed : ℕ) (b : Bool) → RoutesFit s → Rout
 worked_fits s units owed true routes = routes
 worked_fits s units owed false routes = routes
 
-resolved_fits : (s : State) (n : PortNo) (ips : List Ip) → RoutesFit s → RoutesFit (with_resolved s n ips)
-resolved_fits s n ips routes = by (port_place s n)
-  where
-    by : (o : Option ℕ) → RoutesFit (option_map_or (λ place. let x : State = record s { resolved = slice_set s.resolved place (ordered ip_cmp (resolved_at s n ++ ips)) } in x) o s)
-    by None = routes
-    by (Some place) = routes
-
-answer_fits : (s : State) (q : PortInfo) (frame : List ℕ) → RoutesFit s → RoutesFit (with_answer s q frame)
-answer_fits s q frame routes = by (is_pool_request s frame && same_octets (asker_mac frame).0 q.mac.0)
-  where
-    by : (b : Bool) → RoutesFit (cond b (with_resolved s q.number (asked_ip frame ∷ [])) s)
-    by true = resolved_fits s q.number (asked_ip frame ∷ []) routes
-    by false = routes
-
-known_fits : {X : Type 0} (s : State) (o : Option X) (f : X → State) → RoutesFit s → ((x : X) → RoutesFit (f x)) → RoutesFit (with_known s o f)
-known_fits s None f routes then = routes
-known_fits s (Some x) f routes then = then x
-
--- where something is known, and no refusal stops the line
-free_fits : {X : Type 0} (s : State) (o : Option X) (g : X → Option Refusal) (f : X → State) → if_known o g ≡ None → ((x : X) → g x ≡ None → RoutesFit (f x)) → RoutesFit (with_known s o f)
-free_fits s None g f none then = absurd (cc)
-free_fits s (Some x) g f none then = then x none
-
 after_fits : (s : State) (e : Event) → refusal s e ≡ None → RoutesFit s → RoutesFit (after s e)
 after_fits s Bad none routes = routes
 after_fits s (Exchange base size capacity) none routes = routes
 after_fits s (Participant name asn id) none routes = routes
-after_fits s (Port name number ip mac) none routes = known_fits s (pid_of s.routing name) (λ who. with_port s (record { owner = who; number = number; ip = ip; mac = mac })) routes (λ who. routes)
+after_fits s (Port name number ip mac) none routes = known_holds RoutesFit s (pid_of s.routing name) (λ who. with_port s (record { owner = who; number = number; ip = ip; mac = mac })) routes (λ who. routes)
 after_fits s (Update name bytes) none routes =
-    free_fits s (pid_of s.routing name) (λ who. update_refusal s who (decoded bytes)) (λ who. updated s who (decoded bytes)) (passes s (Update name bytes) none).1 (λ who free. updated_fits s who (decoded bytes) free routes)
+    free_holds RoutesFit s (pid_of s.routing name) (λ who. update_refusal s who (decoded bytes)) (λ who. updated s who (decoded bytes)) (passes s (Update name bytes) none).1 (λ who free. updated_fits s who (decoded bytes) free routes)
 after_fits s (Down name) none routes =
-    known_fits s (pid_of s.routing name) (λ who. retagged s (without_from s.routing who)) routes (λ who w p a e. routes w p a (not_gone who s.routing.routes (record { from = w; prefix = p }) a e))
+    known_holds RoutesFit s (pid_of s.routing name) (λ who. retagged s (without_from s.routing who)) routes (λ who w p a e. routes w p a (not_gone who s.routing.routes (record { from = w; prefix = p }) a e))
 after_fits s (Export name text) none routes =
-    known_fits s (pid_of s.routing name) (λ who. ruled s who (bound_read s.routing (rules_of_text text))) routes (λ who. ruled_fits s who (bound_read s.routing (rules_of_text text)) routes)
-after_fits s (Outbound name text) none routes = known_fits s (pid_of s.routing name) (λ who. sent_by s who text (policy_of_text text)) routes (λ who. sent_fits s who text (policy_of_text text) routes)
-after_fits s (Inbound name text) none routes = known_fits s (pid_of s.routing name) (λ who. received_by s who text (policy_of_text text)) routes (λ who. received_fits s who text (policy_of_text text) routes)
-after_fits s (Take name count) none routes = known_fits s (pid_of s.routing name) (λ who. settled (running (taken s who (take count (pending s who))))) routes (λ who. routes)
-after_fits s (Drain name) none routes = known_fits s (pid_of s.routing name) (λ who. settled (running (with_told s who (present s who)))) routes (λ who. routes)
-after_fits s (Arp n bytes) none routes = known_fits s (port_of s n) (λ q. running (with_answer s q bytes)) routes (λ q. answer_fits s q bytes routes)
-after_fits s (Resolve n) none routes = known_fits s (port_of s n) (λ q. running (with_resolved s n (unresolved s q))) routes (λ q. resolved_fits s n (unresolved s q) routes)
+    known_holds RoutesFit s (pid_of s.routing name) (λ who. ruled s who (bound_read s.routing (rules_of_text text))) routes (λ who. ruled_fits s who (bound_read s.routing (rules_of_text text)) routes)
+after_fits s (Outbound name text) none routes = known_holds RoutesFit s (pid_of s.routing name) (λ who. sent_by s who text (policy_of_text text)) routes (λ who. sent_fits s who text (policy_of_text text) routes)
+after_fits s (Inbound name text) none routes = known_holds RoutesFit s (pid_of s.routing name) (λ who. received_by s who text (policy_of_text text)) routes (λ who. received_fits s who text (policy_of_text text) routes)
+after_fits s (Take name count) none routes = known_holds RoutesFit s (pid_of s.routing name) (λ who. settled (running (taken s who (take count (pending s who))))) routes (λ who. routes)
+after_fits s (Drain name) none routes = known_holds RoutesFit s (pid_of s.routing name) (λ who. settled (running (with_told s who (present s who)))) routes (λ who. routes)
+after_fits s (Arp n bytes) none routes = known_holds RoutesFit s (port_of s n) (λ q. running (with_answer s q bytes)) routes (λ q. subst RoutesFit (sym (answer_is s q bytes)) routes)
+after_fits s (Resolve n) none routes = known_holds RoutesFit s (port_of s n) (λ q. running (with_resolved s n (unresolved s q))) routes (λ q. subst RoutesFit (sym (resolved_is s n (unresolved s q))) routes)
 after_fits s (Packet n bytes) none routes = routes
 after_fits s (Frame n bytes) none routes = routes
 after_fits s Recompile none routes = routes
-after_fits s (Work units) none routes = known_fits s s.owed (worked s units) routes (λ owed. worked_fits s units owed (nat_lt units owed) routes)
+after_fits s (Work units) none routes = known_holds RoutesFit s s.owed (worked s units) routes (λ owed. worked_fits s units owed (nat_lt units owed) routes)
 after_fits s Table none routes = routes
 
 runs_fit : (es : List Event) (rs : List Reply) → Legal es rs → RoutesFit (state_after es rs)

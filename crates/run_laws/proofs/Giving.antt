@@ -11,7 +11,7 @@ use Rattle.events.proofs.Candidates.{candidate_exported}
 use Rattle.events.proofs.Drained.{some_cond}
 use Rattle.events.proofs.Reached.{step_sound, first_sound}
 use Rattle.events.proofs.Routed.{best_offered, part_with}
-use Rattle.events.specs.After.{after, bound_read, least_tag, merged, next, next_by, received_by, ruled, running, sent_by, settled, taken, updated, with_known, with_named, with_outbound, with_port, with_told, without_from, worked}
+use Rattle.events.specs.After.{after, bound_read, least_tag, merged, next, next_by, received_by, ruled, running, sent_by, settled, taken, updated, with_named, with_outbound, with_port, with_told, without_from, worked}
 use Rattle.events.specs.Fits.{tag_changes}
 use Rattle.events.specs.Legal.{LegalFrom, state_from}
 use Rattle.events.specs.Pending.{pending, with_all_news}
@@ -28,7 +28,6 @@ use Rattle.events.specs.declared.Head.TheVariants.{Fine, Working, Finished, Unro
 use Rattle.events.specs.declared.Reply.{Reply}
 use Rattle.events.specs.declared.TagChange.{TagChange}
 use Rattle.exchange_laws.proofs.ToldAnew.{get_set}
-use Rattle.net_types.proofs.EqualLemmas.{IsEqualityTest, from_itself, option_test}
 use Rattle.net_types.proofs.FindLemmas.{any_at, find-IsFound, slice_get-Member}
 use Rattle.net_types.proofs.MapLemmas.{get-tabulate}
 use Rattle.net_types.proofs.OrderLemmas.{prefix_tie, prefixes_total, tags_total}
@@ -61,22 +60,19 @@ use Rattle.net_types.specs.declared.route.Offer.{Offer}
 use Rattle.net_types.specs.declared.route.Part.{Part}
 use Rattle.net_types.specs.declared.update.Fault.{Fault}
 use Rattle.net_types.specs.declared.update.Update.{Update as Message}
-use Rattle.run_laws.proofs.Answering.{Kind, answer_is, fresh_dead, kind_of, resolved_is}
+use Rattle.run_laws.proofs.Answering.{Kind, fresh_dead, kind_of}
 use Rattle.run_laws.proofs.Sharing.{change_of}
 use Rattle.run_laws.proofs.Taking.{Entries, all_news_at}
 use Rattle.run_laws.specs.Given.{IsGivenIn, IsHeld, KeptOffersWereExported, OffersExporters, given_from, gives}
-
-clash : {b : Bool} → b ≡ true → b ≡ false → ⊥
-clash e f = cc
+use Rattle.exchange_laws.proofs.Lists.{clash}
+use Rattle.exchange_laws.proofs.Sames.{tags_test}
+use Rattle.run_laws.proofs.Known.{answer_is, known_holds, resolved_is}
 
 pub found : {A : Type 0} (test : A → Bool) (xs : List A) → list_any test xs ≡ true → (x : A) × Member x xs × (test x ≡ true)
 found test xs any =
     let there = some_there (find test xs) (is_some-any test xs ∙ any) in
     let is = find-IsFound test xs there.0 there.1 in
     (there.0, is.stands, is.passes)
-
-tag_test : IsEqualityTest (same_option same_tag)
-tag_test = option_test same_tag (from_itself same_tag (λ t u e. let same : t.0 ≡ u.0 = eqb-true t.0 u.0 e in λ i. record { 0 = same i }) (λ t. nat_itself t.0))
 
 tag_listed : (m : FinMap prefix_cmp Tag) (p : Prefix) → is_some (get m p) ≡ true → Member p (keys m)
 tag_listed m p there = any_member prefix_cmp prefixes_total prefix_tie p (keys m) (sym (contains_key-keys m p) ∙ there)
@@ -94,12 +90,12 @@ told_changes s s1 r tags_are = record {
       let parts = and_parts (same_prefix c.0.prefix p) (same_option same_tag c.0.tag (Some t)) c.2 in
       let halves = and_parts (nat_eq c.0.prefix.address.0 p.address.0) (nat_eq c.0.prefix.len p.len) parts.0 in
       let same : c.0.prefix ≡ p = prefix_ext c.0.prefix p (eqb-true c.0.prefix.address.0 p.address.0 halves.0) (eqb-true c.0.prefix.len p.len halves.1) in
-      ap (get s1.tag) (sym same) ∙ (change_of s.tag s1.tag c.0 (subst (Member c.0) tags_are c.1)).now ∙ (tag_test c.0.tag (Some t)).0 parts.1;
+      ap (get s1.tag) (sym same) ∙ (change_of s.tag s1.tag c.0 (subst (Member c.0) tags_are c.1)).now ∙ (tags_test c.0.tag (Some t)).0 parts.1;
   before = λ p t is. by p t is (same_option same_tag (get s.tag p) (get s1.tag p)) refl;
 }
   where
     by : (p : Prefix) (t : Tag) → get s1.tag p ≡ Some t → (b : Bool) → same_option same_tag (get s.tag p) (get s1.tag p) ≡ b → (get s.tag p ≡ Some t) ⊎ (gives r p t ≡ true)
-    by p t is true same = inl ((tag_test (get s.tag p) (get s1.tag p)).0 same ∙ is)
+    by p t is true same = inl ((tags_test (get s.tag p) (get s1.tag p)).0 same ∙ is)
     by p t is false apart =
         let all : List Prefix = keys s.tag ++ keys s1.tag in
         let test : Prefix → Bool = λ q. not (same_option same_tag (get s.tag q) (get s1.tag q)) in
@@ -107,7 +103,7 @@ told_changes s s1 r tags_are = record {
         let there : Member p (ordered prefix_cmp all) = (ordered_same prefix_cmp prefixes_total prefix_tie all).back p (Member-append_right (keys s.tag) (keys s1.tag) p (tag_listed s1.tag p (ap is_some is))) in
         let change : Member (make p) r.tags = subst (Member (make p)) (sym tags_are) (Member-map make (filter test (ordered prefix_cmp all)) p (Member-filter test (ordered prefix_cmp all) p there (ap not apart))) in
         inr (any_at (λ (x : TagChange). same_prefix x.prefix p && same_option same_tag x.tag (Some t)) r.tags (make p) change
-        (and_from (same_prefix p p) (same_option same_tag (get s1.tag p) (Some t)) (and_from (nat_eq p.address.0 p.address.0) (nat_eq p.len p.len) (nat_itself p.address.0) (nat_itself p.len)) ((tag_test (get s1.tag p) (Some t)).1 is)))
+        (and_from (same_prefix p p) (same_option same_tag (get s1.tag p) (Some t)) (and_from (nat_eq p.address.0 p.address.0) (nat_eq p.len p.len) (nat_itself p.address.0) (nat_itself p.len)) ((tags_test (get s1.tag p) (Some t)).1 is)))
 
 tells_tags : (s : State) (e : Event) (r : Reply) → Kind s e r → TellsTags s (next s e r) r
 tells_tags s e r (inl quiet) = record {
@@ -191,7 +187,7 @@ retagged_leaves s r = record { told = λ who p entry is. inl is; kept = λ t sig
     by : (t : Tag) (sig : List Part) → is_live s t ≡ true → (o : Option Group) → group_with s r t ≡ o → option_map_or (λ (g : Group). Some g.after) o (get s.kept t) ≡ Some sig → get s.kept t ≡ Some sig
     by t sig live None is e = e
     by t sig live (Some g) is e =
-        absurd (clash live (fresh_dead s r g t ((tag_test (fresh_tag s r g) (Some t)).0 (find-IsFound (λ x. same_option same_tag (fresh_tag s r x) (Some t)) (groups s r) g is).passes)))
+        absurd (clash live (fresh_dead s r g t ((tags_test (fresh_tag s r g) (Some t)).0 (find-IsFound (λ x. same_option same_tag (fresh_tag s r x) (Some t)) (groups s r) g is).passes)))
 
     kept_is : (t : Tag) (sig : List Part) → is_live s t ≡ true → get (retagged s r).kept t ≡ Some sig → get s.kept t ≡ Some sig
     kept_is t sig live is =
@@ -263,10 +259,6 @@ taken_leaves s who ps = told_leaves s who (with_all_news (present s who) (told_t
 
 -- ---- each line
 
-leaves_known : {X : Type 0} (s : State) (o : Option X) (f : X → State) → ((x : X) → Leaves s (f x)) → Leaves s (with_known s o f)
-leaves_known s None f is = stays s s refl refl
-leaves_known s (Some x) f is = is x
-
 updated_leaves : (s : State) (who : Pid) (read : Result Message Fault) → Leaves s (updated s who read)
 updated_leaves s who (Ok u) = retagged_leaves s _
 updated_leaves s who (Err fault) = stays s s refl refl
@@ -300,22 +292,22 @@ after_leaves s (DeclaresParticipant name asn id) = record {
   told = λ who p entry is. inl (ap (λ (x : Entries). get x p) (sym (at_more s.told who.0 empty)) ∙ is);
   kept = λ t sig live is. same_kept s t sig is;
 }
-after_leaves s (DeclaresPort name number ip mac) = leaves_known s (pid_of s.routing name) (λ who. with_port s (record { owner = who; number = number; ip = ip; mac = mac })) (λ who. stays s _ refl refl)
-after_leaves s (Update name bytes) = leaves_known s (pid_of s.routing name) (λ who. updated s who (decoded bytes)) (λ who. updated_leaves s who (decoded bytes))
-after_leaves s (Down name) = leaves_known s (pid_of s.routing name) (λ who. retagged s (without_from s.routing who)) (λ who. retagged_leaves s _)
-after_leaves s (Export name text) = leaves_known s (pid_of s.routing name) (λ who. ruled s who (bound_read s.routing (rules_of_text text))) (λ who. ruled_leaves s who (bound_read s.routing (rules_of_text text)))
-after_leaves s (Outbound name text) = leaves_known s (pid_of s.routing name) (λ who. sent_by s who text (policy_of_text text)) (λ who. sent_leaves s who text (policy_of_text text))
-after_leaves s (Inbound name text) = leaves_known s (pid_of s.routing name) (λ who. received_by s who text (policy_of_text text)) (λ who. received_leaves s who text (policy_of_text text))
-after_leaves s (Take name count) = leaves_known s (pid_of s.routing name) (λ who. settled (running (taken s who (take count (pending s who))))) (λ who. taken_leaves s who (take count (pending s who)))
-after_leaves s (Drain name) = leaves_known s (pid_of s.routing name) (λ who. settled (running (with_told s who (present s who)))) (λ who. told_leaves s who (present s who) (λ p entry is. inr (present_tag s who p entry is)))
+after_leaves s (DeclaresPort name number ip mac) = known_holds (Leaves s) s (pid_of s.routing name) (λ who. with_port s (record { owner = who; number = number; ip = ip; mac = mac })) (stays s s refl refl) (λ who. stays s _ refl refl)
+after_leaves s (Update name bytes) = known_holds (Leaves s) s (pid_of s.routing name) (λ who. updated s who (decoded bytes)) (stays s s refl refl) (λ who. updated_leaves s who (decoded bytes))
+after_leaves s (Down name) = known_holds (Leaves s) s (pid_of s.routing name) (λ who. retagged s (without_from s.routing who)) (stays s s refl refl) (λ who. retagged_leaves s _)
+after_leaves s (Export name text) = known_holds (Leaves s) s (pid_of s.routing name) (λ who. ruled s who (bound_read s.routing (rules_of_text text))) (stays s s refl refl) (λ who. ruled_leaves s who (bound_read s.routing (rules_of_text text)))
+after_leaves s (Outbound name text) = known_holds (Leaves s) s (pid_of s.routing name) (λ who. sent_by s who text (policy_of_text text)) (stays s s refl refl) (λ who. sent_leaves s who text (policy_of_text text))
+after_leaves s (Inbound name text) = known_holds (Leaves s) s (pid_of s.routing name) (λ who. received_by s who text (policy_of_text text)) (stays s s refl refl) (λ who. received_leaves s who text (policy_of_text text))
+after_leaves s (Take name count) = known_holds (Leaves s) s (pid_of s.routing name) (λ who. settled (running (taken s who (take count (pending s who))))) (stays s s refl refl) (λ who. taken_leaves s who (take count (pending s who)))
+after_leaves s (Drain name) = known_holds (Leaves s) s (pid_of s.routing name) (λ who. settled (running (with_told s who (present s who)))) (stays s s refl refl) (λ who. told_leaves s who (present s who) (λ p entry is. inr (present_tag s who p entry is)))
 after_leaves s (Arp n bytes) =
-    leaves_known s (port_of s n) (λ q. running (with_answer s q bytes)) (λ q. stays s (running (with_answer s q bytes)) (ap (λ (x : State). x.told) (answer_is s q bytes)) (ap (λ (x : State). x.kept) (answer_is s q bytes)))
+    known_holds (Leaves s) s (port_of s n) (λ q. running (with_answer s q bytes)) (stays s s refl refl) (λ q. stays s (running (with_answer s q bytes)) (ap (λ (x : State). x.told) (answer_is s q bytes)) (ap (λ (x : State). x.kept) (answer_is s q bytes)))
 after_leaves s (Resolve n) =
-    leaves_known s (port_of s n) (λ q. running (with_resolved s n (unresolved s q))) (λ q. let is = resolved_is s n (unresolved s q) in stays s (running (with_resolved s n (unresolved s q))) (ap (λ (x : State). x.told) is) (ap (λ (x : State). x.kept) is))
+    known_holds (Leaves s) s (port_of s n) (λ q. running (with_resolved s n (unresolved s q))) (stays s s refl refl) (λ q. let is = resolved_is s n (unresolved s q) in stays s (running (with_resolved s n (unresolved s q))) (ap (λ (x : State). x.told) is) (ap (λ (x : State). x.kept) is))
 after_leaves s (Packet n bytes) = stays s _ refl refl
 after_leaves s (Frame n bytes) = stays s _ refl refl
 after_leaves s Recompile = stays s _ refl refl
-after_leaves s (Work units) = leaves_known s s.owed (worked s units) (λ owed. worked_leaves s units owed (nat_lt units owed))
+after_leaves s (Work units) = known_holds (Leaves s) s s.owed (worked s units) (stays s s refl refl) (λ owed. worked_leaves s units owed (nat_lt units owed))
 after_leaves s Table = stays s _ refl refl
 
 next_leaves : (s : State) (e : Event) (r : Reply) (h : Head) → Leaves s (next_by h s e r)

@@ -1,5 +1,6 @@
 pub mod Answered
 pub mod Carried
+pub mod Known
 pub mod Passing
 pub mod Fitting
 pub mod Refusing

@@ -1,7 +1,7 @@
 -- Ports are found by their numbers and addresses, each NEXT_HOP is at a port of its participant, and so is each offer that is
 -- kept, in every state that a legal run reaches.
 use Rattle.std.proofs.Common.{◌≡◌, ℕ, ◌-◌, ◌≤◌, Bool, true, false, cond, ◌&&◌, ◌||◌, nat_eq, nat_lt, not, List, [], ◌∷◌, ◌++◌, filter, map, take, sym, ap, subst, ◌∙◌, refl, inl, inr}
-use Rattle.std.specs.Prelude.{Option, Some, None, Result, Ok, Err, find, slice_set, unwrap_or}
+use Rattle.std.specs.Prelude.{Option, Some, None, Result, Ok, Err, find, unwrap_or}
 use Rattle.std.specs.FinMap.{FinMap, get, get-empty, keys}
 use Rattle.std.specs.List.{list_any}
 use Rattle.std.specs.Option.{option_map, option_map_or}
@@ -10,17 +10,16 @@ use Rattle.std.proofs.lemmas.Bool.{and_parts, eq-eqb, eqb-true, false_from_ne_tr
 use Rattle.events.proofs.Candidates.{candidate_exported}
 use Rattle.events.proofs.Drained.{some_cond}
 use Rattle.events.proofs.Routed.{part_with}
-use Rattle.events.specs.After.{after, bound_read, least_tag, merged, received_by, ruled, running, sent_by, settled, taken, trimmed_kept, updated, with_known, with_named, with_outbound, with_port, with_told, with_update, without_from, worked}
+use Rattle.events.specs.After.{after, bound_read, least_tag, merged, received_by, ruled, running, sent_by, settled, taken, trimmed_kept, updated, with_named, with_outbound, with_port, with_told, with_update, without_from, worked}
 use Rattle.events.specs.Forms.{IsWellFormed}
 use Rattle.events.specs.Legal.{Legal, state_after}
 use Rattle.events.specs.Pending.{pending}
-use Rattle.events.specs.Refusals.{attrs_refusal, has_next_hop, if_known, is_port_taken, refusal, refused_if, update_refusal}
-use Rattle.events.specs.Resolving.{is_in_pool, is_pool_request, port_place, resolved_at, unresolved, with_answer, with_resolved}
+use Rattle.events.specs.Refusals.{attrs_refusal, has_next_hop, is_port_taken, refusal, refused_if, update_refusal}
+use Rattle.events.specs.Resolving.{is_in_pool, unresolved, with_answer, with_resolved}
 use Rattle.events.specs.State.{State, first, port_of, present}
 use Rattle.events.specs.Tags.{Group, carried, fresh_tag, group_of, group_with, groups, is_changed, is_live, kept_signature, retagged, same_group, same_tag, tags, tags_after}
 use Rattle.events.specs.declared.Event.{Event}
 use Rattle.events.specs.declared.Event.TheVariants.{Bad, Exchange, Participant as DeclaresParticipant, Port as DeclaresPort, Update, Down, Export, Outbound, Inbound, Take, Drain, Arp, Resolve, Packet, Frame, Recompile, Work, Table}
-use Rattle.events.specs.declared.Refusal.{Refusal}
 use Rattle.events.specs.declared.Refusal.TheVariants.{Clash, NextHop}
 use Rattle.events.specs.declared.Reply.{Reply}
 use Rattle.exchange_laws.proofs.Rerouted.{neither, not_gone, not_stopped, passes, still_there}
@@ -32,14 +31,13 @@ use Rattle.net_types.proofs.PassLemmas.{find_last, find_more}
 use Rattle.net_types.proofs.RisingLemmas.{filter-Member}
 use Rattle.net_types.proofs.SetLemmas.{Member-append_cases, map-Member}
 use Rattle.net_types.proofs.TieLemmas.{same_from_tie, tag_cmp-IsAntisymmetric}
-use Rattle.net_types.specs.Arp.{asked_ip, asker_mac}
 use Rattle.net_types.specs.Attributes.{same_option}
 use Rattle.net_types.specs.Changes.{announced_with, withdrawn}
 use Rattle.net_types.specs.Changes as changes
 use Rattle.net_types.specs.ExportReading.{rules_of_text}
 use Rattle.net_types.specs.Exports.{Routing, named_by, pid_of}
-use Rattle.net_types.specs.Keys.{RouteKey, ip_cmp, prefix_cmp, route_cmp, tag_cmp}
-use Rattle.net_types.specs.Maps.{each_once, ordered, tabulate}
+use Rattle.net_types.specs.Keys.{RouteKey, prefix_cmp, route_cmp, tag_cmp}
+use Rattle.net_types.specs.Maps.{each_once, tabulate}
 use Rattle.net_types.specs.Naming.{named_in}
 use Rattle.net_types.specs.Octets.{same_octets}
 use Rattle.net_types.specs.Policies.{Policy}
@@ -64,9 +62,8 @@ use Rattle.run_laws.proofs.Carried.{written_runs_hold}
 use Rattle.run_laws.proofs.Fitting.{RoutesOf, set_or_there}
 use Rattle.run_laws.proofs.Giving.{found, settled_kept, trimmed_narrower}
 use Rattle.net_types.proofs.SetLemmas.{given_by}
-
-clash : {b : Bool} → b ≡ true → b ≡ false → ⊥
-clash e f = cc
+use Rattle.exchange_laws.proofs.Lists.{clash}
+use Rattle.run_laws.proofs.Known.{answer_is, free_holds, known_holds, resolved_is}
 
 -- ---- ports
 
@@ -299,54 +296,31 @@ worked_owned s units owed true is = is
 worked_owned s units owed false is =
     let joined : State = running (record s { tag = tabulate prefix_cmp (carried s.routing) (λ p. least_tag s (signature s.routing p)); owed = None }) in settled_owned joined is
 
-resolved_owned : (s : State) (n : PortNo) (ips : List Ip) → IsOwned s → IsOwned (with_resolved s n ips)
-resolved_owned s n ips is = by (port_place s n)
-  where
-    by : (o : Option ℕ) → IsOwned (option_map_or (λ place. let x : State = record s { resolved = slice_set s.resolved place (ordered ip_cmp (resolved_at s n ++ ips)) } in x) o s)
-    by None = is
-    by (Some place) = is
-
-answer_owned : (s : State) (q : PortInfo) (frame : List ℕ) → IsOwned s → IsOwned (with_answer s q frame)
-answer_owned s q frame is = by (is_pool_request s frame && same_octets (asker_mac frame).0 q.mac.0)
-  where
-    by : (b : Bool) → IsOwned (cond b (with_resolved s q.number (asked_ip frame ∷ [])) s)
-    by true = resolved_owned s q.number (asked_ip frame ∷ []) is
-    by false = is
-
-known_owned : {X : Type 0} (s : State) (o : Option X) (f : X → State) → IsOwned s → ((x : X) → IsOwned (f x)) → IsOwned (with_known s o f)
-known_owned s None f is then = is
-known_owned s (Some x) f is then = then x
-
--- where something is known, and no refusal stops the line
-free_owned : {X : Type 0} (s : State) (o : Option X) (g : X → Option Refusal) (f : X → State) → if_known o g ≡ None → ((x : X) → g x ≡ None → IsOwned (f x)) → IsOwned (with_known s o f)
-free_owned s None g f none then = absurd (cc)
-free_owned s (Some x) g f none then = then x none
-
 after_owned : (s : State) (e : Event) → IsWellFormed e → refusal s e ≡ None → IsOwned s → IsOwned (after s e)
 after_owned s Bad formed none is = is
 after_owned s (Exchange base size capacity) formed none is = is
 after_owned s (DeclaresParticipant name asn id) formed none is = is
 after_owned s (DeclaresPort name number ip mac) formed none is =
-    free_owned s (pid_of s.routing name) (λ who. refused_if (is_port_taken s number ip mac) Clash) (λ who. with_port s (record { owner = who; number = number; ip = ip; mac = mac })) (passes s (DeclaresPort name number ip mac) none).1 (λ who free.
+    free_holds IsOwned s (pid_of s.routing name) (λ who. refused_if (is_port_taken s number ip mac) Clash) (λ who. with_port s (record { owner = who; number = number; ip = ip; mac = mac })) (passes s (DeclaresPort name number ip mac) none).1 (λ who free.
     port_owned s (record { owner = who; number = number; ip = ip; mac = mac }) (not_stopped (is_port_taken s number ip mac) Clash free) formed.2 is)
 after_owned s (Update name bytes) formed none is =
-    free_owned s (pid_of s.routing name) (λ who. update_refusal s who (decoded bytes)) (λ who. updated s who (decoded bytes)) (passes s (Update name bytes) none).1 (λ who free. updated_owned s who (decoded bytes) free is)
+    free_holds IsOwned s (pid_of s.routing name) (λ who. update_refusal s who (decoded bytes)) (λ who. updated s who (decoded bytes)) (passes s (Update name bytes) none).1 (λ who free. updated_owned s who (decoded bytes) free is)
 after_owned s (Down name) formed none is =
-    known_owned s (pid_of s.routing name) (λ who. retagged s (without_from s.routing who)) is (λ who. retagged_owned s (without_from s.routing who) is (λ k a e. is.hops k a (not_gone who s.routing.routes k a e)))
+    known_holds IsOwned s (pid_of s.routing name) (λ who. retagged s (without_from s.routing who)) is (λ who. retagged_owned s (without_from s.routing who) is (λ k a e. is.hops k a (not_gone who s.routing.routes k a e)))
 after_owned s (Export name text) formed none is =
-    known_owned s (pid_of s.routing name) (λ who. ruled s who (bound_read s.routing (rules_of_text text))) is (λ who. ruled_owned s who (bound_read s.routing (rules_of_text text)) is)
-after_owned s (Outbound name text) formed none is = known_owned s (pid_of s.routing name) (λ who. sent_by s who text (policy_of_text text)) is (λ who. sent_owned s who text (policy_of_text text) is)
-after_owned s (Inbound name text) formed none is = known_owned s (pid_of s.routing name) (λ who. received_by s who text (policy_of_text text)) is (λ who. received_owned s who text (policy_of_text text) is)
+    known_holds IsOwned s (pid_of s.routing name) (λ who. ruled s who (bound_read s.routing (rules_of_text text))) is (λ who. ruled_owned s who (bound_read s.routing (rules_of_text text)) is)
+after_owned s (Outbound name text) formed none is = known_holds IsOwned s (pid_of s.routing name) (λ who. sent_by s who text (policy_of_text text)) is (λ who. sent_owned s who text (policy_of_text text) is)
+after_owned s (Inbound name text) formed none is = known_holds IsOwned s (pid_of s.routing name) (λ who. received_by s who text (policy_of_text text)) is (λ who. received_owned s who text (policy_of_text text) is)
 after_owned s (Take name count) formed none is =
-    known_owned s (pid_of s.routing name) (λ who. settled (running (taken s who (take count (pending s who))))) is (λ who. settled_owned (running (taken s who (take count (pending s who)))) is)
+    known_holds IsOwned s (pid_of s.routing name) (λ who. settled (running (taken s who (take count (pending s who))))) is (λ who. settled_owned (running (taken s who (take count (pending s who)))) is)
 after_owned s (Drain name) formed none is =
-    known_owned s (pid_of s.routing name) (λ who. settled (running (with_told s who (present s who)))) is (λ who. settled_owned (running (with_told s who (present s who))) is)
-after_owned s (Arp n bytes) formed none is = known_owned s (port_of s n) (λ q. running (with_answer s q bytes)) is (λ q. answer_owned s q bytes is)
-after_owned s (Resolve n) formed none is = known_owned s (port_of s n) (λ q. running (with_resolved s n (unresolved s q))) is (λ q. resolved_owned s n (unresolved s q) is)
+    known_holds IsOwned s (pid_of s.routing name) (λ who. settled (running (with_told s who (present s who)))) is (λ who. settled_owned (running (with_told s who (present s who))) is)
+after_owned s (Arp n bytes) formed none is = known_holds IsOwned s (port_of s n) (λ q. running (with_answer s q bytes)) is (λ q. subst IsOwned (sym (answer_is s q bytes)) is)
+after_owned s (Resolve n) formed none is = known_holds IsOwned s (port_of s n) (λ q. running (with_resolved s n (unresolved s q))) is (λ q. subst IsOwned (sym (resolved_is s n (unresolved s q))) is)
 after_owned s (Packet n bytes) formed none is = is
 after_owned s (Frame n bytes) formed none is = is
 after_owned s Recompile formed none is = is
-after_owned s (Work units) formed none is = known_owned s s.owed (worked s units) is (λ owed. worked_owned s units owed (nat_lt units owed) is)
+after_owned s (Work units) formed none is = known_holds IsOwned s s.owed (worked s units) is (λ owed. worked_owned s units owed (nat_lt units owed) is)
 after_owned s Table formed none is = is
 
 first_owned : IsOwned first

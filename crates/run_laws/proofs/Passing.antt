@@ -1,23 +1,21 @@
 -- The texts of the policies are read as policies that passed isolation, in every state that a legal run reaches.
-use Rattle.std.proofs.Common.{◌≡◌, ℕ, zero, suc, Bool, true, false, cond, ◌&&◌, nat_lt, List, [], ◌∷◌, ◌++◌, length, sym, ap, subst, ◌∙◌, refl, inl, inr}
+use Rattle.std.proofs.Common.{◌≡◌, ℕ, zero, suc, Bool, true, false, cond, nat_lt, List, [], ◌∷◌, ◌++◌, length, sym, ap, subst, ◌∙◌, refl, inl, inr}
 use Rattle.std.specs.Prelude.{◌+◌, map, take, Option, Some, None, Result, Ok, Err, codes, slice_get, slice_set, unwrap_or, ◌-◌}
 use Rattle.std.specs.FinMap.{FinMap}
-use Rattle.std.specs.Option.{option_map_or}
 use Rattle.std.proofs.lemmas.List.{length-append}
 use Rattle.events.proofs.DropText.{drop_is_read}
 use Rattle.events.proofs.Reached.{set_length}
-use Rattle.events.specs.After.{after, bound_read, merged, received_by, ruled, running, sent_by, settled, taken, updated, with_known, with_named, with_outbound, with_participant, with_port, with_told, without_from, worked}
+use Rattle.events.specs.After.{after, bound_read, merged, received_by, ruled, running, sent_by, settled, taken, updated, with_named, with_outbound, with_participant, with_port, with_told, without_from, worked}
 use Rattle.events.specs.Legal.{state_after}
 use Rattle.events.specs.Pending.{pending}
-use Rattle.events.specs.Refusals.{if_known, if_short, inbound_refusal, is_placed, outbound_refusal, policy_refusal, refusal, tags_refusal}
-use Rattle.events.specs.Resolving.{is_pool_request, port_place, resolved_at, unresolved, with_answer, with_resolved}
+use Rattle.events.specs.Refusals.{if_short, inbound_refusal, is_placed, outbound_refusal, policy_refusal, refusal, tags_refusal}
+use Rattle.events.specs.Resolving.{unresolved, with_answer, with_resolved}
 use Rattle.events.specs.State.{State, AreRead, IsRead, first, owner_of, port_of, present}
 use Rattle.events.specs.Tags.{retagged}
 use Rattle.events.specs.declared.Event.{Event}
 use Rattle.events.specs.declared.Event.TheVariants.{Bad, Exchange, Participant as DeclaresParticipant, Port as DeclaresPort, Update, Down, Export, Outbound, Inbound, Take, Drain, Arp, Resolve, Packet, Frame, Recompile, Work, Table}
 use Rattle.events.specs.declared.Phase.{Phase}
 use Rattle.events.specs.declared.Phase.TheVariants.{Start, Declaring, Running}
-use Rattle.events.specs.declared.Refusal.{Refusal}
 use Rattle.events.specs.declared.Refusal.TheVariants.{TextLong}
 use Rattle.exchange_laws.proofs.LineSteps.{at_start, declares_participant, no_fault}
 use Rattle.exchange_laws.proofs.PassedSteps.{set_both, set_read}
@@ -25,20 +23,17 @@ use Rattle.exchange_laws.proofs.Rerouted.{neither, passes}
 use Rattle.grammar.specs.TextReading.{Fault as Misread}
 use Rattle.net_types.proofs.ValueLemmas.{no_entries}
 use Rattle.net_types.specs.Answers.{policy_of}
-use Rattle.net_types.specs.Arp.{asked_ip, asker_mac}
 use Rattle.net_types.specs.ExportReading.{rules_of_text}
 use Rattle.net_types.specs.Exports.{named_by, pid_of}
 use Rattle.net_types.specs.Isolation.{in_faults, out_faults}
-use Rattle.net_types.specs.Keys.{ip_cmp, pair_cmp, pid_cmp}
+use Rattle.net_types.specs.Keys.{pair_cmp, pid_cmp}
 use Rattle.net_types.specs.Maps.{ordered}
 use Rattle.net_types.specs.Naming.{named_in}
-use Rattle.net_types.specs.Octets.{same_octets}
 use Rattle.net_types.specs.Policies.{Policy, Drop}
 use Rattle.net_types.specs.PolicyReading.{policy_of_text}
 use Rattle.net_types.specs.UpdateReading.{decoded}
 use Rattle.net_types.specs.declared.address.Ip.{Ip}
 use Rattle.net_types.specs.declared.address.Pid.{Pid}
-use Rattle.net_types.specs.declared.address.PortNo.{PortNo}
 use Rattle.net_types.specs.declared.export.ExportRule.{ExportRule}
 use Rattle.net_types.specs.declared.route.Participant.{Participant}
 use Rattle.net_types.specs.declared.route.PortInfo.{PortInfo}
@@ -47,6 +42,7 @@ use Rattle.net_types.specs.declared.update.Update.{Update as Message}
 use Rattle.net_types.specs.declared.rule.Rule.{Rule}
 use Rattle.run_laws.proofs.Carried.{not_before, runs_hold}
 use Rattle.run_laws.specs.Promises.{PoliciesHavePassed}
+use Rattle.run_laws.proofs.Known.{answer_is, free_holds, known_holds, resolved_is}
 
 -- ---- lists
 
@@ -211,10 +207,6 @@ abbrev said : State → Said
 said s = record { outbound = s.outbound; inbound = s.inbound; participants = s.routing.participants; ports = s.routing.ports; named = s.routing.named }
 
 -- the exchange runs, with the policies and declarations that it had
-record Keeps (s s1 : State) : Type 0 where
-  same : said s1 ≡ said s
-  running : s1.phase ≡ Running
-
 kept_passing : (s s1 : State) → said s1 ≡ said s → s1.phase ≡ Running → IsPassing s → IsPassing s1
 kept_passing s s1 same running is =
     let names : pid_of s1.routing ≡ pid_of s.routing = ap (λ (x : Said). pid_of (record s.routing { participants = x.participants })) same in
@@ -242,20 +234,6 @@ ruled_passing s who None is = is
 worked_passing : (s : State) (units owed : ℕ) (b : Bool) → IsPassing s → IsPassing (cond b (running (record s { owed = Some (owed - units) })) (merged s))
 worked_passing s units owed true is = kept_passing s _ refl refl is
 worked_passing s units owed false is = kept_passing s _ refl refl is
-
-resolved_keeps : (s : State) (n : PortNo) (ips : List Ip) → Keeps s (running (with_resolved s n ips))
-resolved_keeps s n ips = by (port_place s n)
-  where
-    by : (o : Option ℕ) → Keeps s (running (option_map_or (λ place. let x : State = record s { resolved = slice_set s.resolved place (ordered ip_cmp (resolved_at s n ++ ips)) } in x) o s))
-    by None = record { same = refl; running = refl }
-    by (Some place) = record { same = refl; running = refl }
-
-answer_keeps : (s : State) (q : PortInfo) (frame : List ℕ) → Keeps s (running (with_answer s q frame))
-answer_keeps s q frame = by (is_pool_request s frame && same_octets (asker_mac frame).0 q.mac.0)
-  where
-    by : (b : Bool) → Keeps s (running (cond b (with_resolved s q.number (asked_ip frame ∷ [])) s))
-    by true = resolved_keeps s q.number (asked_ip frame ∷ [])
-    by false = record { same = refl; running = refl }
 
 -- ---- policies
 
@@ -309,52 +287,43 @@ received_passing s who text (Ok p) read none is =
 
 -- ---- each line
 
-known_passing : {X : Type 0} (s : State) (o : Option X) (f : X → State) → IsPassing s → ((x : X) → o ≡ Some x → IsPassing (f x)) → IsPassing (with_known s o f)
-known_passing s None f is then = is
-known_passing s (Some x) f is then = then x refl
-
--- where something is known, and no refusal stops the line
-free_passing : {X : Type 0} (s : State) (o : Option X) (g : X → Option Refusal) (f : X → State) → if_known o g ≡ None → ((x : X) → g x ≡ None → IsPassing (f x)) → IsPassing (with_known s o f)
-free_passing s None g f none then = absurd (cc)
-free_passing s (Some x) g f none then = then x none
-
 after_passing : (s : State) (e : Event) → refusal s e ≡ None → IsPassing s → IsPassing (after s e)
 after_passing s Bad none is = is
 after_passing s (Exchange base size capacity) none is = pool_passing s base size capacity (at_start s.phase base size capacity (passes s (Exchange base size capacity) none).0) is
 after_passing s (DeclaresParticipant name asn id) none is =
     participant_passing s (record { name = name; asn = asn; id = id }) (declares_participant s.phase name asn id (passes s (DeclaresParticipant name asn id) none).0) is
 after_passing s (DeclaresPort name number ip mac) none is =
-    known_passing s (pid_of s.routing name) (λ who. with_port s (record { owner = who; number = number; ip = ip; mac = mac })) is (λ who there.
+    known_holds IsPassing s (pid_of s.routing name) (λ who. with_port s (record { owner = who; number = number; ip = ip; mac = mac })) is (λ who.
     let q : PortInfo = record { owner = who; number = number; ip = ip; mac = mac } in
     port_passing s q (declares_port s.phase name q (passes s (DeclaresPort name number ip mac) none).0) is)
-after_passing s (Update name bytes) none is = known_passing s (pid_of s.routing name) (λ who. updated s who (decoded bytes)) is (λ who there. updated_passing s who (decoded bytes) is)
+after_passing s (Update name bytes) none is = known_holds IsPassing s (pid_of s.routing name) (λ who. updated s who (decoded bytes)) is (λ who. updated_passing s who (decoded bytes) is)
 after_passing s (Down name) none is =
-    known_passing s (pid_of s.routing name) (λ who. retagged s (without_from s.routing who)) is (λ who there.
+    known_holds IsPassing s (pid_of s.routing name) (λ who. retagged s (without_from s.routing who)) is (λ who.
     kept_passing s _ refl refl is)
 after_passing s (Export name text) none is =
-    known_passing s (pid_of s.routing name) (λ who. ruled s who (bound_read s.routing (rules_of_text text))) is (λ who there. ruled_passing s who (bound_read s.routing (rules_of_text text)) is)
+    known_holds IsPassing s (pid_of s.routing name) (λ who. ruled s who (bound_read s.routing (rules_of_text text))) is (λ who. ruled_passing s who (bound_read s.routing (rules_of_text text)) is)
 after_passing s (Outbound name text) none is =
-    free_passing s (pid_of s.routing name) (λ who. if_short text (outbound_refusal s who text (policy_of_text text))) (λ who. sent_by s who text (policy_of_text text)) (passes s (Outbound name text) none).1 (λ who short.
+    free_holds IsPassing s (pid_of s.routing name) (λ who. if_short text (outbound_refusal s who text (policy_of_text text))) (λ who. sent_by s who text (policy_of_text text)) (passes s (Outbound name text) none).1 (λ who short.
     sent_passing s who text (policy_of_text text) refl (not_before (nat_lt 8192 (length text)) TextLong (outbound_refusal s who text (policy_of_text text)) short) is)
 after_passing s (Inbound name text) none is =
-    free_passing s (pid_of s.routing name) (λ who. if_short text (inbound_refusal s who (policy_of_text text))) (λ who. received_by s who text (policy_of_text text)) (passes s (Inbound name text) none).1 (λ who short.
+    free_holds IsPassing s (pid_of s.routing name) (λ who. if_short text (inbound_refusal s who (policy_of_text text))) (λ who. received_by s who text (policy_of_text text)) (passes s (Inbound name text) none).1 (λ who short.
     received_passing s who text (policy_of_text text) refl (not_before (nat_lt 8192 (length text)) TextLong (inbound_refusal s who (policy_of_text text)) short) is)
 after_passing s (Take name count) none is =
-    known_passing s (pid_of s.routing name) (λ who. settled (running (taken s who (take count (pending s who))))) is (λ who there.
+    known_holds IsPassing s (pid_of s.routing name) (λ who. settled (running (taken s who (take count (pending s who))))) is (λ who.
     kept_passing s _ refl refl is)
 after_passing s (Drain name) none is =
-    known_passing s (pid_of s.routing name) (λ who. settled (running (with_told s who (present s who)))) is (λ who there.
+    known_holds IsPassing s (pid_of s.routing name) (λ who. settled (running (with_told s who (present s who)))) is (λ who.
     kept_passing s _ refl refl is)
 after_passing s (Arp n bytes) none is =
-    known_passing s (port_of s n) (λ q. running (with_answer s q bytes)) is (λ q there.
-    let keeps = answer_keeps s q bytes in kept_passing s (running (with_answer s q bytes)) keeps.same keeps.running is)
+    known_holds IsPassing s (port_of s n) (λ q. running (with_answer s q bytes)) is (λ q.
+    subst (λ x. IsPassing (running x)) (sym (answer_is s q bytes)) (kept_passing s _ refl refl is))
 after_passing s (Resolve n) none is =
-    known_passing s (port_of s n) (λ q. running (with_resolved s n (unresolved s q))) is (λ q there.
-    let keeps = resolved_keeps s n (unresolved s q) in kept_passing s (running (with_resolved s n (unresolved s q))) keeps.same keeps.running is)
+    known_holds IsPassing s (port_of s n) (λ q. running (with_resolved s n (unresolved s q))) is (λ q.
+    subst (λ x. IsPassing (running x)) (sym (resolved_is s n (unresolved s q))) (kept_passing s _ refl refl is))
 after_passing s (Packet n bytes) none is = kept_passing s _ refl refl is
 after_passing s (Frame n bytes) none is = kept_passing s _ refl refl is
 after_passing s Recompile none is = kept_passing s _ refl refl is
-after_passing s (Work units) none is = known_passing s s.owed (worked s units) is (λ owed there. worked_passing s units owed (nat_lt units owed) is)
+after_passing s (Work units) none is = known_holds IsPassing s s.owed (worked s units) is (λ owed. worked_passing s units owed (nat_lt units owed) is)
 after_passing s Table none is = kept_passing s _ refl refl is
 
 pub policies_have_passed : PoliciesHavePassed

@@ -27,5 +27,5 @@ returns-clause-proposal c =
     (subst (λ ns. AreEffects (trimmed_routing r who ns) (record r { named = set server.named who.0 ns }) c.in_ok-changes.changes.items (length c.in_ok-changes.changes.items) c.in_ok-effects.effects.items) named_is
     (effects_between _ (trimmed_routing r who c.items-2.result.now) _ (record r { named = set server.named who.0 c.items-2.result.now }) c.as_slice.result.now c.in_ok-changes.changes.items c.in_ok-effects.effects.items refl refl c.as_slice.ensures.value c.in_ok-effects.ensures))
     carry.rising (λ q away. refl)
-    (λ q away. no_names r who named c.requires.known q (none_carried server.routes (named_by r who) named (prefixes_of c.in_ok-changes.changes.items) carry q away))
+    (λ q away. no_names r who named q (none_carried server.routes (named_by r who) named (prefixes_of c.in_ok-changes.changes.items) carry q away))
     (λ are. record { owned = are.owned }))
