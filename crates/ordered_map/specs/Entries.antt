@@ -15,16 +15,16 @@ abbrev mutual
 
   pub node_entries : {K V : Type 0} → Node K V → List (K × V)
   node_entries Blank = []
-  node_entries (Full left key value height right) = entries_of left ++ (key, value) ∷ entries_of right
+  node_entries (Full height key left right value) = entries_of left ++ (key, value) ∷ entries_of right
 
 -- the entry of a node alone
 abbrev pub own_entry : {K V : Type 0} → Node K V → List (K × V)
 own_entry Blank = []
-own_entry (Full left key value height right) = (key, value) ∷ []
+own_entry (Full height key left right value) = (key, value) ∷ []
 
 abbrev pub is_full : {K V : Type 0} → Node K V → Bool
 is_full Blank = false
-is_full (Full left key value height right) = true
+is_full (Full height key left right value) = true
 
 -- the entries with a value for a key, where one is given
 abbrev pub put_given : {K V : Type 0} → (K → K → Ordering) → K → Option V → List (K × V) → List (K × V)
@@ -47,11 +47,11 @@ head_of (x ∷ xs) = Some x
 -- ---- the entry of a tree's root, and the others
 abbrev value_here : {K V : Type 0} → Node K V → Option V
 value_here Blank = None
-value_here (Full left key value height right) = Some value
+value_here (Full height key left right value) = Some value
 
 abbrev beside : {K V : Type 0} → Node K V → List (K × V)
 beside Blank = []
-beside (Full left key value height right) = entries_of left ++ entries_of right
+beside (Full height key left right value) = entries_of left ++ entries_of right
 
 abbrev pub root_value : {K V : Type 0} → Tree K V → Option V
 root_value Empty = None

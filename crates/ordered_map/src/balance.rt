@@ -12,11 +12,11 @@ pub(crate) fn height_of<K, V>(tree: &Tree<K, V>) -> u8 {
         Tree::Fork(node) => match &**node {
             Node::Blank => 0,
             Node::Full {
-                left: _,
-                key: _,
-                value: _,
                 height,
+                key: _,
+                left: _,
                 right: _,
+                value: _,
             } => *height,
         },
     }
@@ -48,11 +48,11 @@ pub(crate) fn full<K, V>(left: Tree<K, V>, key: K, value: V, right: Tree<K, V>) 
 {
     let height = height_above(&left, &right);
     Node::Full {
-        left,
-        key,
-        value,
         height,
+        key,
+        left,
         right,
+        value,
     }
 }
 
@@ -68,11 +68,11 @@ pub(crate) fn between<K: Drop, V: Drop>(
     match &mut *node {
         Node::Blank => unreachable!(),
         Node::Full {
-            left,
-            key: _,
-            value: _,
             height,
+            key: _,
+            left,
             right,
+            value: _,
         } => {
             *height = height_above(&low, &high);
             *left = low;
@@ -96,43 +96,90 @@ pub(crate) fn rebalance<K: Drop, V: Drop>(tree: &mut Tree<K, V>, side: Height) -
 pub(crate) fn level<K: Drop, V: Drop>(tree: &mut Tree<K, V>) -> Height
     ensures { entries_of tree.new ≡ entries_of tree.old }
 {
-    let before = height_of(tree);
-    match lean_by(tree, 1) {
-        Lean::Left => lift_left(tree),
-        Lean::Even => mark_height(tree),
-        Lean::Right => lift_right(tree),
+    match settle(tree) {
+        Stand::Level(height) => height,
+        Stand::Left => {
+            let before = height_of(tree);
+            lift_left(tree);
+            height_since(tree, before)
+        }
+        Stand::Right => {
+            let before = height_of(tree);
+            lift_right(tree);
+            height_since(tree, before)
+        }
     }
-    height_since(tree, before)
 }
 
-/// Which side of a tree is more than so many levels higher.
+/// What became of a tree's height, or which of its sides is two levels higher than the other.
+enum Stand {
+    Left,
+    Level(Height),
+    Right,
+}
+
+/// Marks the height of a tree whose sides differ by one level at most.
+fn settle<K, V>(tree: &mut Tree<K, V>) -> Stand
+    ensures { entries_of tree.new ≡ entries_of tree.old }
+{
+    match tree {
+        Tree::Empty => Stand::Level(Height::Same),
+        Tree::Fork(node) => match &mut **node {
+            Node::Blank => Stand::Level(Height::Same),
+            Node::Full {
+                height,
+                key: _,
+                left,
+                right,
+                value: _,
+            } => settle_at(height, height_of(left), height_of(right)),
+        },
+    }
+}
+
+fn settle_at(height: &mut u8, left: u8, right: u8) -> Stand {
+    if left.saturating_sub(right) > 1 {
+        return Stand::Left;
+    }
+    if right.saturating_sub(left) > 1 {
+        return Stand::Right;
+    }
+    let levels = left.max(right).saturating_add(1);
+    if *height == levels {
+        return Stand::Level(Height::Same);
+    }
+    *height = levels;
+    Stand::Level(Height::Changed)
+}
+
+/// Which side of a tree is higher.
 enum Lean {
     Left,
     Even,
     Right,
 }
 
-fn lean_by<K, V>(tree: &Tree<K, V>, levels: u8) -> Lean {
+fn lean_of<K, V>(tree: &Tree<K, V>) -> Lean {
     match tree {
         Tree::Empty => Lean::Even,
         Tree::Fork(node) => match &**node {
             Node::Blank => Lean::Even,
             Node::Full {
-                left,
-                key: _,
-                value: _,
                 height: _,
+                key: _,
+                left,
                 right,
-            } => lean_between(height_of(left), height_of(right), levels),
+                value: _,
+            } => lean_between(height_of(left), height_of(right)),
         },
     }
 }
 
-fn lean_between(left: u8, right: u8, levels: u8) -> Lean {
-    if left.saturating_sub(right) > levels {
+fn lean_between(left: u8, right: u8) -> Lean {
+    if left > right {
         return Lean::Left;
     }
-    if right.saturating_sub(left) > levels {
+    if left < right {
         return Lean::Right;
     }
     Lean::Even
@@ -146,11 +193,11 @@ fn mark_height<K, V>(tree: &mut Tree<K, V>)
         Tree::Fork(node) => match &mut **node {
             Node::Blank => {}
             Node::Full {
-                left,
-                key: _,
-                value: _,
                 height,
+                key: _,
+                left,
                 right,
+                value: _,
             } => *height = height_above(left, right),
         },
     }
@@ -165,11 +212,11 @@ fn lift_left<K: Drop, V: Drop>(tree: &mut Tree<K, V>)
         Tree::Fork(node) => match &mut **node {
             Node::Blank => return,
             Node::Full {
-                left,
-                key: _,
-                value: _,
                 height: _,
+                key: _,
+                left,
                 right: _,
+                value: _,
             } => straighten_left(left),
         },
     }
@@ -179,7 +226,7 @@ fn lift_left<K: Drop, V: Drop>(tree: &mut Tree<K, V>)
 fn straighten_left<K: Drop, V: Drop>(tree: &mut Tree<K, V>)
     ensures { entries_of tree.new ≡ entries_of tree.old }
 {
-    match lean_by(tree, 0) {
+    match lean_of(tree) {
         Lean::Right => turn_left(tree),
         Lean::Left | Lean::Even => {}
     }
@@ -194,11 +241,11 @@ fn lift_right<K: Drop, V: Drop>(tree: &mut Tree<K, V>)
         Tree::Fork(node) => match &mut **node {
             Node::Blank => return,
             Node::Full {
-                left: _,
-                key: _,
-                value: _,
                 height: _,
+                key: _,
+                left: _,
                 right,
+                value: _,
             } => straighten_right(right),
         },
     }
@@ -208,7 +255,7 @@ fn lift_right<K: Drop, V: Drop>(tree: &mut Tree<K, V>)
 fn straighten_right<K: Drop, V: Drop>(tree: &mut Tree<K, V>)
     ensures { entries_of tree.new ≡ entries_of tree.old }
 {
-    match lean_by(tree, 0) {
+    match lean_of(tree) {
         Lean::Left => turn_right(tree),
         Lean::Right | Lean::Even => {}
     }
@@ -225,21 +272,21 @@ fn turn_right<K: Drop, V: Drop>(tree: &mut Tree<K, V>)
     match &mut *top {
         Node::Blank => {}
         Node::Full {
-            left,
-            key: _,
-            value: _,
             height,
+            key: _,
+            left,
             right,
+            value: _,
         } => match mem::replace(left, Tree::Empty) {
             Tree::Empty => *tree = Tree::Fork(top),
             Tree::Fork(mut below) => match &mut *below {
                 Node::Blank => *tree = Tree::Fork(top),
                 Node::Full {
-                    left: _,
-                    key: _,
-                    value: _,
                     height: _,
+                    key: _,
+                    left: _,
                     right: middle,
+                    value: _,
                 } => {
                     *left = mem::replace(middle, Tree::Empty);
                     *height = height_above(left, right);
@@ -263,21 +310,21 @@ fn turn_left<K: Drop, V: Drop>(tree: &mut Tree<K, V>)
     match &mut *top {
         Node::Blank => {}
         Node::Full {
-            left,
-            key: _,
-            value: _,
             height,
+            key: _,
+            left,
             right,
+            value: _,
         } => match mem::replace(right, Tree::Empty) {
             Tree::Empty => *tree = Tree::Fork(top),
             Tree::Fork(mut below) => match &mut *below {
                 Node::Blank => *tree = Tree::Fork(top),
                 Node::Full {
-                    left: middle,
-                    key: _,
-                    value: _,
                     height: _,
+                    key: _,
+                    left: middle,
                     right: _,
+                    value: _,
                 } => {
                     *right = mem::replace(middle, Tree::Empty);
                     *height = height_above(left, right);

@@ -30,11 +30,11 @@ pub(crate) fn put_in<K: Ord + Drop, V: Drop>(
         Tree::Fork(node) => match &mut **node {
             Node::Blank => put_alone(tree, spare, key, value),
             Node::Full {
-                left,
-                key: held,
-                value: old,
                 height: _,
+                key: held,
+                left,
                 right,
+                value: old,
             } => match key.cmp(held) {
                 Ordering::Less => {
                     let side = put_in(left, spare, key, value);
@@ -111,11 +111,11 @@ pub(crate) fn take_from<K: Ord + Drop, V: Drop>(
                 Height::Same
             }
             Node::Full {
-                left,
-                key: held,
-                value: _,
                 height: _,
+                key: held,
+                left,
                 right,
+                value: _,
             } => match key.cmp(held) {
                 Ordering::Less => {
                     let side = take_from(left, spare, key, taken);
@@ -150,11 +150,11 @@ fn take_root<K: Drop, V: Drop>(
     match mem::replace(&mut *node, Node::Blank) {
         Node::Blank => Height::Same,
         Node::Full {
-            left,
-            key: _,
-            value,
             height,
+            key: _,
+            left,
             right,
+            value,
         } => {
             *tree = joined(left, right);
             give_back(spare, node);
@@ -192,11 +192,11 @@ fn take_first<K: Drop, V: Drop>(tree: &mut Tree<K, V>) -> Option<Box<Node<K, V>>
     match &mut *node {
         Node::Blank => None,
         Node::Full {
-            left,
-            key: _,
-            value: _,
             height: _,
+            key: _,
+            left,
             right,
+            value: _,
         } => {
             let before = height_of(left);
             match take_first(left) {
@@ -229,11 +229,11 @@ pub(crate) fn take_least<K: Drop, V: Drop>(
     match mem::replace(&mut *node, Node::Blank) {
         Node::Blank => unreachable!(),
         Node::Full {
-            left: _,
-            key,
-            value,
             height: _,
+            key,
+            left: _,
             right: _,
+            value,
         } => {
             give_back(spare, node);
             Some((key, value))

@@ -124,7 +124,9 @@ impl<K: Ord, V: Copy> OrderedMap<K, V> {
         ensures rising { IsTrue (is_sorted K.cmp self.new.items) }
         ensures room { self.new.room ≡ self.old.room }
     {
-        update_at(&mut self.tree, key, change)
+        let mut now = None;
+        update_at(&mut self.tree, key, change, &mut now);
+        now
     }
 }
 

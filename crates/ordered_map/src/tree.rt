@@ -20,12 +20,13 @@ pub(crate) enum Tree<K, V> {
 #[derive(Drop)]
 pub(crate) enum Node<K, V> {
     Blank,
+    // A walk reads what stands first. Fields lie in this order, with the least unused octets between them.
     Full {
-        left: Tree<K, V>,
-        key: K,
-        value: V,
         height: u8,
+        key: K,
+        left: Tree<K, V>,
         right: Tree<K, V>,
+        value: V,
     },
 }
 
@@ -39,11 +40,11 @@ pub(crate) fn value_of<'a, K: Ord, V>(tree: &'a Tree<K, V>, key: &K) -> Option<&
         match &**node {
             Node::Blank => return None,
             Node::Full {
-                left,
-                key: held,
-                value,
                 height: _,
+                key: held,
+                left,
                 right,
+                value,
             } => match key.cmp(held) {
                 Ordering::Less => here = left,
                 Ordering::Equal => return Some(value),
@@ -64,11 +65,11 @@ pub(crate) fn first<K, V>(tree: &Tree<K, V>) -> Option<(&K, &V)>
         match &**node {
             Node::Blank => return best,
             Node::Full {
-                left,
-                key,
-                value,
                 height: _,
+                key,
+                left,
                 right: _,
+                value,
             } => {
                 best = Some((key, value));
                 here = left;
@@ -89,11 +90,11 @@ pub(crate) fn next_after<'a, K: Ord, V>(tree: &'a Tree<K, V>, key: &K) -> Option
         match &**node {
             Node::Blank => return best,
             Node::Full {
-                left,
-                key: held,
-                value,
                 height: _,
+                key: held,
+                left,
                 right,
+                value,
             } => match key.cmp(held) {
                 Ordering::Less => {
                     best = Some((held, value));

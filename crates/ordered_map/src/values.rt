@@ -29,11 +29,11 @@ pub(crate) fn change_at<K: Ord, V, C: Change<V>>(tree: &mut Tree<K, V>, key: &K,
         Tree::Fork(node) => match &mut **node {
             Node::Blank => {}
             Node::Full {
-                left,
-                key: held,
-                value,
                 height: _,
+                key: held,
+                left,
                 right,
+                value,
             } => match key.cmp(held) {
                 Ordering::Less => change_at(left, key, change),
                 Ordering::Equal => change.change(value),
@@ -43,33 +43,34 @@ pub(crate) fn change_at<K: Ord, V, C: Change<V>>(tree: &mut Tree<K, V>, key: &K,
     }
 }
 
-/// Changes the value of a key, and answers what it is then, where it has one.
+/// Changes the value of a key, and hands out what it is then, where it has one.
 pub(crate) fn update_at<K: Ord, V: Copy, C: Change<V>>(
     tree: &mut Tree<K, V>,
     key: &K,
     change: &C,
-) -> Option<V>
+    now: &mut Option<V>,
+)
     requires rising { IsTrue (is_sorted K.cmp (entries_of tree.old)) }
-    ensures value { result ≡ option_map (C.changed change.now) (find K.cmp key.now (entries_of tree.old)) }
+    ensures value { now.new ≡ option_map (C.changed change.now) (find K.cmp key.now (entries_of tree.old)) }
     ensures entries { entries_of tree.new ≡ changed_at K.cmp key.now (C.changed change.now) (entries_of tree.old) }
 {
     match tree {
-        Tree::Empty => None,
+        Tree::Empty => *now = None,
         Tree::Fork(node) => match &mut **node {
-            Node::Blank => None,
+            Node::Blank => *now = None,
             Node::Full {
-                left,
-                key: held,
-                value,
                 height: _,
+                key: held,
+                left,
                 right,
+                value,
             } => match key.cmp(held) {
-                Ordering::Less => update_at(left, key, change),
+                Ordering::Less => update_at(left, key, change, now),
                 Ordering::Equal => {
                     change.change(value);
-                    Some(*value)
+                    *now = Some(*value);
                 }
-                Ordering::Greater => update_at(right, key, change),
+                Ordering::Greater => update_at(right, key, change, now),
             },
         },
     }
@@ -84,11 +85,11 @@ pub(crate) fn change_all<K, V, C: Change<V>>(tree: &mut Tree<K, V>, change: &C)
         Tree::Fork(node) => match &mut **node {
             Node::Blank => {}
             Node::Full {
-                left,
-                key: _,
-                value,
                 height: _,
+                key: _,
+                left,
                 right,
+                value,
             } => {
                 change_all(left, change);
                 change.change(value);

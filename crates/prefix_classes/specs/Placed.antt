@@ -1,15 +1,14 @@
--- How a grouping finds the least tag of a signature: the tags in the order of their signatures.
-use Rattle.std.specs.Prelude.{◌≡◌, ◌≤◌, Bool, true, false, List, Option, Some, None, is_some}
+-- How a grouping finds the least tag of a signature: the signatures in an order, each with the first of its tags.
+use Rattle.std.specs.Prelude.{◌≡◌, ◌≤◌, Bool, false, List, [], ◌∷◌, Option, Some, None, if◌then◌else◌}
 use Rattle.std.specs.Cmp.Lexicographic.{slice_cmp}
 use Rattle.std.specs.FinMap.{FinMap, get}
-use Rattle.std.specs.FinMap.Entries.{find, is_sorted}
+use Rattle.std.specs.FinMap.Entries.{find}
 use Rattle.std.specs.Ordering.{bool_cmp, eq_by_cmp, nat_cmp, on, then_cmp}
 use Rattle.std.specs.declared.cmp.Ordering.{Ordering}
 use Rattle.net_types.specs.Keys.{tag_cmp}
 use Rattle.net_types.specs.declared.address.Tag.{Tag}
 use Rattle.net_types.specs.declared.route.Offer.{Offer}
 use Rattle.net_types.specs.declared.route.Part.{Part}
-use Rattle.prefix_classes.specs.declared.placed.Placed.{Placed}
 
 -- offers by exporter, then by port, and then those that are discarded last
 abbrev pub offer_cmp : Offer → Offer → Ordering
@@ -23,20 +22,19 @@ part_cmp = then_cmp (on (λ q. q.sender.0) nat_cmp) (then_cmp (on (λ q. q.best.
 abbrev pub sig_cmp : List Part → List Part → Ordering
 sig_cmp = slice_cmp part_cmp
 
--- tags by signature, and then by number
-abbrev pub placed_cmp : Placed → Placed → Ordering
-placed_cmp = then_cmp (on (λ k. k.sig) sig_cmp) (on (λ k. k.tag) tag_cmp)
-
 -- a signature that may be absent is this one
 abbrev pub is_sig : List Part → Option (List Part) → Bool
 is_sig sig None = false
 is_sig sig (Some other) = eq_by_cmp sig_cmp sig other
 
--- both rise, and what stands in the order of the signatures is each tag with its signature
-pub record IsIndexed (tags : List (Tag × List Part)) (index : List (Placed × Unit {0})) : Type 0 where
-  pub tags_rise : is_sorted tag_cmp tags ≡ true
-  pub index_rises : is_sorted placed_cmp index ≡ true
-  pub same : (k : Placed) → is_some (find placed_cmp k index) ≡ is_sig k.sig (find tag_cmp k.tag tags)
+-- the first of the tags with a signature
+abbrev pub first_with : List Part → List (Tag × List Part) → Option Tag
+first_with sig [] = None
+first_with sig (e ∷ es) = if eq_by_cmp sig_cmp sig e.1 then Some e.0 else first_with sig es
+
+-- each signature of these tags is found with the first of its tags
+abbrev pub AreFirsts : List (Tag × List Part) → List (List Part × Tag) → Type 0
+AreFirsts tags firsts = (sig : List Part) → find sig_cmp sig firsts ≡ first_with sig tags
 
 -- the least of the tags that a grouping has with the signature of one of them
 pub record IsLeastBeside (grouping : FinMap tag_cmp (List Part)) (of t : Tag) : Type 0 where

@@ -1,41 +1,39 @@
 //! Tags by their signatures.
 
-ghost use Rattle.std.specs.Prelude.{◌≡◌, ◌≤◌, ◌<◌, ◌+◌, IfOk, IsTrue, OnErr, OnOk, is_some, length};
+ghost use Rattle.std.specs.Prelude.{◌≡◌, ◌<◌, ◌+◌, Some, IfOk, IsTrue, OnErr, OnOk, is_some, length};
 ghost use Rattle.std.specs.FinMap as map;
 ghost use Rattle.std.specs.FinMap.Entries.{find};
-ghost use Rattle.net_types.specs.Keys.{tag_cmp};
 ghost use Rattle.net_types.specs.Maps.{put_option};
-ghost use Rattle.ordered_map.specs.Entries.{without};
 ghost use Rattle.prefix_classes.specs.Classes.{members};
-ghost use Rattle.net_types.specs.declared.address.Tag.{Tag as AnyTag};
-ghost use Rattle.prefix_classes.specs.Placed.{IsIndexed, IsLeastBeside, placed_cmp};
+ghost use Rattle.prefix_classes.specs.Placed.{AreFirsts, IsLeastBeside, sig_cmp};
 
 use crate::class_map::ClassMap;
-use crate::placed::{Placed, SharedSig};
+use crate::placed::SharedSig;
 use net_types::{Memory, Sig, Steps, Tag, TryCopy};
 use ordered_map::OrderedMap;
 use std::alloc::Global;
 use std::marker::Model;
 use std::sync::ledger::Ledger;
 
-/// Tags that were placed, each with the signature that was kept for it then. Beside this the least tag of a signature is
-/// found without a walk over the others.
+/// Signatures, each with the least of its tags.
+pub(crate) type Firsts = OrderedMap<SharedSig, Tag>;
+
+/// Tags that were placed, each with the signature that was kept for it then.
 #[derive(Drop)]
 pub struct Grouping {
     alloc: Global,
     tags: OrderedMap<Tag, SharedSig>,
-    index: OrderedMap<Placed, ()>,
     /// The signature that was placed last, which the next tag often has too.
     last: Option<SharedSig>,
 }
 
 impl Model for Grouping {
-    ghost use Rattle.std.specs.Prelude.{List};
+    ghost use Rattle.std.specs.Prelude.{IsTrue, List};
     ghost use Rattle.std.specs.Coded.{codes};
     ghost use Rattle.std.specs.FinMap as map;
+    ghost use Rattle.std.specs.FinMap.Entries.{is_sorted};
     ghost use Rattle.net_types.specs.Keys.{tag_cmp};
     ghost use Rattle.net_types.specs.declared.route.Part.{Part};
-    ghost use Rattle.prefix_classes.specs.Placed.{IsIndexed};
 
     ghost Value = { map.FinMap tag_cmp (List Part) };
 
@@ -43,7 +41,7 @@ impl Model for Grouping {
 
     ghost view = { λ a. map.from_sorted a.tags.items };
 
-    ghost invariant = { λ a. IsIndexed a.tags.items a.index.items };
+    ghost invariant = { λ a. IsTrue (is_sorted tag_cmp a.tags.items) };
 }
 
 impl Grouping {
@@ -54,7 +52,6 @@ impl Grouping {
         Grouping {
             alloc,
             tags: OrderedMap::new(alloc),
-            index: OrderedMap::new(alloc),
             last: None,
         }
     }
@@ -96,16 +93,24 @@ impl Grouping {
     pub fn take_out(&mut self, tag: Tag)
         ensures { self.new ≡ map.remove self.old tag }
     {
-        take_from(&mut self.tags, &mut self.index, tag);
+        self.tags.remove(&tag);
     }
 
-    /// The least of the tags that have the signature of a placed one.
-    pub(crate) fn least_beside(&self, tag: Tag) -> Result<Tag, Memory>
-        requires { IsTrue (is_some (map.get self.now tag)) }
-        ensures { IfOk result (IsLeastBeside self.now tag) }
+    /// The least tag of each signature.
+    pub(crate) fn firsts(&self) -> Result<Firsts, Memory>
+        ensures { IfOk result (λ firsts. AreFirsts (map.entries self.now) firsts.items) }
+    {
+        firsts_of(self.alloc, &self.tags)
+    }
+
+    /// The least of the tags that have the signature of a placed one, by the least tag of each.
+    pub(crate) fn least_beside(&self, firsts: &Firsts, tag: Tag) -> Tag
+        requires placed { IsTrue (is_some (map.get self.now tag)) }
+        requires firsts { AreFirsts (map.entries self.now) firsts.now.items }
+        ensures { IsLeastBeside self.now tag result }
     {
         match self.tags.get(&tag) {
-            Some(sig) => Ok(least_from(&self.tags, &self.index, sig.share()?, tag)),
+            Some(sig) => first_of(firsts, sig),
             None => unreachable!(),
         }
     }
@@ -130,62 +135,32 @@ impl Grouping {
         ensures placed { OnOk result (self.new ≡ map.insert self.old tag sig) }
         ensures unchanged { OnErr result (self.new ≡ self.old) }
     {
-        let twin = sig.share()?;
         self.tags.reserve(1)?;
-        self.index.reserve(1)?;
-        take_from(&mut self.tags, &mut self.index, tag);
-        self.tags.put(tag, twin);
-        self.index.put(Placed { sig, tag }, ());
+        self.tags.put(tag, sig);
         Ok(())
     }
 }
 
-/// Takes a tag out of both.
-fn take_from(tags: &mut OrderedMap<Tag, SharedSig>, index: &mut OrderedMap<Placed, ()>, tag: Tag)
-    requires { IsIndexed tags.old.items index.old.items }
-    ensures gone { tags.new.items ≡ without tag_cmp tag tags.old.items }
-    ensures indexed { IsIndexed tags.new.items index.new.items }
-    ensures tag_room { tags.old.room ≤ tags.new.room }
-    ensures index_room { index.old.room ≤ index.new.room }
+/// The first of the tags of each signature.
+fn firsts_of(alloc: Global, tags: &OrderedMap<Tag, SharedSig>) -> Result<Firsts, Memory>
+    ensures { IfOk result (λ firsts. AreFirsts tags.now.items firsts.items) }
 {
-    match tags.remove(&tag) {
-        Some(sig) => {
-            index.remove(&Placed { sig, tag });
+    let mut firsts = Firsts::new(alloc);
+    for (tag, sig) in tags.iter() {
+        if firsts.get(sig).is_none() {
+            firsts.insert(sig.share()?, *tag)?;
         }
-        None => {}
     }
+    Ok(firsts)
 }
 
-/// Whether a tag stands in the index with a signature. The tags alone, which are found more quickly, tell of most that don't.
-fn is_listed(
-    tags: &OrderedMap<Tag, SharedSig>,
-    index: &OrderedMap<Placed, ()>,
-    wanted: &Placed,
-) -> bool
-    requires { IsIndexed tags.now.items index.now.items }
-    ensures { result ≡ is_some (find placed_cmp wanted.now index.now.items) }
+/// The first of the tags of a signature that has some.
+fn first_of(firsts: &Firsts, sig: &SharedSig) -> Tag
+    requires { IsTrue (is_some (find sig_cmp sig.now firsts.now.items)) }
+    ensures { Some result ≡ find sig_cmp sig.now firsts.now.items }
 {
-    tags.get(&wanted.tag).is_some() && index.get(wanted).is_some()
-}
-
-/// The least tag of a signature, of those that stand in the index. One of them does.
-fn least_from(
-    tags: &OrderedMap<Tag, SharedSig>,
-    index: &OrderedMap<Placed, ()>,
-    sig: SharedSig,
-    one: Tag,
-) -> Tag
-    requires indexed { IsIndexed tags.now.items index.now.items }
-    requires listed { IsTrue (is_some (find placed_cmp (record { sig = sig; tag = one }) index.now.items)) }
-    ensures there { IsTrue (is_some (find placed_cmp (record { sig = sig; tag = result }) index.now.items)) }
-    ensures least { (tag : AnyTag) → IsTrue (is_some (find placed_cmp (record { sig = sig; tag = tag }) index.now.items)) → result.0 ≤ tag.0 }
-{
-    let from = Placed { sig, tag: Tag(0) };
-    if is_listed(tags, index, &from) {
-        return from.tag;
-    }
-    match index.next_after(&from) {
-        Some((least, _)) => least.tag,
+    match firsts.get(sig) {
+        Some(first) => *first,
         None => unreachable!(),
     }
 }

@@ -46,9 +46,10 @@ pub(crate) fn moves_by(
     requires { (p : AnyPrefix) (t : AnyTag) → map.get tags.now.map p ≡ Some t → IsTrue (is_some (map.get grouping.now t)) }
     ensures { IfOk result (AreMoves grouping.now (map.entries tags.now.map)) }
 {
+    let firsts = grouping.firsts()?;
     let mut moves = Vec::new(alloc);
     for (prefix, &tag) in tags.iter() {
-        let least = grouping.least_beside(tag)?;
+        let least = grouping.least_beside(&firsts, tag);
         if least != tag {
             moves.push((prefix, least))?;
         }

@@ -1,14 +1,14 @@
-//! Signatures that several owners share, and the order in which a grouping finds the tags of each.
+//! Signatures that several owners share, and the order in which they are found.
 
 ghost use Rattle.std.specs.Prelude.{◌≡◌, true, IfOk, refl};
 ghost use Rattle.std.specs.Cmp.{eq_by_cmp_equiv, partial_equiv_from_equiv, partial_order_from_total};
 ghost use Rattle.std.specs.Cmp.Lexicographic.{slice_cmp};
 ghost use Rattle.std.specs.Ordering.{as_partial_cmp, eq_by_cmp};
-ghost use Rattle.prefix_classes.specs.Placed.{offer_cmp, part_cmp, placed_cmp, sig_cmp};
-ghost use Rattle.prefix_classes.specs.PlacedLaws.{placed_total};
+ghost use Rattle.prefix_classes.specs.Placed.{offer_cmp, part_cmp, sig_cmp};
+ghost use Rattle.prefix_classes.specs.PlacedLaws.{sigs_total};
 ghost use Rattle.std.specs.declared.cmp.Ordering.{Ordering as AnyOrdering};
 
-use net_types::{Memory, Offer, Part, Sig, Tag};
+use net_types::{Memory, Offer, Part, Sig};
 use std::alloc::Global;
 use std::cmp::Ordering;
 use std::marker::Model;
@@ -58,13 +58,6 @@ impl SharedSig {
     {
         self.sig.items()
     }
-}
-
-/// A tag that was placed, with its signature before it, so that the tags of one signature stand together.
-#[derive(Drop)]
-pub(crate) struct Placed {
-    pub(crate) sig: SharedSig,
-    pub(crate) tag: Tag,
 }
 
 /// Values that have an order.
@@ -130,41 +123,40 @@ pub fn compare_sigs(one: &Sig, other: &Sig) -> Ordering
     rank_items(one.items(), other.items())
 }
 
-impl Ord for Placed {
-    ghost cmp = { placed_cmp };
+impl Ord for SharedSig {
+    ghost cmp = { sig_cmp };
 
-    ghost total = { placed_total };
+    ghost total = { sigs_total };
 
     ghost matches_partial_cmp = { λ a b. refl };
 
     ghost matches_eq = { λ a b. refl };
 
-    fn cmp(&self, other: &Placed) -> Ordering {
-        let tags = self.tag.cmp(&other.tag);
-        rank_items(self.sig.parts(), other.sig.parts()).then(tags)
+    fn cmp(&self, other: &SharedSig) -> Ordering {
+        rank_items(self.parts(), other.parts())
     }
 }
 
-impl PartialOrd for Placed {
-    ghost partial_cmp = { as_partial_cmp placed_cmp };
+impl PartialOrd for SharedSig {
+    ghost partial_cmp = { as_partial_cmp sig_cmp };
 
-    ghost laws = { partial_order_from_total placed_total };
+    ghost laws = { partial_order_from_total sigs_total };
 
-    fn partial_cmp(&self, other: &Placed) -> Option<Ordering> {
+    fn partial_cmp(&self, other: &SharedSig) -> Option<Ordering> {
         Some(self.cmp(other))
     }
 }
 
-impl PartialEq for Placed {
-    ghost eq = { eq_by_cmp placed_cmp };
+impl PartialEq for SharedSig {
+    ghost eq = { eq_by_cmp sig_cmp };
 
-    ghost laws = { partial_equiv_from_equiv (eq_by_cmp_equiv placed_total) };
+    ghost laws = { partial_equiv_from_equiv (eq_by_cmp_equiv sigs_total) };
 
-    fn eq(&self, other: &Placed) -> bool {
+    fn eq(&self, other: &SharedSig) -> bool {
         self.cmp(other).is_eq()
     }
 }
 
-impl Eq for Placed {
-    ghost laws = { eq_by_cmp_equiv placed_total };
+impl Eq for SharedSig {
+    ghost laws = { eq_by_cmp_equiv sigs_total };
 }

@@ -8,5 +8,5 @@ use Rattle.net_types.proofs.FindLemmas.{is_some-copied}
 
 pub returns : goal.returns
 returns c =
-    let found = ap is_some (c.get.ensures ∙ sym (get_sorted tag_cmp c.self.inside.tags.items c.args.tag c.self.invariant.tags_rise) ∙ ap (λ m. get m c.args.tag) c.self.view_is) in
+    let found = ap is_some (c.get.ensures ∙ sym (get_sorted tag_cmp c.self.inside.tags.items c.args.tag c.self.invariant) ∙ ap (λ m. get m c.args.tag) c.self.view_is) in
     c.is_some.ensures ∙ sym (is_some-copied c.get.result) ∙ found

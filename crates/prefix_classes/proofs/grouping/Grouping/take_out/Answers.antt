@@ -8,6 +8,6 @@ use Rattle.prefix_classes.proofs.grouping.Grouping.take_out.Goals as goal
 
 pub returns : goal.returns
 returns c =
-    ap (from_sorted {R = tag_cmp}) c.take_from.ensures.gone
-    ∙ remove_sorted tag_cmp tags_total tag_cmp-IsAntisymmetric c.args.tag c.self.inside.tags.items c.self.invariant.tags_rise
+    ap (from_sorted {R = tag_cmp}) c.remove.ensures.items
+    ∙ remove_sorted tag_cmp tags_total tag_cmp-IsAntisymmetric c.args.tag c.self.inside.tags.items c.self.invariant
     ∙ ap (λ m. remove m c.args.tag) c.self.view_is
