@@ -3,6 +3,7 @@
 ghost use Rattle.std.specs.Prelude.{◌≡◌, ◌++◌, IfOk, OnOk};
 ghost use Rattle.block_build.specs.Rules.{action_at, actions_in, actions_of, rule_of, rules_of};
 
+use crate::turned::Turned;
 use classifier::Line;
 use net_types::{Action, Actions, Assign, Loc, Memory, Rule};
 use std::alloc::Global;
@@ -29,7 +30,7 @@ fn actions_in(alloc: Global, items: &[(Assign, Loc)]) -> Result<Vec<Action>, Mem
 }
 
 /// The actions of what leaves by ports, in order, each once.
-fn actions_of(alloc: Global, items: &[(Assign, Loc)]) -> Result<Actions, Memory>
+pub(crate) fn actions_of(alloc: Global, items: &[(Assign, Loc)]) -> Result<Actions, Memory>
     ensures { IfOk result (λ a. a ≡ actions_of items.now) }
 {
     let actions = actions_in(alloc, items)?;
@@ -40,9 +41,10 @@ fn actions_of(alloc: Global, items: &[(Assign, Loc)]) -> Result<Actions, Memory>
 pub(crate) fn rules_of(alloc: Global, xs: Vec<Line>) -> Result<Vec<Rule>, Memory>
     ensures { IfOk result (λ v. v.items ≡ rules_of xs.items) }
 {
+    let mut turned = Turned::new(alloc);
     let mut rules = Vec::new(alloc);
     for x in xs {
-        let actions = actions_of(alloc, x.results.items())?;
+        let actions = turned.actions(&x.results)?;
         rules.push(Rule {
             cube: x.cube,
             actions,

@@ -15,7 +15,7 @@ ghost use Rattle.block_build.specs.Views.{inbound_of};
 use crate::alone::alone_of;
 use crate::group::Group;
 use crate::groups::groups_of;
-use crate::receive::received_beside;
+use crate::received::Received;
 use crate::tested::tests_of;
 use crate::uncut::push_uncut;
 use crate::view::View;
@@ -51,7 +51,7 @@ impl<'v> Model for Exits<'v> {
 
 /// Puts the rule of a cube that joins a rule with one of a receiver last, where it can be reached.
 fn push_joined(
-    alloc: Global,
+    received: &mut Received,
     lines: &mut Vec<Line>,
     seen: &mut HashSet<Cube>,
     cube: Cube,
@@ -64,7 +64,7 @@ fn push_joined(
     ensures agrees { OnOk result (Agrees lines.new.items seen.new) }
 {
     if !is_hidden(lines, seen, &cube) {
-        let results = received_beside(alloc, &x.results, hop, &y.results)?;
+        let results = received.beside(&x.results, hop, &y.results)?;
         push_reached(lines, seen, Line { cube, results })?;
     }
     Ok(())
@@ -84,7 +84,7 @@ fn is_last(last: Option<Cube>, cube: &Cube) -> bool
 /// common with the rule met last, which is less work to see than to look for their cube. It answers the cube that is now the
 /// one met last.
 fn push_met(
-    alloc: Global,
+    received: &mut Received,
     lines: &mut Vec<Line>,
     seen: &mut HashSet<Cube>,
     x: &Line,
@@ -102,14 +102,14 @@ fn push_met(
         return Ok(last);
     };
     if !is_last(last, &cube) {
-        push_joined(alloc, lines, seen, cube, x, hop, y)?;
+        push_joined(received, lines, seen, cube, x, hop, y)?;
     }
     Ok(Some(cube))
 }
 
 /// Adds a rule joined with each of a run.
 fn push_each(
-    alloc: Global,
+    received: &mut Received,
     lines: &mut Vec<Line>,
     seen: &mut HashSet<Cube>,
     x: &Line,
@@ -122,14 +122,14 @@ fn push_each(
 {
     let mut last = None;
     for y in ys {
-        last = push_met(alloc, lines, seen, x, hop, y, last)?;
+        last = push_met(received, lines, seen, x, hop, y, last)?;
     }
     Ok(())
 }
 
 /// The same, passing over a run whose cube tells that none of its rules has headers in common with this one.
 fn push_run(
-    alloc: Global,
+    received: &mut Received,
     lines: &mut Vec<Line>,
     seen: &mut HashSet<Cube>,
     x: &Line,
@@ -141,14 +141,14 @@ fn push_run(
     ensures agrees { OnOk result (Agrees lines.new.items seen.new) }
 {
     match cube::meet(&x.cube, &run.hull) {
-        Some(_) => push_each(alloc, lines, seen, x, hop, run.lines),
+        Some(_) => push_each(received, lines, seen, x, hop, run.lines),
         None => Ok(()),
     }
 }
 
 /// Adds a rule joined with each of the runs.
 fn push_runs(
-    alloc: Global,
+    received: &mut Received,
     lines: &mut Vec<Line>,
     seen: &mut HashSet<Cube>,
     x: &Line,
@@ -160,14 +160,14 @@ fn push_runs(
     ensures agrees { OnOk result (Agrees lines.new.items seen.new) }
 {
     for run in runs {
-        push_run(alloc, lines, seen, x, hop, run)?;
+        push_run(received, lines, seen, x, hop, run)?;
     }
     Ok(())
 }
 
 /// The same of a group.
 fn push_group(
-    alloc: Global,
+    received: &mut Received,
     lines: &mut Vec<Line>,
     seen: &mut HashSet<Cube>,
     x: &Line,
@@ -179,14 +179,14 @@ fn push_group(
     ensures agrees { OnOk result (Agrees lines.new.items seen.new) }
 {
     match cube::meet(&x.cube, &group.hull) {
-        Some(_) => push_runs(alloc, lines, seen, x, hop, group.runs.as_slice()),
+        Some(_) => push_runs(received, lines, seen, x, hop, group.runs.as_slice()),
         None => Ok(()),
     }
 }
 
 /// Adds a rule joined with each of the groups.
 fn push_groups(
-    alloc: Global,
+    received: &mut Received,
     lines: &mut Vec<Line>,
     seen: &mut HashSet<Cube>,
     x: &Line,
@@ -198,7 +198,7 @@ fn push_groups(
     ensures agrees { OnOk result (Agrees lines.new.items seen.new) }
 {
     for group in groups {
-        push_group(alloc, lines, seen, x, hop, group)?;
+        push_group(received, lines, seen, x, hop, group)?;
     }
     Ok(())
 }
@@ -280,7 +280,7 @@ impl<'v> Exits<'v> {
     /// whether it did.
     pub(crate) fn push_uncut(
         &self,
-        alloc: Global,
+        received: &mut Received,
         lines: &mut Vec<Line>,
         seen: &mut HashSet<Cube>,
         x: &Line,
@@ -294,7 +294,7 @@ impl<'v> Exits<'v> {
         ensures closed { OnOk result (AreClosed tests.now lines.new.items) }
     {
         match self.hop {
-            Some(hop) => push_uncut(alloc, lines, seen, x, hop, &self.groups, tests),
+            Some(hop) => push_uncut(received, lines, seen, x, hop, &self.groups, tests),
             None => Ok(false),
         }
     }
@@ -302,7 +302,7 @@ impl<'v> Exits<'v> {
     /// Adds a rule joined with each of the receiver's.
     pub(crate) fn push_row(
         &self,
-        alloc: Global,
+        received: &mut Received,
         lines: &mut Vec<Line>,
         seen: &mut HashSet<Cube>,
         x: &Line,
@@ -312,7 +312,7 @@ impl<'v> Exits<'v> {
         ensures agrees { OnOk result (Agrees lines.new.items seen.new) }
     {
         match self.hop {
-            Some(hop) => push_groups(alloc, lines, seen, x, hop, &self.groups),
+            Some(hop) => push_groups(received, lines, seen, x, hop, &self.groups),
             None => push_discarding(lines, seen, x),
         }
     }

@@ -1,13 +1,12 @@
 //! What a receiver makes of a packet, as ports to leave by.
 
 ghost use Rattle.std.specs.Prelude.{◌≡◌, ◌∷◌, [], IfOk, OnOk};
-ghost use Rattle.classifier.specs.Items.{add_all};
 ghost use Rattle.net_types.specs.Headers.{no_change};
 ghost use Rattle.net_types.specs.declared.headers.Loc.TheVariants.{Out};
 ghost use Rattle.block_build.specs.Receivers.{add_exit, add_exits, exit_of, received_items};
 
 use classifier::{Lines, Results};
-use net_types::{Assign, Loc, Memory, Pid, PortNo, TryCopy};
+use net_types::{Assign, Loc, Memory, Pid, PortNo};
 use std::alloc::Global;
 
 /// What contracts see of a participant in the offers: its rules as ports to leave by. By a hole nothing leaves. No call makes
@@ -72,30 +71,4 @@ pub(crate) fn received_results(
     } else {
         exits_of(alloc, hop, results)
     }
-}
-
-/// The results beside others: those alone where there are no others.
-fn beside_others(others: &Results, results: Results) -> Result<Results, Memory>
-    ensures { IfOk result (λ r. r ≡ add_all others.now results) }
-{
-    results.known();
-    if others.is_empty() {
-        return Ok(results);
-    }
-    let mut both = others.copy()?;
-    both.push_all(&results)?;
-    Ok(both)
-}
-
-/// How a receiver's results leave, beside what leaves by receivers before it.
-pub(crate) fn received_beside(
-    alloc: Global,
-    others: &Results,
-    hop: PortNo,
-    results: &Results,
-) -> Result<Results, Memory>
-    ensures { IfOk result (λ r. r ≡ add_all others.now (received_items hop results.now)) }
-{
-    let received = received_results(alloc, hop, results)?;
-    beside_others(others, received)
 }

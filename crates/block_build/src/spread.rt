@@ -15,6 +15,7 @@ ghost use Rattle.block_build.specs.Views.{inbound_of};
 use crate::alone::beside_alone;
 use crate::exits::Exits;
 use crate::offers::{goes_to, has_one_left};
+use crate::received::Received;
 use crate::view::View;
 use classifier::{Line, Results, push_line};
 use net_types::{Assign, Cube, Loc, Memory, Offer, Part, Pid, PortNo, TryCopy};
@@ -72,7 +73,7 @@ fn restricted(alloc: Global, port: PortNo, xs: &[Line]) -> Result<Vec<Line>, Mem
 
 /// Adds a rule joined with each of a receiver's. Answers whether the rules are closed.
 fn push_next(
-    alloc: Global,
+    received: &mut Received,
     lines: &mut Vec<Line>,
     seen: &mut HashSet<Cube>,
     x: &Line,
@@ -88,21 +89,21 @@ fn push_next(
     ensures closed { IfOk result (λ still. IsTrue still → AreClosed tests.now lines.new.items) }
 {
     if !closed {
-        receiver.push_row(alloc, lines, seen, x)?;
+        receiver.push_row(received, lines, seen, x)?;
         return Ok(false);
     }
-    let done = receiver.push_uncut(alloc, lines, seen, x, tests)?;
+    let done = receiver.push_uncut(received, lines, seen, x, tests)?;
     if done {
         return Ok(true);
     }
-    receiver.push_row(alloc, lines, seen, x)?;
+    receiver.push_row(received, lines, seen, x)?;
     Ok(false)
 }
 
 /// Adds each of many rules joined with each of a receiver's to no rules. Where the receiver's cut none of them otherwise than
 /// those before it, each is joined with the first one that holds it. It stops where there are more than the limit.
 fn push_many(
-    alloc: Global,
+    received: &mut Received,
     lines: &mut Vec<Line>,
     seen: &mut HashSet<Cube>,
     xs: &[Line],
@@ -114,10 +115,10 @@ fn push_many(
     ensures added { OnOk result (IsAdded limit lines.old.items xs.now receiver.now.lines lines.new.items) }
     ensures agrees { OnOk result (Agrees lines.new.items seen.new) }
 {
-    let tests = receiver.tests(alloc)?;
+    let tests = receiver.tests(received.alloc())?;
     let mut closed = true;
     for x in xs {
-        closed = push_next(alloc, lines, seen, x, receiver, &tests, closed)?;
+        closed = push_next(received, lines, seen, x, receiver, &tests, closed)?;
         if lines.len() > limit {
             return Ok(());
         }
@@ -127,7 +128,7 @@ fn push_many(
 
 /// Adds each of some rules joined with each of a receiver's. It stops where there are more than the limit.
 fn push_each(
-    alloc: Global,
+    received: &mut Received,
     lines: &mut Vec<Line>,
     seen: &mut HashSet<Cube>,
     xs: &[Line],
@@ -139,7 +140,7 @@ fn push_each(
     ensures agrees { OnOk result (Agrees lines.new.items seen.new) }
 {
     for x in xs {
-        receiver.push_row(alloc, lines, seen, x)?;
+        receiver.push_row(received, lines, seen, x)?;
         if lines.len() > limit {
             return Ok(());
         }
@@ -149,7 +150,7 @@ fn push_each(
 
 /// The same, where the rules may be many.
 fn push_product(
-    alloc: Global,
+    received: &mut Received,
     lines: &mut Vec<Line>,
     seen: &mut HashSet<Cube>,
     xs: &[Line],
@@ -161,30 +162,30 @@ fn push_product(
     ensures agrees { OnOk result (Agrees lines.new.items seen.new) }
 {
     if lines.is_empty() && xs.len() > FEW {
-        push_many(alloc, lines, seen, xs, receiver, limit)
+        push_many(received, lines, seen, xs, receiver, limit)
     } else {
-        push_each(alloc, lines, seen, xs, receiver, limit)
+        push_each(received, lines, seen, xs, receiver, limit)
     }
 }
 
 /// The rules beside those of one more receiver. It stops where there are more than the limit.
 fn product_beside(
-    alloc: Global,
+    received: &mut Received,
     xs: &[Line],
     receiver: &Exits<'_>,
     limit: usize,
 ) -> Result<Vec<Line>, Memory>
     ensures { IfOk result (λ v. IsSomeBeside limit true xs.now receiver.now.lines v.items) }
 {
-    let mut more = Vec::new(alloc);
-    let mut seen = HashSet::new(alloc);
-    push_product(alloc, &mut more, &mut seen, xs, receiver, limit)?;
+    let mut more = Vec::new(received.alloc());
+    let mut seen = HashSet::new(received.alloc());
+    push_product(received, &mut more, &mut seen, xs, receiver, limit)?;
     Ok(more)
 }
 
 /// The rules beside those of one more receiver, where they go to it. It stops where there are more than the limit.
 fn beside(
-    alloc: Global,
+    received: &mut Received,
     goes: bool,
     lines: Vec<Line>,
     receiver: &Exits<'_>,
@@ -201,7 +202,7 @@ fn beside(
             Ok(more)
         }
         _ => {
-            let more = product_beside(alloc, &lines, receiver, limit)?;
+            let more = product_beside(received, &lines, receiver, limit)?;
             Ok(more)
         }
     }
@@ -210,7 +211,7 @@ fn beside(
 /// The rules within one rule of the sender: what each receiver that its results go to makes of a packet. It stops where there
 /// are more than the limit.
 fn within_rule(
-    alloc: Global,
+    received: &mut Received,
     left: bool,
     best: Pid,
     receivers: &[Exits<'_>],
@@ -219,6 +220,7 @@ fn within_rule(
 ) -> Result<Vec<Line>, Memory>
     ensures { IfOk result (λ v. IsSome limit (spread left best x.now.results (line [] x.now.cube ∷ []) receivers.now) receivers.now (x.now ∷ []) v.items) }
 {
+    let alloc = received.alloc();
     let mut lines = vec![in alloc;
         Line {
             cube: x.cube,
@@ -233,7 +235,7 @@ fn within_rule(
             receiver.who(),
             receiver.place(),
         );
-        lines = beside(alloc, goes, lines, receiver, limit)?;
+        lines = beside(received, goes, lines, receiver, limit)?;
         if lines.len() > limit {
             return Ok(lines);
         }
@@ -285,7 +287,7 @@ fn push_dropped(
 /// Adds the rules within one rule of the sender. What the last receiver that its results go to makes of a packet is put straight
 /// to the rest. Where it finds more than the limit it stops.
 fn push_within(
-    alloc: Global,
+    received: &mut Received,
     lines: &mut Vec<Line>,
     seen: &mut HashSet<Cube>,
     best: Pid,
@@ -301,15 +303,15 @@ fn push_within(
     let left = has_one_left(offers, x.results.items());
     let front = reached(left, best, x.results.items(), receivers);
     let Some((last, others)) = front.split_last() else {
-        push_dropped(alloc, lines, seen, x.cube)?;
+        push_dropped(received.alloc(), lines, seen, x.cube)?;
         return Ok(());
     };
-    let within_x = within_rule(alloc, left, best, others, x, limit)?;
+    let within_x = within_rule(received, left, best, others, x, limit)?;
     if within_x.len() > limit {
         *lines = within_x;
         return Ok(());
     }
-    push_product(alloc, lines, seen, &within_x, last, limit)?;
+    push_product(received, lines, seen, &within_x, last, limit)?;
     Ok(())
 }
 
@@ -324,11 +326,19 @@ fn spread_all(
 ) -> Result<Vec<Line>, Memory>
     ensures { IfOk result (λ v. IsSome limit (add_lines [] (blocks best offers.now receivers.now xs.now)) receivers.now xs.now v.items) }
 {
+    let mut received = Received::new(alloc);
     let mut lines = Vec::new(alloc);
     let mut seen = HashSet::new(alloc);
     for x in xs {
         push_within(
-            alloc, &mut lines, &mut seen, best, offers, receivers, x, limit,
+            &mut received,
+            &mut lines,
+            &mut seen,
+            best,
+            offers,
+            receivers,
+            x,
+            limit,
         )?;
         if lines.len() > limit {
             return Ok(lines);

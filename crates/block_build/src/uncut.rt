@@ -13,11 +13,10 @@ ghost use Rattle.block_build.specs.Receivers.{received_items, received_lines};
 
 use crate::group::Group;
 use crate::holding::first_holding;
-use crate::receive::received_beside;
+use crate::received::Received;
 use crate::tested::is_same;
 use classifier::{Line, is_hidden, push_reached};
 use net_types::{Cube, Memory, PortNo};
-use std::alloc::Global;
 use std::collections::HashSet;
 
 /// Whether what a cube has in common with a tested one is the cube of a rule, or all that it has.
@@ -48,7 +47,7 @@ fn are_there(lines: &[Line], seen: &HashSet<Cube>, cube: &Cube, tests: &[Cube]) 
 
 /// Puts a rule joined with one of a receiver last, with its own cube.
 fn push_own(
-    alloc: Global,
+    received: &mut Received,
     lines: &mut Vec<Line>,
     seen: &mut HashSet<Cube>,
     x: &Line,
@@ -60,7 +59,7 @@ fn push_own(
     ensures lines { OnOk result (lines.new.items ≡ add_line lines.old.items (line (add_all x.now.results (received_items hop y.now.results)) x.now.cube)) }
     ensures agrees { OnOk result (Agrees lines.new.items seen.new) }
 {
-    let results = received_beside(alloc, &x.results, hop, &y.results)?;
+    let results = received.beside(&x.results, hop, &y.results)?;
     let cube = x.cube;
     push_reached(lines, seen, Line { cube, results })
 }
@@ -68,7 +67,7 @@ fn push_own(
 /// Adds a rule joined with each of a receiver's where these don't cut it otherwise than the rules that are there: then it is
 /// joined with the first one that holds it. Answers whether it did.
 pub(crate) fn push_uncut(
-    alloc: Global,
+    received: &mut Received,
     lines: &mut Vec<Line>,
     seen: &mut HashSet<Cube>,
     x: &Line,
@@ -91,7 +90,7 @@ pub(crate) fn push_uncut(
     }
     match first_holding(groups, &x.cube) {
         Some(y) => {
-            push_own(alloc, lines, seen, x, hop, y)?;
+            push_own(received, lines, seen, x, hop, y)?;
             Ok(true)
         }
         None => Ok(false),

@@ -6,13 +6,14 @@ ghost use Rattle.classifier.specs.Lines.{add_line, add_lines, joined, row, produ
 ghost use Rattle.classifier.specs.Runs.{lines_in};
 ghost use Rattle.classifier.specs.Seen.{Agrees};
 
+use crate::afters::Afters;
 use crate::join::Join;
 use crate::line::Line;
 use crate::results::Results;
 use crate::run::Run;
 use crate::runs::runs_of;
 use crate::seen::{is_hidden, push_line, push_reached};
-use net_types::{Assign, Cube, Loc, Memory, TryCopy};
+use net_types::{Assign, Cube, Loc, Memory};
 use std::alloc::Global;
 use std::collections::HashSet;
 
@@ -24,37 +25,22 @@ fn meet_behind(a: &Cube, b: &Cube, set: &Assign) -> Option<Cube>
     cube::meet(a, &before)
 }
 
-/// The results of a rule and, behind an assignment, those of another.
-#[tactic(auto, using(crate::proofs::AfterLemmas::add_all_after))]
-fn join_behind(
-    results: &Results,
-    first: (Assign, Loc),
-    next: &[(Assign, Loc)],
-) -> Result<Results, Memory>
-    ensures { IfOk result (λ r. r ≡ joined Join.Union results.now (after_all first next.now)) }
-{
-    let mut both = results.copy()?;
-    for pair in next {
-        both.push((first.0.followed_by(&pair.0), pair.1.after(first.1)))?;
-    }
-    Ok(both)
-}
-
 /// Puts the rule of a cube that joins a rule with one behind an assignment last, where it can be reached.
 fn push_behind(
+    afters: &mut Afters,
     lines: &mut Vec<Line>,
     seen: &mut HashSet<Cube>,
     cube: Cube,
     x: &Line,
     first: (Assign, Loc),
-    next: &[(Assign, Loc)],
+    next: &Results,
 ) -> Result<(), Memory>
     requires { Agrees lines.old.items seen.old }
     ensures lines { OnOk result (lines.new.items ≡ add_line lines.old.items (line (joined Join.Union x.now.results (after_all first next.now)) cube)) }
     ensures agrees { OnOk result (Agrees lines.new.items seen.new) }
 {
     if !is_hidden(lines, seen, &cube) {
-        let results = join_behind(&x.results, first, next)?;
+        let results = afters.join_behind(&x.results, first, next)?;
         push_reached(lines, seen, Line { cube, results })?;
     }
     Ok(())
@@ -62,6 +48,7 @@ fn push_behind(
 
 /// Adds a rule joined with each of a run behind an assignment.
 fn push_row_behind(
+    afters: &mut Afters,
     lines: &mut Vec<Line>,
     seen: &mut HashSet<Cube>,
     x: &Line,
@@ -74,7 +61,7 @@ fn push_row_behind(
 {
     for y in ys {
         if let Some(cube) = meet_behind(&x.cube, &y.cube, &first.0) {
-            push_behind(lines, seen, cube, x, first, y.results.items())?;
+            push_behind(afters, lines, seen, cube, x, first, &y.results)?;
         }
     }
     Ok(())
@@ -83,6 +70,7 @@ fn push_row_behind(
 /// Adds a rule joined with each of the runs behind an assignment. A run is passed over where its cube tells that none of its
 /// rules has headers in common with this one.
 fn push_rows_behind(
+    afters: &mut Afters,
     lines: &mut Vec<Line>,
     seen: &mut HashSet<Cube>,
     x: &Line,
@@ -95,7 +83,7 @@ fn push_rows_behind(
 {
     for run in runs {
         if meet_behind(&x.cube, &run.hull, &first.0).is_some() {
-            push_row_behind(lines, seen, x, first, run.lines)?;
+            push_row_behind(afters, lines, seen, x, first, run.lines)?;
         }
     }
     Ok(())
@@ -103,6 +91,7 @@ fn push_rows_behind(
 
 /// Adds each of some rules joined with each of the runs behind an assignment.
 fn push_product_behind(
+    afters: &mut Afters,
     lines: &mut Vec<Line>,
     seen: &mut HashSet<Cube>,
     xs: &[Line],
@@ -114,7 +103,7 @@ fn push_product_behind(
     ensures agrees { OnOk result (Agrees lines.new.items seen.new) }
 {
     for x in xs {
-        push_rows_behind(lines, seen, x, first, runs)?;
+        push_rows_behind(afters, lines, seen, x, first, runs)?;
     }
     Ok(())
 }
@@ -122,6 +111,7 @@ fn push_product_behind(
 /// The rules within a cube: what a list gives after each of the results.
 fn block_of(
     alloc: Global,
+    afters: &mut Afters,
     cube: Cube,
     results: &[(Assign, Loc)],
     runs: &[Run<'_>],
@@ -138,7 +128,7 @@ fn block_of(
     for pair in results {
         let mut joined = Vec::new(alloc);
         let mut seen = HashSet::new(alloc);
-        push_product_behind(&mut joined, &mut seen, &lines, *pair, runs)?;
+        push_product_behind(afters, &mut joined, &mut seen, &lines, *pair, runs)?;
         lines = joined;
     }
     Ok(lines)
@@ -148,6 +138,7 @@ fn block_of(
 /// no results are made for a cube that was seen.
 fn push_block(
     alloc: Global,
+    afters: &mut Afters,
     lines: &mut Vec<Line>,
     seen: &mut HashSet<Cube>,
     x: &Line,
@@ -170,8 +161,8 @@ fn push_block(
             )
         }
         Some((last, others)) => {
-            let within = block_of(alloc, x.cube, others, runs)?;
-            push_product_behind(lines, seen, &within, *last, runs)
+            let within = block_of(alloc, afters, x.cube, others, runs)?;
+            push_product_behind(afters, lines, seen, &within, *last, runs)
         }
     }
 }
@@ -181,10 +172,11 @@ pub fn composition_of(alloc: Global, xs: &[Line], ys: &[Line]) -> Result<Vec<Lin
     ensures { IfOk result (λ v. v.items ≡ add_lines [] (composed xs.now ys.now)) }
 {
     let runs = runs_of(alloc, ys)?;
+    let mut afters = Afters::new(alloc);
     let mut lines = Vec::new(alloc);
     let mut seen = HashSet::new(alloc);
     for x in xs {
-        push_block(alloc, &mut lines, &mut seen, x, &runs)?;
+        push_block(alloc, &mut afters, &mut lines, &mut seen, x, &runs)?;
     }
     Ok(lines)
 }

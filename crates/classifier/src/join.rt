@@ -4,6 +4,7 @@ ghost use Rattle.std.specs.Prelude.{◌≡◌, IfOk};
 ghost use Rattle.classifier.specs.Lines.{joined};
 
 use crate::results::Results;
+use crate::unions::Unions;
 use net_types::{Memory, TryCopy};
 
 /// How the results of two rules are joined.
@@ -16,15 +17,16 @@ pub enum Join {
 }
 
 /// The results of two rules, joined.
-pub fn join_results(join: Join, a: &Results, b: &Results) -> Result<Results, Memory>
+pub fn join_results(
+    unions: &mut Unions,
+    join: Join,
+    a: &Results,
+    b: &Results,
+) -> Result<Results, Memory>
     ensures { IfOk result (λ r. r ≡ joined join a.now b.now) }
 {
     match join {
-        Join::Union => {
-            let mut both = a.copy()?;
-            both.push_all(b)?;
-            Ok(both)
-        }
+        Join::Union => unions.union(a, b),
         Join::Otherwise => { if a.is_empty() { b.copy() } else { a.copy() } }
     }
 }

@@ -1,6 +1,7 @@
 //! Ordered rules over cubes of headers, with the operations of policies on them.
 #![tactic(auto)]
 
+mod afters;
 mod classifier;
 mod composition;
 mod filters;
@@ -15,6 +16,7 @@ mod runs;
 mod seen;
 mod sum;
 mod tight;
+mod unions;
 
 pub use classifier::Classifier;
 pub use join::Join;
@@ -26,3 +28,4 @@ pub use run::Run;
 pub use runs::{runs_by, runs_of};
 pub use seen::{is_hidden, push_line, push_lines, push_reached};
 pub use sum::parallel_all;
+pub use unions::Unions;

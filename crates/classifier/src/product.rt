@@ -11,12 +11,14 @@ use crate::line::Line;
 use crate::run::Run;
 use crate::runs::runs_of;
 use crate::seen::push_joined;
+use crate::unions::Unions;
 use net_types::{Cube, Memory};
 use std::alloc::Global;
 use std::collections::HashSet;
 
 /// Adds a rule joined with each of a list.
 fn push_row(
+    unions: &mut Unions,
     lines: &mut Vec<Line>,
     seen: &mut HashSet<Cube>,
     join: Join,
@@ -29,7 +31,7 @@ fn push_row(
 {
     for y in ys {
         if let Some(cube) = cube::meet(&x.cube, &y.cube) {
-            push_joined(lines, seen, cube, join, x, y)?;
+            push_joined(unions, lines, seen, cube, join, x, y)?;
         }
     }
     Ok(())
@@ -38,6 +40,7 @@ fn push_row(
 /// Adds a rule joined with each of the runs. A run is passed over where its cube tells that none of its rules has headers in
 /// common with this one.
 fn push_rows(
+    unions: &mut Unions,
     lines: &mut Vec<Line>,
     seen: &mut HashSet<Cube>,
     join: Join,
@@ -50,7 +53,7 @@ fn push_rows(
 {
     for run in runs {
         if cube::meet(&x.cube, &run.hull).is_some() {
-            push_row(lines, seen, join, x, run.lines)?;
+            push_row(unions, lines, seen, join, x, run.lines)?;
         }
     }
     Ok(())
@@ -61,10 +64,11 @@ pub fn product_of(alloc: Global, join: Join, xs: &[Line], ys: &[Line]) -> Result
     ensures { IfOk result (λ v. v.items ≡ add_lines [] (product join xs.now ys.now)) }
 {
     let runs = runs_of(alloc, ys)?;
+    let mut unions = Unions::new(alloc);
     let mut lines = Vec::new(alloc);
     let mut seen = HashSet::new(alloc);
     for x in xs {
-        push_rows(&mut lines, &mut seen, join, x, &runs)?;
+        push_rows(&mut unions, &mut lines, &mut seen, join, x, &runs)?;
     }
     Ok(lines)
 }
@@ -80,10 +84,11 @@ pub fn product_within(
     ensures { IfOk result (λ v. IsFront limit join xs.now ys.now v.items) }
 {
     let runs = runs_of(alloc, ys)?;
+    let mut unions = Unions::new(alloc);
     let mut lines = Vec::new(alloc);
     let mut seen = HashSet::new(alloc);
     for x in xs {
-        push_rows(&mut lines, &mut seen, join, x, &runs)?;
+        push_rows(&mut unions, &mut lines, &mut seen, join, x, &runs)?;
         if lines.len() > limit {
             return Ok(lines);
         }

@@ -1,17 +1,18 @@
 //! What a rule gives: assignments, each with a location.
 
-ghost use Rattle.std.specs.Prelude.{◌≡◌, ◌↔◌, IsTrue, IfOk, OnOk, OnErr, []};
+ghost use Rattle.std.specs.Prelude.{◌≡◌, ◌↔◌, IsTrue, IfOk, OnOk, OnErr, [], length};
+ghost use Rattle.std.specs.Cmp.Lexicographic.{pointwise};
 ghost use Rattle.classifier.specs.Items.{add, add_all, is_among, same_item};
 ghost use Rattle.net_types.specs.Sets.{HasNoRepeats};
 
-use net_types::{Assign, Loc, Memory, TryCopy};
+use net_types::{Assign, Loc, Memory, SharedItems, TryCopy};
 use std::alloc::Global;
 use std::marker::Model;
 
-/// Assignments with a location, each pair once.
+/// Assignments with a location, each pair once. Rules may share them.
 #[derive(Drop)]
 pub struct Results {
-    pairs: Vec<(Assign, Loc)>,
+    pairs: SharedItems<(Assign, Loc)>,
 }
 
 impl Model for Results {
@@ -22,13 +23,13 @@ impl Model for Results {
 
     ghost Value = { List (Assign × Loc) };
 
-    ghost view = { λ r. r.pairs.items };
+    ghost view = { λ r. r.pairs };
 
-    ghost invariant = { λ r. HasNoRepeats r.pairs.items };
+    ghost invariant = { λ r. HasNoRepeats r.pairs };
 }
 
 /// Whether two pairs are equal. Locations differ more often than assignments, so they are compared first.
-fn is_equal(a: &(Assign, Loc), b: &(Assign, Loc)) -> bool
+pub fn is_equal(a: &(Assign, Loc), b: &(Assign, Loc)) -> bool
     ensures { IsTrue result ↔ (a.now ≡ b.now) }
 {
     a.1 == b.1 && a.0 == b.0
@@ -41,13 +42,28 @@ fn is_same(a: &(Assign, Loc), b: &(Assign, Loc)) -> bool
     is_equal(a, b)
 }
 
+/// Whether two lists have equal pairs in the same order.
+fn are_same(one: &[(Assign, Loc)], other: &[(Assign, Loc)]) -> bool
+    ensures { result ≡ pointwise same_item one.now other.now }
+{
+    if one.len() != other.len() {
+        return false;
+    }
+    for i in 0..one.len() {
+        if !is_same(&one[i], &other[i]) {
+            return false;
+        }
+    }
+    true
+}
+
 impl Results {
     /// No results.
     pub fn new(alloc: Global) -> Results
         ensures { result ≡ [] }
     {
         Results {
-            pairs: Vec::new(alloc),
+            pairs: SharedItems::new(alloc),
         }
     }
 
@@ -56,7 +72,7 @@ impl Results {
         ensures { IfOk result (λ r. r ≡ []) }
     {
         Ok(Results {
-            pairs: Vec::with_capacity(alloc, room)?,
+            pairs: SharedItems::from_vec(Vec::with_capacity(alloc, room)?),
         })
     }
 
@@ -65,7 +81,7 @@ impl Results {
         ensures ok { OnOk result (self.new ≡ add self.old pair) }
         ensures err { OnErr result (self.new ≡ self.old) }
     {
-        if !has_pair(self.pairs.as_slice(), &pair) {
+        if !has_pair(self.pairs.items(), &pair) {
             self.pairs.push(pair)?;
         }
         Ok(())
@@ -75,28 +91,49 @@ impl Results {
     pub fn items(&self) -> &[(Assign, Loc)]
         ensures { result.now ≡ self.now }
     {
-        self.pairs.as_slice()
+        self.pairs.items()
     }
 
     /// No pair is there twice.
     pub fn known(&self)
         ensures { HasNoRepeats self.now }
     {
-        let _pairs = self.pairs.as_slice();
+        let _pairs = self.pairs.items();
     }
 
     /// Whether there are no results: the packet is dropped.
     pub fn is_empty(&self) -> bool
         ensures { IsTrue result ↔ (self.now ≡ []) }
     {
-        self.pairs.is_empty()
+        self.pairs.items().is_empty()
+    }
+
+    /// How many results there are.
+    pub fn len(&self) -> usize
+        ensures { result ≡ length self.now }
+    {
+        self.pairs.items().len()
+    }
+
+    /// Whether these are the others, in the same order.
+    pub fn equals(&self, others: &Results) -> bool
+        ensures { IsTrue result ↔ (self.now ≡ others.now) }
+    {
+        are_same(self.items(), others.items())
+    }
+
+    /// The same results, of which a copy is a further owner, without the pairs being copied.
+    pub fn shared(self) -> Result<Results, Memory>
+        ensures { IfOk result (λ shared. shared ≡ self) }
+    {
+        let pairs = self.pairs.shared()?;
+        Ok(Results { pairs })
     }
 
     /// Puts each of the pairs last, unless it is there.
     pub fn push_all(&mut self, others: &Results) -> Result<(), Memory>
         ensures ok { OnOk result (self.new ≡ add_all self.old others.now) }
     {
-        self.pairs.reserve_exact(others.pairs.len())?;
         for pair in others.items() {
             self.push(*pair)?;
         }
@@ -105,8 +142,9 @@ impl Results {
 }
 
 impl TryCopy for Results {
+    /// A further owner of the pairs where they are shared; else they are copied.
     fn copy(&self) -> Result<Results, Memory> {
-        let pairs = Vec::from_slice(*self.pairs.allocator(), self.pairs.as_slice())?;
+        let pairs = self.pairs.copy()?;
         Ok(Results { pairs })
     }
 }

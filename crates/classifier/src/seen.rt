@@ -7,6 +7,7 @@ ghost use Rattle.classifier.specs.Seen.{Agrees, HasAll, is_there};
 
 use crate::join::{Join, join_results};
 use crate::line::Line;
+use crate::unions::Unions;
 use net_types::{Cube, Memory};
 use std::collections::HashSet;
 
@@ -119,6 +120,7 @@ pub fn push_lines(
 
 /// Puts the rule of a cube that joins two rules last, where it can be reached.
 pub fn push_joined(
+    unions: &mut Unions,
     lines: &mut Vec<Line>,
     seen: &mut HashSet<Cube>,
     cube: Cube,
@@ -131,7 +133,7 @@ pub fn push_joined(
     ensures agrees { OnOk result (Agrees lines.new.items seen.new) }
 {
     if !is_hidden(lines, seen, &cube) {
-        let results = join_results(join, &x.results, &y.results)?;
+        let results = join_results(unions, join, &x.results, &y.results)?;
         push_reached(lines, seen, Line { cube, results })?;
     }
     Ok(())

@@ -4,7 +4,7 @@ use Rattle.std.specs.Option.{option_map}
 use Rattle.net_types.specs.declared.cube.Cube.{Cube}
 use Rattle.classifier.specs.declared.join.Join.TheVariants.{Union}
 use Rattle.classifier.specs.Items.{Item}
-use Rattle.classifier.specs.Lines.{add_line, add_lines, after_all, cons_line, joined, line}
+use Rattle.classifier.specs.Lines.{add_lines, after_all, cons_line, joined, line}
 use Rattle.classifier.specs.Seen.{Agrees}
 use Rattle.classifier.specs.declared.line.Line.{Line}
 use Rattle.classifier.proofs.RunLemmas.{row_behind, row_behind_at}
@@ -27,7 +27,6 @@ loop-y-preserved c =
       whole = elim c.match-meet_behind.branch [
         | in-Some+in_ok-push_behind w ↦
             ap (λ v. add_lines v.items rest) w.lines-is ∙ ap (λ (lines : List Line). add_lines lines rest) w.in_ok-push_behind.ensures.lines
-            ∙ ap (λ items. add_lines (add_line kept (next items w.in-Some.cube)) rest) w.items.ensures
             ∙ step (Some w.in-Some.cube) w.in-Some.is ∙ c.loop-y.invariant.whole
         | in_default w ↦ ap (λ v. add_lines v.items rest) w.lines-is ∙ step None w.in_default.is ∙ c.loop-y.invariant.whole
       ];

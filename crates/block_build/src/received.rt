@@ -1,0 +1,123 @@
+//! What receivers make of results, kept for the next rules that give them the same.
+
+ghost use Rattle.std.specs.Prelude.{◌≡◌, IfOk, IfSome};
+ghost use Rattle.classifier.specs.Items.{add_all};
+ghost use Rattle.block_build.specs.Receivers.{received_items};
+
+use crate::receive::received_results;
+use classifier::{Results, Unions};
+use net_types::{Memory, PortNo, TryCopy};
+use std::alloc::Global;
+
+/// So many results are turned into exits at once, which is no more work than to look for what they gave.
+const FEW: usize = 16;
+
+/// How many lists are kept.
+const MOST: usize = 16;
+
+/// How results leave, with the port of a NEXT_HOP.
+#[derive(Drop)]
+struct Leaving {
+    hop: PortNo,
+    results: Results,
+    exits: Results,
+    ghost is: { exits ≡ received_items hop results },
+}
+
+/// What receivers made of results, and the unions of that with what leaves by others. Where rules have many results, they often
+/// have one of a few lists, and share what becomes of it.
+#[derive(Drop)]
+pub(crate) struct Received {
+    alloc: Global,
+    kept: Vec<Leaving>,
+    unions: Unions,
+}
+
+/// How results leave, where it was kept.
+fn found<'u>(kept: &'u [Leaving], hop: PortNo, results: &Results) -> Option<&'u Results>
+    ensures { IfSome result (λ exits. exits.now ≡ received_items hop results.now) }
+{
+    for earlier in kept {
+        if earlier.hop == hop && earlier.results.equals(results) {
+            return Some(&earlier.exits);
+        }
+    }
+    None
+}
+
+/// Keeps how results leave. Where there are many, the earlier ones go.
+fn keep(
+    kept: &mut Vec<Leaving>,
+    hop: PortNo,
+    results: &Results,
+    exits: &Results,
+) -> Result<(), Memory>
+    requires { exits.now ≡ received_items hop results.now }
+{
+    if kept.len() >= MOST {
+        kept.clear();
+    }
+    let results = results.copy()?;
+    let exits = exits.copy()?;
+    kept.push(Leaving {
+        hop,
+        results,
+        exits,
+    })?;
+    Ok(())
+}
+
+impl Received {
+    /// Nothing is kept yet.
+    pub(crate) fn new(alloc: Global) -> Received {
+        Received {
+            alloc,
+            kept: Vec::new(alloc),
+            unions: Unions::new(alloc),
+        }
+    }
+
+    /// The allocator that it takes its memory from.
+    pub(crate) fn alloc(&self) -> Global {
+        self.alloc
+    }
+
+    /// How the results leave, and the packet as it is where there are none.
+    fn exits(&mut self, hop: PortNo, results: &Results) -> Result<Results, Memory>
+        ensures { IfOk result (λ r. r ≡ received_items hop results.now) }
+    {
+        if results.len() <= FEW {
+            return received_results(self.alloc, hop, results);
+        }
+        if let Some(exits) = found(&self.kept, hop, results) {
+            return exits.copy();
+        }
+        let exits = received_results(self.alloc, hop, results)?.shared()?;
+        keep(&mut self.kept, hop, results, &exits)?;
+        Ok(exits)
+    }
+
+    /// The results beside others: those alone where there are no others.
+    fn beside_others(&mut self, others: &Results, results: Results) -> Result<Results, Memory>
+        ensures { IfOk result (λ r. r ≡ add_all others.now results) }
+    {
+        results.known();
+        if others.is_empty() {
+            return Ok(results);
+        }
+        self.unions.union(others, &results)
+    }
+
+    /// How a receiver's results leave, beside what leaves by receivers before it.
+    pub(crate) fn beside(
+        &mut self,
+        others: &Results,
+        hop: PortNo,
+        results: &Results,
+    ) -> Result<Results, Memory>
+        ensures { IfOk result (λ r. r ≡ add_all others.now (received_items hop results.now)) }
+    {
+        let exits = self.exits(hop, results)?;
+        self.beside_others(others, exits)
+    }
+}

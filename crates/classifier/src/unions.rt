@@ -1,0 +1,111 @@
+//! Unions of results, kept for the next rules that join the same.
+
+ghost use Rattle.std.specs.Prelude.{◌≡◌, IfOk, IfSome, OnOk};
+ghost use Rattle.classifier.specs.Items.{add_all};
+
+use crate::results::Results;
+use net_types::{Memory, TryCopy};
+use std::alloc::Global;
+
+/// So many results are joined at once, which is no more work than to look for their union.
+const FEW: usize = 16;
+
+/// How many unions are kept.
+const MOST: usize = 16;
+
+/// Two lists of results, and their union.
+#[derive(Drop)]
+struct Union {
+    first: Results,
+    second: Results,
+    both: Results,
+    ghost is: { both ≡ add_all first second },
+}
+
+/// Unions that were made. Where rules have many results, they often have one of a few lists, and share it.
+#[derive(Drop)]
+pub struct Unions {
+    kept: Vec<Union>,
+}
+
+/// The union of two lists, where it was kept.
+fn found<'u>(kept: &'u [Union], first: &Results, second: &Results) -> Option<&'u Results>
+    ensures { IfSome result (λ both. both.now ≡ add_all first.now second.now) }
+{
+    for union in kept {
+        if union.first.equals(first) && union.second.equals(second) {
+            return Some(&union.both);
+        }
+    }
+    None
+}
+
+/// The results of both, in a list of their own where the second has others than the first.
+fn union_of(first: &Results, second: &Results) -> Result<Results, Memory>
+    ensures { IfOk result (λ both. both ≡ add_all first.now second.now) }
+{
+    second.known();
+    if first.is_empty() {
+        return second.copy();
+    }
+    let mut both = first.copy()?;
+    both.push_all(second)?;
+    Ok(both)
+}
+
+/// Keeps a union. Where there are many, the earlier ones go.
+fn keep(
+    kept: &mut Vec<Union>,
+    first: &Results,
+    second: &Results,
+    both: &Results,
+) -> Result<(), Memory>
+    requires { both.now ≡ add_all first.now second.now }
+{
+    if kept.len() >= MOST {
+        kept.clear();
+    }
+    let first = first.copy()?;
+    let second = second.copy()?;
+    let both = both.copy()?;
+    kept.push(Union {
+        first,
+        second,
+        both,
+    })?;
+    Ok(())
+}
+
+impl Unions {
+    /// No union is kept yet.
+    pub fn new(alloc: Global) -> Unions {
+        Unions {
+            kept: Vec::new(alloc),
+        }
+    }
+
+    /// The results of both, in the order in which they were put, those of the first before the others.
+    pub fn union(&mut self, first: &Results, second: &Results) -> Result<Results, Memory>
+        ensures { IfOk result (λ both. both ≡ add_all first.now second.now) }
+    {
+        if second.is_empty() {
+            return first.copy();
+        }
+        if first.len().saturating_add(second.len()) <= FEW {
+            return union_of(first, second);
+        }
+        self.long_union(first, second)
+    }
+
+    /// The same, of long lists.
+    fn long_union(&mut self, first: &Results, second: &Results) -> Result<Results, Memory>
+        ensures { IfOk result (λ both. both ≡ add_all first.now second.now) }
+    {
+        if let Some(both) = found(&self.kept, first, second) {
+            return both.copy();
+        }
+        let both = union_of(first, second)?.shared()?;
+        keep(&mut self.kept, first, second, &both)?;
+        Ok(both)
+    }
+}
