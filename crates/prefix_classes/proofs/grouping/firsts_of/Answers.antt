@@ -3,7 +3,7 @@ use Rattle.std.specs.Prelude.{is_some}
 use Rattle.std.specs.FinMap.Entries.{find, put}
 use Rattle.net_types.specs.declared.address.Tag.{Tag}
 use Rattle.net_types.specs.declared.route.Part.{Part}
-use Rattle.prefix_classes.proofs.GroupingLemmas.{is_some-copied}
+use Rattle.net_types.proofs.FindLemmas.{is_some-copied}
 use Rattle.prefix_classes.proofs.LeastLemmas.{AreFirstsSoFar, all_found, found_before, found_now, none_found}
 use Rattle.prefix_classes.specs.Placed.{sig_cmp}
 use Rattle.prefix_classes.proofs.grouping.firsts_of.Goals as goal

@@ -9,7 +9,7 @@ use Rattle.fast_path.proofs.GroupPlaces.{added_there, found_there, place_more}
 use Rattle.fast_path.specs.GroupOrder.{group_cmp}
 use Rattle.fast_path.specs.Grouping.{group_of_class, groups_of, one_more}
 use Rattle.fast_path.proofs.grouping.Groups.add.Goals as goal
-use Rattle.prefix_classes.proofs.GroupingLemmas.{is_some-copied}
+use Rattle.net_types.proofs.FindLemmas.{is_some-copied}
 
 pub returns-then-is_some : goal.returns-then-is_some
 returns-then-is_some c =
