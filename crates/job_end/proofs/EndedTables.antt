@@ -3,7 +3,7 @@ use Rattle.std.proofs.Common.{◌≡◌, ◌≤◌, Bool, true, false, ◌&&◌,
 use Rattle.std.specs.Prelude.{Option, Some, None, is_some, unwrap_or}
 use Rattle.std.specs.Cmp.Lexicographic.{pointwise}
 use Rattle.std.specs.FinMap.{get}
-use Rattle.std.proofs.lemmas.Bool.{and_parts}
+use Rattle.std.proofs.lemmas.Bool.{and_parts, not-false}
 use Rattle.block_build.proofs.TightLemmas.{tight_forms_stay_right}
 use Rattle.block_build.specs.Tight.{IsTightForm}
 use Rattle.events.specs.After.{merged, without_pairs}
@@ -50,10 +50,6 @@ pub block_pairs : (built : BuiltPairs) (pairs : List Pair) → map pair_of (bloc
 block_pairs built [] = refl
 block_pairs built (pair ∷ pairs) = ap (λ ps. pair ∷ ps) (block_pairs built pairs)
 
-turned : (b : Bool) → not b ≡ false → b ≡ true
-turned true e = refl
-turned false e = absurd (cc)
-
 -- rules that are made in the place of others are there
 other_made : (made : Option (List Rule)) (old : List Rule) → are_others (Some old) made ≡ true → (rules : List Rule) × (made ≡ Some rules)
 other_made None old others = absurd (cc)
@@ -67,7 +63,7 @@ made_is (Some rules) old others = refl
 -- others are none, or the same
 made_same : (made : Option (List Rule)) (old : List Rule) → are_others (Some old) made ≡ false → Some old ≡ Some (unwrap_or made old)
 made_same None old same = refl
-made_same (Some rules) old same = (option_test (pointwise same_rule) rules_test (Some old) (Some rules)).0 (turned (same_option (pointwise same_rule) (Some old) (Some rules)) same)
+made_same (Some rules) old same = (option_test (pointwise same_rule) rules_test (Some old) (Some rules)).0 (not-false (same_option (pointwise same_rule) (Some old) (Some rules)) same)
 
 -- so they tell whether the rules that come are others
 others_tell : (made : Option (List Rule)) (old : List Rule) → not (same_option (pointwise same_rule) (Some old) (Some (unwrap_or made old))) ≡ are_others (Some old) made
