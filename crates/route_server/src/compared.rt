@@ -13,7 +13,7 @@ ghost use Rattle.route_server.specs.Rows.{settled_by, offered, counted, signatur
 
 use crate::choices::{held_in, place_of};
 use crate::held::Held;
-use crate::signature::is_offered;
+use crate::signature::{is_offered, names_at};
 use crate::terms::Terms;
 use net_types::{Offer, Part, Pid, Prefix, Same};
 
@@ -40,9 +40,10 @@ fn are_offers(
     requires { all.now ≡ offers_by_row (settled_by terms) row.now }
     ensures { result ≡ pointwise same_offer offers.now (map (offer (settled_by terms.entry)) (counted (settled_by terms.entry) to chosen (offered (settled_by terms.entry) to prefix row.now))) }
 {
+    let named = names_at(terms.named, to);
     let mut next = 0;
     for (place, held) in row.iter().enumerate() {
-        if is_offered(terms, held, to, chosen, prefix) {
+        if is_offered(terms, named, held, to, chosen, prefix) {
             if !has_offer(offers, next, all[place]) {
                 return false;
             }

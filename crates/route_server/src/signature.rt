@@ -67,11 +67,19 @@ fn counts(named: &[Pid], chosen: Pid, who: Pid) -> bool
     who.0 == chosen.0 || is_named(named, who)
 }
 
-/// Whether a route is given to a sender and counts for it.
-pub fn is_offered(terms: Terms<'_>, held: &Held, to: Pid, chosen: Pid, prefix: Prefix) -> bool
+/// Whether a route is given to a sender and counts for it, whose policy names these.
+pub fn is_offered(
+    terms: Terms<'_>,
+    named: &[Pid],
+    held: &Held,
+    to: Pid,
+    chosen: Pid,
+    prefix: Prefix,
+) -> bool
+    requires { named.now ≡ names_at terms.named.now to.0 }
     ensures { result ≡ (counts (names_at terms.entry.named.now to.0) chosen held.now.from && is_given (settled_by terms.entry) held.now.from to prefix held.now.attrs) }
 {
-    counts(names_at(terms.named, to), chosen, held.from) && is_given(terms, held, to, prefix)
+    counts(named, chosen, held.from) && is_given(terms, held, to, prefix)
 }
 
 /// What a route offers: the port of its next hop, and whether what is sent there is discarded.
@@ -110,9 +118,11 @@ fn offers_in(
     requires { all.now ≡ offers_by_row (settled_by terms) row.now }
     ensures { IfOk result (λ offers. offers ≡ map (offer (settled_by terms.entry)) (counted (settled_by terms.entry) to chosen (offered (settled_by terms.entry) to prefix row.now))) }
 {
-    let mut offers = Offers::new(alloc);
+    let named = names_at(terms.named, to);
+    // Mostly there is one.
+    let mut offers = Offers::from_vec(Vec::with_capacity(alloc, 1)?);
     for (place, held) in row.iter().enumerate() {
-        if is_offered(terms, held, to, chosen, prefix) {
+        if is_offered(terms, named, held, to, chosen, prefix) {
             offers.push(all[place])?;
         }
     }
