@@ -14,14 +14,17 @@ use crate::atoms::atoms_of;
 use crate::cells::cells_of;
 use crate::paths::push_paths;
 use classifier::{Classifier, Line, Results, push_lines};
-use net_types::{Assign, Cube, Items, Loc, Memory};
+use net_types::{Assign, Cube, Items, Loc, Memory, TryCopy};
 use policy_isolate::Names;
 use policy_syntax::Tree;
 use std::alloc::Global;
 use std::collections::HashSet;
 
-/// What a policy makes of the packets of a cube.
-fn results_at<N: Names>(
+/// So many results have a list of their own, which is no more work than to look whether the rule before has the same.
+const FEW: usize = 16;
+
+/// What a policy makes of the packets of a cube, in a list of its own.
+fn made_at<N: Names>(
     alloc: Global,
     tree: &Tree<'_>,
     names: &N,
@@ -41,6 +44,33 @@ fn results_at<N: Names>(
     Ok(results)
 }
 
+/// The results; where they are many, those of the rule before where these are equal, so that both share them.
+fn settled(last: Option<&Line>, results: Results) -> Result<Results, Memory>
+    ensures { IfOk result (λ r. r ≡ results) }
+{
+    if results.len() <= FEW {
+        return Ok(results);
+    }
+    match last {
+        Some(line) if line.results.equals(&results) => line.results.copy(),
+        _ => results.shared(),
+    }
+}
+
+/// What a policy makes of the packets of a cube.
+fn results_at<N: Names>(
+    alloc: Global,
+    tree: &Tree<'_>,
+    names: &N,
+    cube: &Cube,
+    last: Option<&Line>,
+) -> Result<Results, Memory>
+    ensures { IfOk result (λ r. IsVisit (N.pid_of names.now) (policy_of tree.now) cube.now begun [] r) }
+{
+    let results = made_at(alloc, tree, names, cube)?;
+    settled(last, results)
+}
+
 /// The rule of each cube.
 fn lines_at<N: Names>(
     alloc: Global,
@@ -52,7 +82,7 @@ fn lines_at<N: Names>(
 {
     let mut lines = Vec::new(alloc);
     for cube in cubes {
-        let results = results_at(alloc, tree, names, cube)?;
+        let results = results_at(alloc, tree, names, cube, lines.last())?;
         lines.push(Line {
             cube: *cube,
             results,
