@@ -8,3 +8,4 @@ mod in_turn;
 mod loads;
 mod long;
 mod realistic;
+mod waiting;
