@@ -31,10 +31,7 @@ use Rattle.advert_queue.specs.declared.counts.Recount.TheVariants.{More, Less}
 use Rattle.advert_queue.specs.declared.counts.Side.{Side}
 use Rattle.advert_queue.specs.declared.counts.Side.TheVariants.{Told, Present}
 use Rattle.advert_queue.specs.declared.counts.Uses.{Uses}
-
-shown : (b : Bool) → T b → b ≡ true
-shown true h = refl
-shown false h = absurd h
+use Rattle.net_types.proofs.TestLemmas.{shown}
 
 -- ---- sums over entries
 

@@ -12,20 +12,12 @@ use Rattle.std.proofs.lemmas.List.{append_assoc}
 use Rattle.events.specs.declared.Entry.{Entry}
 use Rattle.net_types.proofs.OrderLemmas.{prefixes_total}
 use Rattle.net_types.proofs.PlaceLemmas.{get_sorted}
-use Rattle.net_types.proofs.TieLemmas.{prefix_cmp-IsAntisymmetric, ties_itself}
+use Rattle.net_types.proofs.TieLemmas.{prefix_cmp-IsAntisymmetric, ties_itself, less}
 use Rattle.net_types.proofs.ValueLemmas.{later_apart}
 use Rattle.net_types.specs.Keys.{prefix_cmp}
 use Rattle.net_types.specs.Sets.{Member}
 use Rattle.net_types.specs.declared.prefix.Prefix.{Prefix}
-
-less : (r : Ordering) → is_lt r ≡ true → r ≡ Less
-less Less e = refl
-less Equal e = cc
-less Greater e = cc
-
-holds : (b : Bool) → b ≡ true → T b
-holds true e = tt
-holds false e = cc
+use Rattle.net_types.proofs.TestLemmas.{holds}
 
 module _ {K X : Type 0} (R : K → K → Ordering) where
   below_front : (k : K) (xs ys : List (K × X)) → below_all R k (xs ++ ys) ≡ true → below_all R k xs ≡ true

@@ -14,15 +14,8 @@ use Rattle.net_types.proofs.PlaceLemmas.{cond_not, entries_of_sorted}
 use Rattle.net_types.proofs.RisingLemmas.{before, keys-IsRising}
 use Rattle.net_types.specs.Sets.{IsRising, SameMembers}
 use Rattle.ordered_map.specs.Entries.{head_of, without}
-
-less : (r : Ordering) → is_lt r ≡ true → r ≡ Less
-less Less e = refl
-less Equal e = cc
-less Greater e = cc
-
-holds : (b : Bool) → b ≡ true → T b
-holds true e = tt
-holds false e = cc
+use Rattle.net_types.proofs.TieLemmas.{less}
+use Rattle.net_types.proofs.TestLemmas.{holds}
 
 -- a list that has a first item is that and the rest
 pub headed : {A : Type 0} (xs : List A) (x : A) → head_of xs ≡ Some x → xs ≡ x ∷ drop 1 xs

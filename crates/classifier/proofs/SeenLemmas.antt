@@ -12,6 +12,7 @@ use Rattle.classifier.specs.declared.line.Line.{Line}
 use Rattle.classifier.specs.Lines.{same_cube, is_shadowed, add_line}
 use Rattle.classifier.proofs.ItemLemmas.{option_eq_exact, option_eq_refl}
 use Rattle.classifier.specs.Seen.{Cubes, is_there, if_many, prefix_eq, cube_eq, HasAll, Agrees}
+use Rattle.std.proofs.Math.Bool.{or-false}
 
 -- ---- the set's equality
 
@@ -54,11 +55,8 @@ cube_eq_is a b = elim (cases_Bool (same_cube a b)) [
 -- ---- the list
 
 is_there-push : (xs : List Line) (y : Line) (c : Cube) → is_there (xs ++ y ∷ []) c ≡ (is_there xs c || same_cube y.cube c)
-is_there-push [] y c = or_false (same_cube y.cube c)
-  where
-    or_false : (b : Bool) → (b || false) ≡ b
-    or_false true = refl
-    or_false false = refl
+is_there-push [] y c = or-false (same_cube y.cube c)
+
 is_there-push (x ∷ xs) y c = ap (λ b. same_cube x.cube c || b) (is_there-push xs y c) ∙ sym (or_regroup (same_cube x.cube c) (is_there xs c) (same_cube y.cube c))
   where
     or_regroup : (a b c : Bool) → ((a || b) || c) ≡ (a || (b || c))

@@ -52,6 +52,7 @@ use Rattle.exchange_core.proofs.Steps.{kept_after, quiet_step, refused_step, ste
 use Rattle.exchange_core.specs.Programs.{AreCompiled, IsDropping, inbound_texts, outbound_texts}
 use Rattle.exchange_core.specs.declared.programs.Programs.{Programs}
 use Rattle.exchange_core.specs.View.{IsKept, state_of}
+use Rattle.std.proofs.Math.Bool.{or-false}
 
 -- the line is in place while participants and ports are declared
 pub declaring_at : (s : State) (e : Event) (o : Option Refusal) → s.phase ≡ Declaring → (suits_job s.owed e && is_placed Declaring e) ≡ true → refusal_in_place s e ≡ o → refusal s e ≡ o
@@ -112,11 +113,7 @@ nothing_told t = ap (λ es. list_any (λ (x : Entry). events.same_tag x.tag t) (
 participant_live : (s : State) (m : Participant) (t : Tag) → events.is_live (with_participant s m) t ≡ events.is_live s t
 participant_live s m t =
     ap (λ b. list_any (events.same_tag t) (values s.tag) || b)
-    (any_more (λ entries. events.tells entries t) s.told empty ∙ ap (λ b. list_any (λ entries. events.tells entries t) s.told || b) (nothing_told t) ∙ or_false (list_any (λ entries. events.tells entries t) s.told))
-  where
-    or_false : (b : Bool) → (b || false) ≡ b
-    or_false true = refl
-    or_false false = refl
+    (any_more (λ entries. events.tells entries t) s.told empty ∙ ap (λ b. list_any (λ entries. events.tells entries t) s.told || b) (nothing_told t) ∙ or-false (list_any (λ entries. events.tells entries t) s.told))
 
 -- a line that declares comes before the exchange runs
 not_running : (p : Phase) → p ≡ Declaring → p ≡ Running → ⊥

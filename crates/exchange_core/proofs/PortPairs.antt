@@ -9,7 +9,7 @@ use Rattle.std.specs.declared.cmp.Ordering.{Ordering}
 use Rattle.std.specs.declared.cmp.Ordering.TheVariants.{Less, Equal, Greater}
 use Rattle.std.proofs.lemmas.Bool.{and_from, and_parts, eq-eqb, eqb-true, false≢true, false_from_ne_true, lt-ltb, ltb-true}
 use Rattle.events.specs.State.{State}
-use Rattle.exchange_laws.proofs.Lists.{numbers_range, some_of}
+use Rattle.exchange_laws.proofs.Lists.{numbers_range}
 use Rattle.exchange_laws.proofs.LivePairs.{live_tag}
 use Rattle.exchange_laws.proofs.OwnHops.{numbered_port}
 use Rattle.exchange_laws.specs.Steady.{IsSteady, PortsDiffer}
@@ -31,6 +31,7 @@ use Rattle.net_types.specs.declared.rule.Pair.{Pair}
 use Rattle.net_types.specs.declared.rule.Rule.{Rule}
 use Rattle.registry.specs.Registered.{Registered, port_of, ports_of}
 use Rattle.exchange_core.specs.Rebuilt.{AreTagged, is_at, is_from, is_later}
+use Rattle.std.proofs.lemmas.Option.{same_Some}
 
 -- ---- the order of pairs
 
@@ -99,7 +100,7 @@ one_later last p [] rises e = absurd (cc)
 one_later last p (x ∷ ks) rises e =
     elim (is_later last x) as (λ b. is_later last x ≡ b → cond b (Some x) (find (is_later last) ks) ≡ Some p → cond b (x ∷ filter (is_later last) ks) (filter (is_later last) ks) ≡ p ∷ filter (is_later p) (x ∷ ks)) [
       | true ↦ λ here is.
-          let same : x ≡ p = some_of x p is in
+          let same : x ≡ p = same_Some x p is in
           let itself : is_later p x ≡ false = not_later p x (λ l. let tag : p.tag.0 < x.tag.0 = l.tag in let one : x.tag.0 ≡ p.tag.0 = ap (λ (y : Pair). y.tag.0) same in absurd (omega (arith, tag, one))) in
           (λ i. same i ∷ filter (is_later last) ks)
           ∙ ap (λ ys. p ∷ ys) (filter_on (is_later last) (is_later p) ks (λ y m. alike last p y (later_is last p (ap (is_later last) (sym same) ∙ here)) (ap (λ z. before pair_cmp z y) (sym same) ∙ rises.0 y m)))
@@ -143,7 +144,7 @@ same_port last p [] e port = absurd (cc)
 same_port last p (x ∷ ks) e port =
     elim (before pair_cmp last x) as (λ b. before pair_cmp last x ≡ b → cond b (Some x) (find (before pair_cmp last) ks) ≡ Some p → cond (is_later last x) (Some x) (find (is_later last) ks) ≡ Some p) [
       | true ↦ λ here is.
-          let same : x ≡ p = some_of x p is in
+          let same : x ≡ p = same_Some x p is in
           let one : x.port.0 ≡ last.port.0 = ap (λ (y : Pair). y.port.0) same ∙ port in
           let later : is_later last x ≡ true = elim (lesser last x here) [
             | inl less ↦ absurd (omega (arith, less, one))
@@ -161,7 +162,7 @@ other_port last p [] rises e port = refl
 other_port last p (x ∷ ks) rises e port =
     elim (before pair_cmp last x) as (λ b. before pair_cmp last x ≡ b → cond b (Some x) (find (before pair_cmp last) ks) ≡ Some p → cond (is_later last x) (Some x) (find (is_later last) ks) ≡ None) [
       | true ↦ λ here is.
-          let same : x ≡ p = some_of x p is in
+          let same : x ≡ p = same_Some x p is in
           let one : x.port.0 ≡ p.port.0 = ap (λ (y : Pair). y.port.0) same in
           let past : last.port.0 < x.port.0 = elim (lesser last x here) [
             | inl less ↦ less

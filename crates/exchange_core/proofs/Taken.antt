@@ -3,13 +3,13 @@ use Rattle.std.proofs.Common.{◌≡◌, ℕ, zero, suc, ◌<◌, Bool, true, fa
 use Rattle.std.specs.Prelude.{Some, slice_set}
 use Rattle.std.specs.FinMap.{FinMap, empty}
 use Rattle.std.specs.List.{list_any}
-use Rattle.std.proofs.lemmas.Bool.{and_from, and_parts, eqb-true, false_from_ne_true, or_cases, or_left, or_parts, or_right}
+use Rattle.std.proofs.lemmas.Bool.{and_from, and_parts, eqb-true, false_from_ne_true, or_cases, or_left, or_parts, or_right, not-true}
 use Rattle.events.proofs.Drains.{get_set}
 use Rattle.net_types.proofs.OrderedLemmas.{any_member, member_any, ordered_rises, ordered_same}
 use Rattle.events.specs.State.{State, port_of, present, told_to}
 use Rattle.events.specs.Tags.{is_live, is_live_pair, tells}
 use Rattle.events.specs.declared.Entry.{Entry}
-use Rattle.exchange_laws.proofs.Lists.{clash, not_true, some_of}
+use Rattle.exchange_laws.proofs.Lists.{clash}
 use Rattle.exchange_laws.proofs.LivePairs.{live_at, live_from, port_Member, present_tag, told_live}
 use Rattle.exchange_laws.proofs.NewStates.{nothing_told}
 use Rattle.exchange_laws.proofs.OwnHops.{numbered_port}
@@ -38,6 +38,7 @@ use Rattle.prefix_classes.proofs.MemberLemmas.{no_members}
 use Rattle.prefix_classes.specs.Classes.{members}
 use Rattle.registry.specs.Registered.{ports_of}
 use Rattle.exchange_core.specs.Taking.{all_pairs, dead_tags, gone_for, has_none, is_dead, pairs_at}
+use Rattle.std.proofs.lemmas.Option.{same_Some}
 
 -- ---- tags that were told and are told no more
 
@@ -55,7 +56,7 @@ alone false = refl
 left : (m : FinMap prefix_cmp Entry) (ts : List Tag) (t : Tag) → Member t (untold (m ∷ []) ts) → Member t ts × (tells m t ≡ false)
 left m ts t k =
     let is = filter-Member (λ u. not (is_told (m ∷ []) u)) ts t k in
-    (is.stands, sym (alone (tells m t)) ∙ not_true (is_told (m ∷ []) t) is.passes)
+    (is.stands, sym (alone (tells m t)) ∙ not-true (is_told (m ∷ []) t) is.passes)
 
 stays : (m : FinMap prefix_cmp Entry) (ts : List Tag) (t : Tag) → Member t ts → tells m t ≡ false → Member t (untold (m ∷ []) ts)
 stays m ts t k none = Member-filter (λ u. not (is_told (m ∷ []) u)) ts t k (ap (λ b. not b) (alone (tells m t) ∙ none))
@@ -107,7 +108,7 @@ module _ (s : State) (who : Pid) (then : FinMap prefix_cmp Entry) (apart : Ports
     false_from_ne_true (is_live_pair s1 (pair_at t n)) (λ live.
         let there = live_at s1 (pair_at t n) live in
         let q : PortInfo = there.0 in
-        let same : q.owner ≡ who = ap (λ (x : PortInfo). x.owner) (some_of q at.port (sym there.1.port ∙ found)) ∙ at.owner in
+        let same : q.owner ≡ who = ap (λ (x : PortInfo). x.owner) (same_Some q at.port (sym there.1.port ∙ found)) ∙ at.owner in
         elim (or_cases (tells (told_to s1 q.owner) t) (tells (present s1 q.owner) t) there.1.for) [
           | inl told ↦ clash told (ap (λ w. tells (told_to s1 w) t) same ∙ ap (λ es. tells es t) told_now ∙ is.not_then)
           | inr now ↦ clash now (ap (λ w. tells (present s1 w) t) same ∙ is.not_now)
@@ -164,7 +165,7 @@ module _ (s : State) (who : Pid) (then : FinMap prefix_cmp Entry) (apart : Ports
       let parts = and_parts (has_none s.tag t) (not (is_told (slice_set s.told who.0 empty) t)) stands.passes in
       let is = gone_tag (told_to s who) then (present s who) t stands.stands in (
         or_right (has_prefix s t) (is_told s.told t) (told_live s who t is.was),
-        ap (λ b. b || is_told (slice_set s.told who.0 then) t) (unheld t parts.0) ∙ elsewhere t is.not_then ∙ not_true (is_told (slice_set s.told who.0 empty) t) parts.1,
+        ap (λ b. b || is_told (slice_set s.told who.0 then) t) (unheld t parts.0) ∙ elsewhere t is.not_then ∙ not-true (is_told (slice_set s.told who.0 empty) t) parts.1,
       )
 
   all_tags : (t : Tag) → is_live s t ≡ true → is_live s1 t ≡ false → Member t dead_here

@@ -10,7 +10,7 @@ use Rattle.events.specs.After.{trimmed_kept}
 use Rattle.events.specs.Fits.{is_receivers, is_senders, none_rebuilt}
 use Rattle.events.specs.Sound.{owners_part, part_of}
 use Rattle.events.specs.State.{State, ArePolicies, AreRead, IsRead, port_of}
-use Rattle.exchange_laws.proofs.Lists.{clash, get_tabulated, key_Member, some_of}
+use Rattle.exchange_laws.proofs.Lists.{clash, get_tabulated, key_Member}
 use Rattle.exchange_laws.proofs.OwnHops.{none_passes}
 use Rattle.exchange_laws.proofs.Parts.{right_alike, trimmed_whole}
 use Rattle.exchange_laws.proofs.RulesAfter.{sound_tagged}
@@ -38,6 +38,7 @@ use Rattle.net_types.specs.declared.route.Part.{Part}
 use Rattle.net_types.specs.declared.route.PortInfo.{PortInfo}
 use Rattle.net_types.specs.declared.rule.Pair.{Pair}
 use Rattle.net_types.specs.declared.rule.Rule.{Rule}
+use Rattle.std.proofs.lemmas.Option.{same_Some}
 
 -- ---- the owner's part
 
@@ -213,7 +214,7 @@ module _ (s : State) (who : Pid) (text : List ℕ) (named : List Pid) where
       by : (o : Option (List Part)) → get s.kept t ≡ o → option_map (trimmed who named) o ≡ Some sig → IsWhole (length s.routing.participants) part
       by None kept e = absurd (cc)
       by (Some old) kept e =
-          let image = map-Member (trimmed_part who named) old part (subst (Member part) (sym (some_of (trimmed who named old) sig e)) stands) in
+          let image = map-Member (trimmed_part who named) old part (subst (Member part) (sym (same_Some (trimmed who named old) sig e)) stands) in
           subst (IsWhole (length s.routing.participants)) (sym image.is) (trimmed_whole (length s.routing.participants) who named image.of (whole t old kept image.of image.stands))
 
   pub trimmed_tagged : IsTagged s → IsTagged sent

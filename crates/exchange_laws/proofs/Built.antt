@@ -4,13 +4,13 @@ use Rattle.std.specs.Prelude.{Option, Some, None, is_none, is_some}
 use Rattle.std.specs.FinMap.{get}
 use Rattle.events.specs.Sound.{IsRight}
 use Rattle.events.specs.State.{State}
-use Rattle.exchange_laws.proofs.Lists.{some_of}
 use Rattle.exchange_laws.proofs.RulesAfter.{not_new}
 use Rattle.exchange_laws.specs.Listed.{HasLivePairs}
 use Rattle.exchange_laws.specs.Replies.{ChangesAreBuilt, RightRulesAreSome}
 use Rattle.exchange_laws.specs.Rules.{is_new}
 use Rattle.net_types.specs.declared.headers.Headers.{Headers}
 use Rattle.net_types.specs.declared.rule.Pair.{Pair}
+use Rattle.std.proofs.lemmas.Option.{same_Some}
 
 none_not : {A : Type 0} (o : Option A) → is_none o ≡ not (is_some o)
 none_not None = refl
@@ -22,7 +22,7 @@ absent_new s is_rebuilt has pair = ap (λ b. b || is_rebuilt pair) (none_not (ge
 
 pub changes_are_built : ChangesAreBuilt
 changes_are_built s r is_rebuilt table tagged is has = record {
-  stays = λ pair old new kept was now. some_of old new (sym was ∙ is.old pair new (not_new s is_rebuilt pair (sym (tagged.pairs pair) ∙ ap is_some was) kept) now);
+  stays = λ pair old new kept was now. same_Some old new (sym was ∙ is.old pair new (not_new s is_rebuilt pair (sym (tagged.pairs pair) ∙ ap is_some was) kept) now);
   some = λ pair new empty. has pair (sym (absent_new s is_rebuilt tagged.pairs pair) ∙ new) empty;
 }
 

@@ -4,13 +4,13 @@ use Rattle.std.specs.Prelude.{Some, find, is_some, slice_get}
 use Rattle.std.specs.FinMap.{get, keys}
 use Rattle.std.specs.List.{position_from}
 use Rattle.std.specs.Option.{option_and_then}
-use Rattle.std.proofs.lemmas.Bool.{false_from_ne_true, lt-ltb, ltb-true}
-use Rattle.std.proofs.lemmas.Option.{option_and_then_some, slice_get_within}
+use Rattle.std.proofs.lemmas.Bool.{false_from_ne_true, lt-ltb, ltb-true, not-true}
+use Rattle.std.proofs.lemmas.Option.{option_and_then_some, slice_get_within, same_Some}
 use Rattle.net_types.proofs.OrderedLemmas.{ordered_same}
 use Rattle.events.proofs.Candidates.{best_Member, candidate_exported}
 use Rattle.events.specs.State.{State}
 use Rattle.events.specs.Tags.{Group, carried, free_tags, fresh_tag, group_of, groups, is_carried, is_changed, is_live, same_group, tags}
-use Rattle.exchange_laws.proofs.Lists.{is_some_of, key_Member, not_true, numbers_range, once_Member, once_apart, one_place, place_of, position_at, some_of}
+use Rattle.exchange_laws.proofs.Lists.{is_some_of, key_Member, numbers_range, once_Member, once_apart, one_place, place_of, position_at}
 use Rattle.exchange_laws.proofs.Sames.{group_itself, group_same}
 use Rattle.exchange_laws.specs.Fresh.{ChangedAreGrouped, FreeTagsRise, FreshTagsByPlace, FreshTagsDiffer, GroupsHaveFreshTags, HasEnoughTags, IsFree}
 use Rattle.net_types.proofs.FindLemmas.{slice_get-Member, slice_get_some}
@@ -63,7 +63,7 @@ pub fresh_free : (s : State) (r : Routing) (g : Group) (t : Tag) → fresh_tag s
 fresh_free s r g t e =
     option_and_then_some (slice_get (free_tags s)) (position_from (same_group g) 0 (groups s r)) t e (λ k place is.
     let left = filter-Member (λ u. not (is_live s u)) (tags s) t (slice_get-Member (free_tags s) k t is) in
-    record { pooled = left.stands; unused = not_true (is_live s t) left.passes })
+    record { pooled = left.stands; unused = not-true (is_live s t) left.passes })
 
 pub group_has_fresh : GroupsHaveFreshTags
 group_has_fresh s r enough g m =
@@ -94,13 +94,13 @@ one_group s r g h m n t e f =
     let k = place_of (groups s r) h n in
     let same : j.0 ≡ k.0 = one_place below (λ x is. let less : x.0 < x.0 = ltb-true x.0 x.0 is in absurd (omega arith)) (free_tags s)
     (filter-IsRising below (λ u. not (is_live s u)) (tags s) (tags_rise 1 s.size)) j.0 k.0 t (sym (by_place s r j.0 g j.1) ∙ e) (sym (by_place s r k.0 h k.1) ∙ f) in
-    some_of g h (sym j.1 ∙ ap (slice_get (groups s r)) same ∙ k.1)
+    same_Some g h (sym j.1 ∙ ap (slice_get (groups s r)) same ∙ k.1)
 
 -- in a rising list the next place has the first greater one
 pub next_greater : (ts : List Tag) → IsRising below ts → (k : ℕ) (t : Tag) → slice_get ts k ≡ Some t → slice_get ts (k + 1) ≡ find (below t) ts
 next_greater [] rises k t at = absurd (cc)
 next_greater (u ∷ ts) rises zero t at =
-    let same : u ≡ t = some_of u t at in
+    let same : u ≡ t = same_Some u t at in
     head ts (λ v m. subst (λ w. below w v ≡ true) same (rises.0 v m))
     ∙ ap (λ b. cond b (Some u) (find (below t) ts)) (sym (ap (below t) same ∙ false_from_ne_true (below t t) (λ is. let less : t.0 < t.0 = ltb-true t.0 t.0 is in absurd (omega arith))))
   where

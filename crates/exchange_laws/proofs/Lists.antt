@@ -6,7 +6,7 @@ use Rattle.std.specs.FinMap.{FinMap, get, keys, contains_key-keys}
 use Rattle.std.specs.List.{list_any, position_from}
 use Rattle.std.specs.Ordering.{eq_by_cmp}
 use Rattle.std.specs.declared.cmp.Ordering.{Ordering}
-use Rattle.std.proofs.lemmas.Bool.{false_from_ne_true, false≢true}
+use Rattle.std.proofs.lemmas.Bool.{false_from_ne_true, false≢true, not-true}
 use Rattle.net_types.proofs.OrderedLemmas.{any_member, member_any}
 use Rattle.net_types.proofs.FindLemmas.{slice_get-Member}
 use Rattle.net_types.proofs.MapLemmas.{get-tabulate}
@@ -16,6 +16,7 @@ use Rattle.net_types.specs.Maps.{each_once, tabulate}
 use Rattle.net_types.specs.Routes.{numbers}
 use Rattle.net_types.specs.Sets.{IsRising, Member}
 use Rattle.net_types.specs.declared.rule.Rule.{Rule}
+use Rattle.std.proofs.lemmas.Option.{same_Some}
 
 -- the rules of pairs
 abbrev pub TableOf : Type 0
@@ -23,15 +24,8 @@ TableOf = FinMap pair_cmp (List Rule)
 
 -- ---- options and tests
 
-pub some_of : {A : Type 0} (x y : A) → Some x ≡ Some y → x ≡ y
-some_of x y e = cc
-
 pub is_some_of : {A : Type 0} (o : Option A) (x : A) → o ≡ Some x → is_some o ≡ true
 is_some_of o x e = ap is_some e
-
-pub not_true : (b : Bool) → not b ≡ true → b ≡ false
-not_true true e = cc
-not_true false e = refl
 
 -- what there is under a test says that the test passes
 pub cond_there : {A : Type 0} (b : Bool) (o : Option A) → is_some (cond b o None) ≡ true → b ≡ true
@@ -54,9 +48,9 @@ pub one_place : {A : Type 0} (below : A → A → Bool) → ((x : A) → below x
 one_place below never [] rises j k x e f = absurd (cc)
 one_place below never (y ∷ xs) rises zero zero x e f = refl
 one_place below never (y ∷ xs) rises zero (suc k) x e f =
-    absurd (never x (subst (λ z. below z x ≡ true) (some_of y x e) (rises.0 x (slice_get-Member xs k x f))))
+    absurd (never x (subst (λ z. below z x ≡ true) (same_Some y x e) (rises.0 x (slice_get-Member xs k x f))))
 one_place below never (y ∷ xs) rises (suc j) zero x e f =
-    absurd (never x (subst (λ z. below z x ≡ true) (some_of y x f) (rises.0 x (slice_get-Member xs j x e))))
+    absurd (never x (subst (λ z. below z x ≡ true) (same_Some y x f) (rises.0 x (slice_get-Member xs j x e))))
 one_place below never (y ∷ xs) rises (suc j) (suc k) x e f = ap suc (one_place below never xs rises.1 j k x e f)
 
 -- ---- the different members
@@ -89,9 +83,9 @@ module _ {A : Type 0} (same : A → A → Bool) (decides : (x y : A) → same x 
   pub position_at : (xs : List A) → IsRising (λ x y. not (same x y)) xs → (n k : ℕ) (x : A) → slice_get xs k ≡ Some x → position_from (same x) n xs ≡ Some (n + k)
   position_at [] rises n k x e = absurd (cc)
   position_at (y ∷ xs) rises n zero x e =
-      ap (λ b. cond b (Some n) (position_from (same x) (n + 1) xs)) (ap (same x) (some_of y x e) ∙ itself x) ∙ ap Some (let sum : n ≡ n + 0 = omega arith in sum)
+      ap (λ b. cond b (Some n) (position_from (same x) (n + 1) xs)) (ap (same x) (same_Some y x e) ∙ itself x) ∙ ap Some (let sum : n ≡ n + 0 = omega arith in sum)
   position_at (y ∷ xs) rises n (suc k) x e =
-      let other : same y x ≡ false = not_true (same y x) (rises.0 x (slice_get-Member xs k x e)) in
+      let other : same y x ≡ false = not-true (same y x) (rises.0 x (slice_get-Member xs k x e)) in
       let apart : same x y ≡ false = false_from_ne_true (same x y) (λ t. clash (ap (λ z. same z x) (sym (decides x y t)) ∙ itself x) other) in
       ap (λ b. cond b (Some n) (position_from (same x) (n + 1) xs)) apart
       ∙ position_at xs rises.1 (n + 1) k x e ∙ ap Some (let sum : n + 1 + k ≡ n + suc k = omega arith in sum)

@@ -7,7 +7,7 @@ use Rattle.std.proofs.lemmas.Bool.{and_parts, eq-eqb, eqb-true, false_from_ne_tr
 use Rattle.events.specs.Refusals.{has_next_hop, is_port_taken}
 use Rattle.events.specs.Resolving.{is_in_pool}
 use Rattle.events.specs.State.{State, port_of}
-use Rattle.exchange_laws.proofs.Lists.{clash, place_of, some_of}
+use Rattle.exchange_laws.proofs.Lists.{clash, place_of}
 use Rattle.exchange_laws.specs.Steady.{PortsDiffer}
 use Rattle.net_types.proofs.FindLemmas.{any_at, find-IsFound, slice_get-Member}
 use Rattle.net_types.proofs.PassLemmas.{is_some-any, some_there}
@@ -18,6 +18,7 @@ use Rattle.net_types.specs.Signatures.{port_with}
 use Rattle.net_types.specs.declared.address.Ip.{Ip}
 use Rattle.net_types.specs.declared.address.Pid.{Pid}
 use Rattle.net_types.specs.declared.route.PortInfo.{PortInfo}
+use Rattle.std.proofs.lemmas.Option.{same_Some}
 
 -- ---- lists
 
@@ -30,7 +31,7 @@ find_only test xs x m passes only =
 
 -- what stands in a list with one more member
 pub get_last : {A : Type 0} (xs : List A) (x : A) (k : ℕ) (y : A) → slice_get (xs ++ x ∷ []) k ≡ Some y → (slice_get xs k ≡ Some y) ⊎ ((k ≡ length xs) × (x ≡ y))
-get_last [] x zero y e = inr (refl, some_of x y e)
+get_last [] x zero y e = inr (refl, same_Some x y e)
 get_last [] x (suc k) y e = absurd (cc)
 get_last (z ∷ xs) x zero y e = inl e
 get_last (z ∷ xs) x (suc k) y e = elim (get_last xs x k y e) [ inl there ↦ inl there | inr last ↦ inr (ap suc last.0, last.1) ]
@@ -54,13 +55,13 @@ module _ (ports : List PortInfo) (apart : PortsDiffer ports) where
   one_number p q m n same =
       let i = place_of ports p m in
       let j = place_of ports q n in
-      some_of p q (sym i.1 ∙ ap (slice_get ports) (apart.numbers i.0 j.0 p q i.1 j.1 same) ∙ j.1)
+      same_Some p q (sym i.1 ∙ ap (slice_get ports) (apart.numbers i.0 j.0 p q i.1 j.1 same) ∙ j.1)
 
   pub one_address : (p q : PortInfo) → Member p ports → Member q ports → p.ip.0 ≡ q.ip.0 → p ≡ q
   one_address p q m n same =
       let i = place_of ports p m in
       let j = place_of ports q n in
-      some_of p q (sym i.1 ∙ ap (slice_get ports) (apart.addresses i.0 j.0 p q i.1 j.1 same) ∙ j.1)
+      same_Some p q (sym i.1 ∙ ap (slice_get ports) (apart.addresses i.0 j.0 p q i.1 j.1 same) ∙ j.1)
 
   -- a port is the one of its number
   pub numbered_port : (q : PortInfo) (n : ℕ) → Member q ports → q.number.0 ≡ n → find (λ (x : PortInfo). nat_eq x.number.0 n) ports ≡ Some q

@@ -13,7 +13,6 @@ use Rattle.events.specs.declared.Event.{Event}
 use Rattle.events.specs.declared.Event.TheVariants.{Bad, Exchange, Participant, Port, Update, Down, Export, Outbound, Inbound, Take, Drain, Arp, Resolve, Packet, Frame, Recompile, Work, Table}
 use Rattle.events.specs.declared.Refusal.{Refusal}
 use Rattle.events.specs.declared.Refusal.TheVariants.{Misplaced, NextHop, NoNextHop, Oversize, TextLong}
-use Rattle.exchange_laws.proofs.Lists.{some_of}
 use Rattle.exchange_laws.proofs.ToldAnew.{get_retained}
 use Rattle.exchange_laws.specs.Fresh.{HasEnoughTags}
 use Rattle.exchange_laws.specs.Rerouting.{is_rerouting}
@@ -35,6 +34,7 @@ use Rattle.net_types.specs.declared.prefix.Prefix.{Prefix}
 use Rattle.net_types.specs.declared.route.Attrs.{Attrs}
 use Rattle.net_types.specs.declared.update.Fault.{Fault}
 use Rattle.net_types.specs.declared.update.Update.{Update as Message}
+use Rattle.std.proofs.lemmas.Option.{same_Some}
 
 -- ---- no refusal
 
@@ -90,7 +90,7 @@ set_or_there from attrs (p ∷ ps) m k a e =
     ]
   where
     by : (b : Bool) → eq_by_cmp route_cmp k (record { from = from; prefix = p }) ≡ b → cond b (Some attrs) (get m k) ≡ Some a → (get m k ≡ Some a) ⊎ ((k.from ≡ from) × (attrs ≡ a))
-    by true is e = inr (ap (λ (x : RouteKey). x.from) (route_tie k (record { from = from; prefix = p }) is), some_of attrs a e)
+    by true is e = inr (ap (λ (x : RouteKey). x.from) (route_tie k (record { from = from; prefix = p }) is), same_Some attrs a e)
     by false is e = inl e
 
 updated_from : (from : Pid) (u : Message) (m : RoutesOf) (k : RouteKey) (a : Attrs) → get (changes.updated from u m) k ≡ Some a → (get m k ≡ Some a) ⊎ ((k.from ≡ from) × (u.attrs ≡ Some a))

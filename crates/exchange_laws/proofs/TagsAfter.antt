@@ -8,7 +8,7 @@ use Rattle.std.proofs.lemmas.Bool.{false_from_ne_true, or_cases, or_left, or_rig
 use Rattle.events.specs.State.{State}
 use Rattle.events.specs.Tags.{Group, fresh_tag, group_of, group_with, groups, is_carried, is_changed, is_live, kept_signature, new_tag, retagged, same_tag, tags, tells}
 use Rattle.exchange_laws.proofs.FreshTags.{carried_announced, changed_have_fresh, fresh_free, group_listed, one_group}
-use Rattle.exchange_laws.proofs.Lists.{clash, cond_there, get_tabulated, is_some_of, some_of}
+use Rattle.exchange_laws.proofs.Lists.{clash, cond_there, get_tabulated, is_some_of}
 use Rattle.exchange_laws.proofs.Sames.{signatures_test, tag_itself, tag_same, tags_test}
 use Rattle.exchange_laws.specs.Fresh.{HasEnoughTags}
 use Rattle.exchange_laws.specs.Retagging.{CarriedHaveTags, KeptStayLive, LiveStayKept, LiveTagsStay, SignaturesAreKept, TagsArePooled, TagsStayPooled}
@@ -25,6 +25,7 @@ use Rattle.net_types.specs.Sets.{Member}
 use Rattle.net_types.specs.Signatures.{signature}
 use Rattle.net_types.specs.declared.address.Tag.{Tag}
 use Rattle.net_types.specs.declared.prefix.Prefix.{Prefix}
+use Rattle.std.proofs.lemmas.Option.{same_Some}
 
 -- ---- tags that prefixes have are live
 
@@ -143,7 +144,7 @@ signatures_are_kept s r pooled p t is =
       | inl fresh ↦ fresh_signature s r (group_of s r p) t (group_listed s r p from.carried fresh.0) fresh.1
       | inr before ↦
           let same = unchanged s r p before.0 in
-          old_signature s r t (live_of s p t before.1) ∙ ap (get s.kept) (some_of t same.tag (sym before.1 ∙ same.tagged)) ∙ same.kept
+          old_signature s r t (live_of s p t before.1) ∙ ap (get s.kept) (same_Some t same.tag (sym before.1 ∙ same.tagged)) ∙ same.kept
     ]
 
 -- a tag that is live is a prefix's, whose signature is kept, or was live before

@@ -16,7 +16,7 @@ use Rattle.events.specs.declared.Event.{Event}
 use Rattle.events.specs.declared.Phase.TheVariants.{Start, Declaring, Running}
 use Rattle.exchange_laws.proofs.Bases.{kept_there, kept_whole}
 use Rattle.exchange_laws.proofs.LineSteps.{AllRise, QuietStep, Step, participant, pool, port, quiet, receives, receiving, resolved, resolving, routes, sending, sends, told, told_so}
-use Rattle.exchange_laws.proofs.Lists.{TableOf, clash, some_of}
+use Rattle.exchange_laws.proofs.Lists.{TableOf, clash}
 use Rattle.exchange_laws.proofs.NewStates.{no_live, no_route, nobody, nothing_told}
 use Rattle.exchange_laws.proofs.OwnHops.{own_hop, stay_apart}
 use Rattle.exchange_laws.proofs.Parts.{signature_whole}
@@ -43,6 +43,8 @@ use Rattle.net_types.specs.declared.route.Attrs.{Attrs}
 use Rattle.net_types.specs.declared.route.Part.{Part}
 use Rattle.net_types.specs.declared.route.Participant.{Participant}
 use Rattle.net_types.specs.declared.route.PortInfo.{PortInfo}
+use Rattle.std.proofs.Math.Bool.{or-false}
+use Rattle.std.proofs.lemmas.Option.{same_Some}
 
 -- what holds of a steady state, whatever its table and its policies
 pub record IsTidy (s : State) : Type 0 where
@@ -81,11 +83,7 @@ not_running_yet s e f = cc
 
 participant_live : (s : State) (m : Participant) (t : Tag) → is_live (with_participant s m) t ≡ is_live s t
 participant_live s m t =
-    ap (λ b. list_any (same_tag t) (values s.tag) || b) (any_more (λ entries. tells entries t) s.told empty ∙ ap (λ b. list_any (λ entries. tells entries t) s.told || b) (nothing_told t) ∙ or_false (list_any (λ entries. tells entries t) s.told))
-  where
-    or_false : (b : Bool) → (b || false) ≡ b
-    or_false true = refl
-    or_false false = refl
+    ap (λ b. list_any (same_tag t) (values s.tag) || b) (any_more (λ entries. tells entries t) s.told empty ∙ ap (λ b. list_any (λ entries. tells entries t) s.told || b) (nothing_told t) ∙ or-false (list_any (λ entries. tells entries t) s.told))
 
 -- sizes stay where the pool and the capacity do
 sized_later : (s s1 : State) → IsSized s → (s.phase ≡ Start → ⊥) → (s1.phase ≡ Start → ⊥) → s1.base ≡ s.base → s1.size ≡ s.size → s1.capacity ≡ s.capacity → IsSized s1
@@ -225,7 +223,7 @@ quiet_tidy s {s1} (resolved lists later long rising) yet is = record {
 pub retagged_whole : (s : State) (r : Routing) → r.participants ≡ s.routing.participants → TagsArePooled s → KeptAreWhole s → KeptAreWhole (retagged s r)
 retagged_whole s r alike pooled whole t sig is part m = elim (live_cases (retagged s r) t live) [
   | inl has ↦
-      let same : sig ≡ signature r has.prefix = some_of sig (signature r has.prefix) (sym is ∙ signatures_are_kept s r pooled has.prefix t has.tagged) in
+      let same : sig ≡ signature r has.prefix = same_Some sig (signature r has.prefix) (sym is ∙ signatures_are_kept s r pooled has.prefix t has.tagged) in
       signature_whole r has.prefix part (subst (Member part) same m)
   | inr before ↦
       let was : is_live s t ≡ true = or_right (list_any (same_tag t) (values s.tag)) (list_any (λ entries. tells entries t) s.told) before in

@@ -6,11 +6,11 @@ use Rattle.std.specs.List.{list_any}
 use Rattle.std.specs.Option.{option_map}
 use Rattle.std.proofs.lemmas.Bool.{or_right}
 use Rattle.std.proofs.lemmas.List.{length-map, length-take-le}
-use Rattle.std.proofs.lemmas.Option.{slice_get-map, slice_get_within}
+use Rattle.std.proofs.lemmas.Option.{slice_get-map, slice_get_within, same_Some}
 use Rattle.events.specs.State.{State}
 use Rattle.events.specs.Tags.{Group, carried, free_tags, fresh_tag, group_of, groups, is_carried, is_changed, is_live, retagged, same_group, same_tag, tags, tells}
 use Rattle.exchange_laws.proofs.FreshTags.{by_place, fresh_free, group_listed, tags_rise}
-use Rattle.exchange_laws.proofs.Lists.{place_of, some_of}
+use Rattle.exchange_laws.proofs.Lists.{place_of}
 use Rattle.exchange_laws.proofs.TagsAfter.{live_cases, live_of, signatures_are_kept, tags_are}
 use Rattle.exchange_laws.specs.Fresh.{HasEnoughTags, IsFree}
 use Rattle.exchange_laws.specs.Retagging.{TagsArePooled}
@@ -49,7 +49,7 @@ kept_at (t ∷ ts) (sig ∷ sigs) e (inr m) = let later = kept_at ts sigs e m in
 pub kept_there : (ts : List Tag) (sigs : List (List Part)) (k : ℕ) (t : Tag) (sig : List Part) → slice_get ts k ≡ Some t → slice_get sigs k ≡ Some sig → Member (t, sig) (kept_of ts sigs)
 kept_there [] sigs k t sig tagged signed = absurd (cc)
 kept_there (u ∷ ts) [] k t sig tagged signed = absurd (cc)
-kept_there (u ∷ ts) (x ∷ sigs) zero t sig tagged signed = inl (λ i. (some_of t u (sym tagged) i, some_of sig x (sym signed) i))
+kept_there (u ∷ ts) (x ∷ sigs) zero t sig tagged signed = inl (λ i. (same_Some t u (sym tagged) i, same_Some sig x (sym signed) i))
 kept_there (u ∷ ts) (x ∷ sigs) (suc k) t sig tagged signed = inr (kept_there ts sigs k t sig tagged signed)
 
 pub kept_length : (ts : List Tag) (sigs : List (List Part)) → length ts ≡ length sigs → length (kept_of ts sigs) ≡ length sigs

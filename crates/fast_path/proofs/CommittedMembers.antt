@@ -7,7 +7,7 @@ use Rattle.std.specs.List.{list_any}
 use Rattle.std.specs.Ordering.{eq_by_cmp}
 use Rattle.std.proofs.lemmas.Bool.{false_from_ne_true}
 use Rattle.events.specs.declared.TagChange.{TagChange}
-use Rattle.exchange_laws.proofs.Lists.{clash, some_of}
+use Rattle.exchange_laws.proofs.Lists.{clash}
 use Rattle.exchange_laws.proofs.Sames.{tags_test}
 use Rattle.net_types.proofs.OrderLemmas.{prefix_tie, prefixes_total, tags_total}
 use Rattle.net_types.proofs.OrderedLemmas.{any_member, member_any}
@@ -24,6 +24,7 @@ use Rattle.prefix_classes.specs.Laws.{AreRising, Change}
 use Rattle.fast_path.proofs.CommittedMaps.{stands_or_not}
 use Rattle.fast_path.specs.Committing.{AreUnkept, HaveTags, Kept, change_of, classes_of, given_all, gives, member_count, members_of, signed, tags_of, tags_with, untagged, untagged_one}
 use Rattle.fast_path.specs.declared.planned.Class.{Class}
+use Rattle.std.proofs.lemmas.Option.{same_Some}
 
 -- the tags of prefixes
 abbrev TagsOf : Type 0
@@ -177,7 +178,7 @@ module _ (m : TagsOf) (cs : List TagChange) (ks : List Kept) (rises : AreRising 
   not_both t e = let some = ap is_some e in cc
 
   member_of_one : (q : Prefix) (t : Tag) → get then q ≡ Some t → (u : Tag) → Member q (members_of cs u) → u ≡ t
-  member_of_one q t is u stands = let by = member_given cs u q stands in some_of u t (sym by.tagged ∙ sym (two_tags q (Some t) by.change is by.stands by.at))
+  member_of_one q t is u stands = let by = member_given cs u q stands in same_Some u t (sym by.tagged ∙ sym (two_tags q (Some t) by.change is by.stands by.at))
 
   not_untagged : (q : Prefix) (t : Tag) → get then q ≡ Some t → list_any (is_untagged q) cs ≡ false
   not_untagged q t is = false_from_ne_true (list_any (is_untagged q) cs) (λ any. let by = any_untagged cs q any in not_both t (two_tags q (Some t) by.change is by.stands by.at ∙ by.tagged))
@@ -242,7 +243,7 @@ none_given : (c : TagChange) (ks : List Kept) (t : Tag) → c.tag ≡ Some t →
 none_given c [] t is other = refl
 none_given c (k ∷ ks) t is other =
     let rest = none_given c ks t is (λ m. other (inr m)) in
-    let first : gives k.0 c ≡ false = false_from_ne_true (gives k.0 c) (λ e. other (inl (some_of t k.0 (sym is ∙ (tags_test c.tag (Some k.0)).0 e)))) in
+    let first : gives k.0 c ≡ false = false_from_ne_true (gives k.0 c) (λ e. other (inl (same_Some t k.0 (sym is ∙ (tags_test c.tag (Some k.0)).0 e)))) in
     let none : cond (gives k.0 c) 1 0 ≡ 0 = ap (λ b. let n : ℕ = cond b 1 0 in n) first in
     omega (arith, rest, none)
 

@@ -1,10 +1,10 @@
 -- With the fresh tags taken and the dead ones given back, the free tags of the pool are those of the state afterwards.
 use Rattle.std.proofs.Common.{◌≡◌, ◌-◌, ◌<◌, ◌≤◌, Bool, true, false, eq-eqb, filter, get_or-set_other, get_or-set_same, length-set, List, [], ◌∷◌, length, map, not, sym, ap, subst, ◌∙◌, refl, arith, inl, inr, take}
-use Rattle.std.proofs.lemmas.Bool.{ltb-true}
+use Rattle.std.proofs.lemmas.Bool.{ltb-true, not-true}
 use Rattle.events.specs.State.{State}
 use Rattle.events.specs.Tags.{groups, is_live, retagged, same_tag, tags}
 use Rattle.events.specs.Tags as events
-use Rattle.exchange_laws.proofs.Lists.{TableOf, clash, not_true, numbers_range}
+use Rattle.exchange_laws.proofs.Lists.{TableOf, clash, numbers_range}
 use Rattle.exchange_laws.proofs.Sames.{tag_same}
 use Rattle.exchange_laws.specs.Retagging.{TagsArePooled}
 use Rattle.net_types.proofs.RisingLemmas.{Member-filter, filter-Member}
@@ -132,10 +132,10 @@ module _ (s : State) where
         by false false taken live = refl
         by true false taken live =
             let free : Member t (free_tags p) = subst (Member t) (sym pool.free) (Member-filter (λ u. not (is_live s u)) (tags s) t m (ap not live)) in
-            absurd (clash taken (not_true (is_taken p t) (filter-Member (λ u. not (is_taken p u)) (map tag (numbers 1 (length p.taken))) t free).passes))
+            absurd (clash taken (not-true (is_taken p t) (filter-Member (λ u. not (is_taken p u)) (map tag (numbers 1 (length p.taken))) t free).passes))
         by false true taken live =
             let free : Member t (events.free_tags s) = subst (Member t) pool.free (Member-filter (λ u. not (is_taken p u)) (map tag (numbers 1 (length p.taken))) t listed (ap not taken)) in
-            absurd (clash live (not_true (is_live s t) (filter-Member (λ u. not (is_live s u)) (tags s) t free).passes))
+            absurd (clash live (not-true (is_live s t) (filter-Member (λ u. not (is_live s u)) (tags s) t free).passes))
 
 module _ (s : State) (r : Routing) (pooled : TagsArePooled s) (p : Tags) (pool : IsPoolOf s p) where
   abbrev s1 : State

@@ -17,10 +17,7 @@ use Rattle.net_types.specs.declared.rule.Rule.{Rule}
 use Rattle.fast_path.proofs.CommittedMaps.{AreApart}
 use Rattle.fast_path.proofs.PortsAndTags.{tie}
 use Rattle.fast_path.specs.Committing.{Block, block_count, with_blocks}
-
-shown : (b : Bool) → T b → b ≡ true
-shown true h = refl
-shown false h = absurd h
+use Rattle.net_types.proofs.TestLemmas.{shown}
 
 pub rules_put : (m : TableOf) (pair : Pair) (rules : List Rule) → rule_count (insert m pair rules) + count_at m pair ≡ rule_count m + length rules
 rules_put m pair rules =

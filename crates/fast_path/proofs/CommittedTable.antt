@@ -7,7 +7,7 @@ use Rattle.std.proofs.lemmas.Bool.{eqb-true, and_parts}
 use Rattle.events.specs.After.{without_pairs}
 use Rattle.events.specs.State.{State, ArePolicies}
 use Rattle.events.specs.Tags.{is_live_pair, retagged}
-use Rattle.exchange_laws.proofs.Lists.{TableOf, clash, some_of}
+use Rattle.exchange_laws.proofs.Lists.{TableOf, clash}
 use Rattle.exchange_laws.proofs.LivePairs.{live_at}
 use Rattle.exchange_laws.specs.Listed.{AreThose, HasLivePairs, comes, goes, is_pair_before}
 use Rattle.exchange_laws.specs.Replies.{HasNewRules, RightRulesAreSome}
@@ -29,6 +29,7 @@ use Rattle.fast_path.proofs.CommittedSignatures.{nothing}
 use Rattle.fast_path.proofs.PortsAndTags.{tie}
 use Rattle.fast_path.specs.Committing.{Block, with_blocks}
 use Rattle.fast_path.specs.Plans.{pair_of}
+use Rattle.std.proofs.lemmas.Option.{same_Some}
 
 pub with_is : (m : TableOf) (bs : List Block) → with_blocks m bs ≡ with_all pair_cmp pairs_total tie m bs
 with_is m [] = refl
@@ -125,7 +126,7 @@ module _ (s : State) (r : Routing) (is_rebuilt : Pair → Bool) (drops : List Pa
   new_rules pair rules fresh at =
       let live = sym (table_pairs pair) ∙ ap is_some at in
       let is = block_of pair (λ i. live i && fresh i) in
-      (is, some_of is.block.1 rules (sym (block_rules is.block is.stands) ∙ ap (get table) is.at ∙ at))
+      (is, same_Some is.block.1 rules (sym (block_rules is.block is.stands) ∙ ap (get table) is.at ∙ at))
 
   module _ (right : (b : Block) → Member b blocks → (ps : Policies) → ArePolicies s1 ps → IsRightAt ps s1 b.0 b.1) where
     pub table_after : IsTableAfter s s1 is_rebuilt table

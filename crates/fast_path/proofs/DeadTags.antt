@@ -2,10 +2,10 @@
 use Rattle.std.proofs.Common.{◌≡◌, Bool, true, false, ◌||◌, not, List, ap, ◌∙◌, inl, inr}
 use Rattle.std.specs.FinMap.{FinMap}
 use Rattle.std.specs.List.{list_any}
-use Rattle.std.proofs.lemmas.Bool.{false_from_ne_true, or_cases, or_left, or_right}
+use Rattle.std.proofs.lemmas.Bool.{false_from_ne_true, or_cases, or_left, or_right, not-true}
 use Rattle.events.specs.State.{State}
 use Rattle.events.specs.Tags.{retagged, tells}
-use Rattle.exchange_laws.proofs.Lists.{clash, not_true}
+use Rattle.exchange_laws.proofs.Lists.{clash}
 use Rattle.fast_path.specs.LiveOnly.{AreDead, AreEmptied, has_prefix}
 use Rattle.fast_path.specs.Pairs.{untold}
 use Rattle.net_types.proofs.RisingLemmas.{Member-filter, filter-Member}
@@ -28,7 +28,7 @@ module _ (s : State) (tags : FinMap prefix_cmp Tag) where
         let left = filter-Member (λ u. not (is_told s u)) ts t m in
         let empty = emptied.each t left.stands in (
           or_left (has_prefix s t) (is_told s t) empty.0,
-          ap (λ b. b || is_told s t) empty.1 ∙ not_true (is_told s t) left.passes,
+          ap (λ b. b || is_told s t) empty.1 ∙ not-true (is_told s t) left.passes,
         );
     all = λ t live dead.
         let untold : is_told s t ≡ false = false_from_ne_true (is_told s t) (λ told. clash (or_right (has_prefix s1 t) (is_told s t) told) dead) in

@@ -6,7 +6,7 @@ use Rattle.std.proofs.lemmas.Bool.{false_from_ne_true, or_cases, or_left, or_rig
 use Rattle.net_types.proofs.OrderedLemmas.{ordered_rises, ordered_same}
 use Rattle.events.specs.State.{State, port_of, present, told_to}
 use Rattle.events.specs.Tags.{is_live_pair, retagged, tells}
-use Rattle.exchange_laws.proofs.Lists.{clash, some_of}
+use Rattle.exchange_laws.proofs.Lists.{clash}
 use Rattle.exchange_laws.proofs.LivePairs.{live_at, live_from, port_Member, present_from, present_tag}
 use Rattle.exchange_laws.proofs.OwnHops.{numbered_port}
 use Rattle.exchange_laws.proofs.TagsAfter.{live_of, live_tags_stay, signatures_are_kept}
@@ -32,6 +32,7 @@ use Rattle.net_types.specs.declared.route.Part.{Part}
 use Rattle.net_types.specs.declared.route.PortInfo.{PortInfo}
 use Rattle.net_types.specs.declared.rule.Pair.{Pair}
 use Rattle.registry.specs.Registered.{Registered, ports_of}
+use Rattle.std.proofs.lemmas.Option.{same_Some}
 
 -- what is under a test that fails
 pub Member-unless : {A : Type 0} (b : Bool) (xs : List A) (x : A) → Member x (cond b [] xs) → (b ≡ false) × Member x xs
@@ -67,7 +68,7 @@ module _ (s : State) (r : Routing) (tags : FinMap prefix_cmp Tag) (ports : r.por
       false_from_ne_true (is_live_pair s1 (pair_at t n)) (λ live.
           let there = live_at s1 (pair_at t n) live in
           let q : PortInfo = there.0 in
-          let same : q.owner ≡ who = ap (λ (x : PortInfo). x.owner) (some_of q at.port (sym there.1.port ∙ same_port n ∙ found)) ∙ at.owner in
+          let same : q.owner ≡ who = ap (λ (x : PortInfo). x.owner) (same_Some q at.port (sym there.1.port ∙ same_port n ∙ found)) ∙ at.owner in
           elim (or_cases (tells (told_to s q.owner) t) (tells (present s1 q.owner) t) there.1.for) [
             | inl told ↦ clash told (ap (λ w. was_told s.told w t) same ∙ untold)
             | inr now ↦ let p1 = present_tag s1 q.owner t now in clash (has_prefix_of s1 p1.0 t p1.1.tagged) none
@@ -151,4 +152,4 @@ gone_pairs_are_those s r ts change own emptied =
     alike : (p q : Prefix) (t : Tag) → get s.tag p ≡ Some t → get (retagged s r).tag q ≡ Some t → signature s.routing p ≡ signature r q
     alike p q t tagged now =
         let stays = live_tags_stay s r change.pooled t (live_of s p t tagged) (live_of (retagged s r) q t now) in
-        some_of (signature s.routing p) (signature r q) (sym (change.tagged.kept p t tagged) ∙ sym stays ∙ signatures_are_kept s r change.pooled q t now)
+        same_Some (signature s.routing p) (signature r q) (sym (change.tagged.kept p t tagged) ∙ sym stays ∙ signatures_are_kept s r change.pooled q t now)

@@ -5,13 +5,13 @@ use Rattle.std.specs.FinMap.{get}
 use Rattle.std.specs.List.{list_any}
 use Rattle.std.specs.Option.{option_and_then, option_map_or}
 use Rattle.std.proofs.lemmas.Bool.{false_from_ne_true, or_cases, or_left, or_right, not-false}
-use Rattle.std.proofs.lemmas.Option.{slice_get_within}
+use Rattle.std.proofs.lemmas.Option.{slice_get_within, same_Some}
 use Rattle.events.specs.Sound.{owners_part, part_of}
 use Rattle.events.specs.State.{State, port_of, present, told_to}
 use Rattle.events.specs.Tags.{Group, carried, free_tags, fresh_tag, group_of, groups, is_carried, is_changed, is_live, is_live_pair, retagged, same_group, same_tag, tells}
 use Rattle.events.specs.declared.TagChange.{TagChange}
 use Rattle.exchange_laws.proofs.FreshTags.{by_place, fresh_free, group_listed}
-use Rattle.exchange_laws.proofs.Lists.{clash, place_of, some_of}
+use Rattle.exchange_laws.proofs.Lists.{clash, place_of}
 use Rattle.exchange_laws.proofs.LivePairs.{live_at, live_from, live_tag, port_Member, present_from, present_tag}
 use Rattle.exchange_laws.proofs.OwnHops.{numbered_port}
 use Rattle.exchange_laws.proofs.Parts.{signature_whole}
@@ -63,7 +63,7 @@ kept_place (t ∷ ts) (sig ∷ sigs) x (inr m) = let later = kept_place ts sigs 
 pub place_kept : (ts : List Tag) (sigs : List (List Part)) (k : ℕ) (t : Tag) (sig : List Part) → slice_get ts k ≡ Some t → slice_get sigs k ≡ Some sig → Member (t, sig) (kept_of ts sigs)
 place_kept [] sigs k t sig e h = absurd (cc)
 place_kept (u ∷ ts) [] k t sig e h = absurd (cc)
-place_kept (u ∷ ts) (ps ∷ sigs) zero t sig e h = inl (sym (λ i. let y : Kept = (some_of u t e i, some_of ps sig h i) in y))
+place_kept (u ∷ ts) (ps ∷ sigs) zero t sig e h = inl (sym (λ i. let y : Kept = (same_Some u t e i, same_Some ps sig h i) in y))
 place_kept (u ∷ ts) (ps ∷ sigs) (suc k) t sig e h = inr (place_kept ts sigs k t sig e h)
 
 -- the signature in which a part is found
@@ -171,7 +171,7 @@ module _ (s : State) (r : Routing) (change : IsChange s r) (own : PortsDiffer s.
       not_kept : is_changed s r p ≡ false → get s.tag p ≡ Some pair.tag → ⊥
       not_kept same before =
           let kept = (signatures_test (option_and_then (get s.kept) (get s.tag p)) (Some (signature r p))).0 (not-false _ same) in
-          let alike : signature r p ≡ signature s.routing p = some_of (signature r p) (signature s.routing p) (sym kept ∙ ap (option_and_then (get s.kept)) before ∙ change.tagged.kept p pair.tag before) in
+          let alike : signature r p ≡ signature s.routing p = same_Some (signature r p) (signature s.routing p) (sym kept ∙ ap (option_and_then (get s.kept)) before ∙ change.tagged.kept p pair.tag before) in
           clash (live_from s pair q at (or_right (tells (told_to s q.owner) pair.tag) (tells (present s q.owner) pair.tag)
           (present_from s q.owner p pair.tag (same_senders r s.routing p p q.owner alike (declared q (port_Member s pair q at)) routed) before))) dead
 
@@ -259,7 +259,7 @@ module _ (s : State) (r : Routing) (change : IsChange s r) (own : PortsDiffer s.
         by (Some c) e =
             let found = find-IsFound (is_class_of t) made c e in
             let has = class_sig c t found.stands (tag_same c.tag t found.passes) in
-            has.whole whole part (subst (Member part) (some_of sig c.sig (sym is ∙ has.is)) m)
+            has.whole whole part (subst (Member part) (same_Some sig c.sig (sym is ∙ has.is)) m)
 
     -- the part of the owner of a live pair's port is found, and rules can be built of it
     pub record HasOwners (k : Known) (pair : Pair) : Type 0 where

@@ -5,7 +5,7 @@ use Rattle.std.specs.List.{cons_option, filter_map}
 use Rattle.std.specs.Option.{option_map}
 use Rattle.events.proofs.Routed.{part_with, signature_part}
 use Rattle.events.specs.Sound.{part_of}
-use Rattle.exchange_laws.proofs.Lists.{is_some_of, numbers_range, some_of}
+use Rattle.exchange_laws.proofs.Lists.{is_some_of, numbers_range}
 use Rattle.net_types.proofs.FindLemmas.{find-IsFound}
 use Rattle.net_types.proofs.PassLemmas.{some_there}
 use Rattle.net_types.specs.Exports.{Routing}
@@ -15,6 +15,7 @@ use Rattle.net_types.specs.Signatures.{part, signature}
 use Rattle.net_types.specs.declared.address.Pid.{Pid}
 use Rattle.net_types.specs.declared.prefix.Prefix.{Prefix}
 use Rattle.net_types.specs.declared.route.Part.{Part}
+use Rattle.std.proofs.lemmas.Option.{same_Some}
 
 -- a member of what a function gives of some, with what it comes from
 pub record IsGiven {A B : Type 0} (f : A → Option B) (xs : List A) (y : B) : Type 0 where
@@ -42,7 +43,7 @@ part_is r p who x declared e = by (best r who p) refl e
     by : (o : Option Candidate) → best r who p ≡ o → option_map (λ (c : Candidate). part_with r who p c) o ≡ Some x → IsSenders r p x
     by None none e = absurd (cc)
     by (Some c) chosen e =
-        subst (IsSenders r p) (some_of (part_with r who p c) x e) (record { routed = is_some_of (best r who p) c chosen; own = signature_part r who p c declared chosen })
+        subst (IsSenders r p) (same_Some (part_with r who p c) x e) (record { routed = is_some_of (best r who p) c chosen; own = signature_part r who p c declared chosen })
 
 pub part_senders : (r : Routing) (p : Prefix) (x : Part) → Member x (signature r p) → IsSenders r p x
 part_senders r p x m =

@@ -20,7 +20,7 @@ use Rattle.net_types.specs.Maps.{each_once}
 use Rattle.events.specs.Tags.{Group, free_tags, fresh_tag, group_of, groups, is_carried, is_changed, new_tag, retagged, same_group, same_tag}
 use Rattle.events.specs.declared.TagChange.{TagChange}
 use Rattle.exchange_laws.specs.Touched.{IsTouching, tag_changes_among}
-use Rattle.exchange_laws.proofs.Lists.{clash, some_of}
+use Rattle.exchange_laws.proofs.Lists.{clash}
 use Rattle.exchange_laws.proofs.Sames.{group_itself, group_same}
 use Rattle.exchange_laws.proofs.TagsAfter.{tags_are}
 use Rattle.exchange_laws.proofs.TouchedPrefixes.{touched_have_changes, touched_have_groups}
@@ -30,6 +30,7 @@ use Rattle.fast_path.specs.declared.fresh.Fresh.{Fresh}
 use Rattle.fast_path.proofs.CommittedMaps.{get_front}
 use Rattle.fast_path.proofs.GroupLemmas.{place_among}
 use Rattle.net_types.proofs.PassLemmas.{filter_twice}
+use Rattle.std.proofs.lemmas.Option.{same_Some}
 
 -- ---- a signature has parts where somebody has a best route
 
@@ -158,7 +159,7 @@ place_within test n [] k e = cc
 place_within test n (x ∷ xs) k e = by (test x) (place_within test (n + 1) xs k) e
   where
     by : (b : Bool) → (position_from test (n + 1) xs ≡ Some k → k < n + 1 + length xs) → cond b (Some n) (position_from test (n + 1) xs) ≡ Some k → k < n + suc (length xs)
-    by true later e = let same : n ≡ k = some_of n k e in omega arith
+    by true later e = let same : n ≡ k = same_Some n k e in omega arith
     by false later e = let below : k < n + 1 + length xs = later e in omega arith
 
 front_place : (ts : List Tag) (n : ℕ) (o : Option ℕ) → ((k : ℕ) → o ≡ Some k → k < n) → option_and_then (slice_get (take n ts)) o ≡ option_and_then (slice_get ts) o

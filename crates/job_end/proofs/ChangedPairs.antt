@@ -1,11 +1,11 @@
 -- The pairs of the table that don't go and get other rules are those whose rules come, and with those that go those whose rules go.
 use Rattle.std.proofs.Common.{◌≡◌, Bool, true, false, ◌&&◌, ◌||◌, not, List, ◌++◌, ap, sym, ◌∙◌, refl, inl, inr}
 use Rattle.std.specs.FinMap.{keys}
-use Rattle.std.proofs.lemmas.Bool.{and_from, and_parts, false_from_ne_true, or_left, or_right}
+use Rattle.std.proofs.lemmas.Bool.{and_from, and_parts, false_from_ne_true, or_left, or_right, not-true}
 use Rattle.events.specs.After.{merged}
 use Rattle.events.specs.State.{State}
 use Rattle.events.specs.Tags.{is_live_pair}
-use Rattle.exchange_laws.proofs.Lists.{clash, key_Member, not_true}
+use Rattle.exchange_laws.proofs.Lists.{clash, key_Member}
 use Rattle.exchange_laws.specs.Listed.{AreLiveOnly, AreThose, comes, goes}
 use Rattle.exchange_laws.specs.Rules.{is_new}
 use Rattle.exchange_laws.specs.Steady.{IsSteady}
@@ -55,7 +55,7 @@ module _ (s : State) (steady : IsSteady (without_job s)) (built : BuiltPairs) (g
       let left = filter-Member test (keys s.table) pair m in
       let parts = and_parts (not (is_among gone pair)) (has_others s.table built pair) left.passes in
       let live : is_live_pair s pair ≡ true = sym (steady.sound.pairs pair) ∙ there s.table pair left.stands in
-      and_from (is_live_pair s1 pair) (is_new s other pair) (stays pair live (not_true (is_among gone pair) parts.0)) (or_right (not (is_live_pair s pair)) (other pair) parts.1)
+      and_from (is_live_pair s1 pair) (is_new s other pair) (stays pair live (not-true (is_among gone pair) parts.0)) (or_right (not (is_live_pair s pair)) (other pair) parts.1)
 
   changed_all : (pair : Pair) → comes s s1 other pair ≡ true → Member pair (changed_pairs s.table built gone (keys s.table))
   changed_all pair e =

@@ -11,7 +11,7 @@ use Rattle.events.specs.Fits.{IsTightened, has_other_rules}
 use Rattle.events.specs.Sound.{same_rule}
 use Rattle.events.specs.State.{State, ArePolicies}
 use Rattle.events.specs.Tags.{is_live_pair}
-use Rattle.exchange_laws.proofs.Lists.{TableOf, clash, is_some_of, some_of}
+use Rattle.exchange_laws.proofs.Lists.{TableOf, clash, is_some_of}
 use Rattle.exchange_laws.proofs.ReadPolicies.{policies_are_one}
 use Rattle.exchange_laws.specs.Listed.{comes, goes, is_pair_before}
 use Rattle.exchange_laws.specs.Rules.{IsRightAt, is_new}
@@ -44,6 +44,7 @@ use Rattle.recompile.specs.Setting.{setting_of}
 use Rattle.recompile.specs.Underway.{BuiltPairs, others_of}
 use Rattle.recompile.specs.Working.{IsSwap}
 use Rattle.recompile.specs.declared.swap.Swap.{Swap}
+use Rattle.std.proofs.lemmas.Option.{same_Some}
 
 -- the blocks of pairs are theirs
 pub block_pairs : (built : BuiltPairs) (pairs : List Pair) → map pair_of (blocks_of built pairs) ≡ pairs
@@ -182,7 +183,7 @@ module _ (s : State) (swap : Swap) (end : End) (steady : IsSteadyInJob s) (is_sw
   rebuilt pair rules at =
       let now : is_live_pair s1 pair ≡ true = sym (pairs_at_end pair) ∙ is_some_of (get table pair) rules at in
       let built = has_built pair (pair_was_live s steady.steady pair now) in
-      let same : unwrap_or built.made built.old ≡ rules = some_of (unwrap_or built.made built.old) rules (sym (live_at_end pair now built) ∙ at) in
+      let same : unwrap_or built.made built.old ≡ rules = same_Some (unwrap_or built.made built.old) rules (sym (live_at_end pair now built) ∙ at) in
       record { now = now; old = built.old; had = built.had; tight = subst (IsTightForm built.old) same built.tight }
 
   right_at_end : (ps : Policies) → ArePolicies s ps → (pair : Pair) (rules : List Rule) → get table pair ≡ Some rules → IsRightAt ps s1 pair rules

@@ -8,7 +8,7 @@ use Rattle.events.specs.State.{State, present}
 use Rattle.events.specs.Tags.{same_tag}
 use Rattle.events.specs.declared.Entry.{Entry}
 use Rattle.exchange_laws.proofs.LivePairs.{present_is}
-use Rattle.exchange_laws.proofs.Lists.{clash, numbers_range, some_of}
+use Rattle.exchange_laws.proofs.Lists.{clash, numbers_range}
 use Rattle.exchange_laws.proofs.Sames.{tags_test}
 use Rattle.exchange_laws.specs.Steady.{IsSteady}
 use Rattle.fast_path.proofs.OfferedPresent.{listed_at, pid_at, state_at}
@@ -27,6 +27,7 @@ use Rattle.net_types.specs.declared.address.Pid.{Pid}
 use Rattle.net_types.specs.declared.address.Tag.{Tag}
 use Rattle.net_types.specs.declared.prefix.Prefix.{Prefix}
 use Rattle.prefix_classes.specs.Merging.{IsMergeOf}
+use Rattle.std.proofs.lemmas.Option.{same_Some}
 
 -- ---- entries
 
@@ -40,7 +41,7 @@ with_tag e t = record { attrs = e.attrs; tag = t }
 -- by another tag it is the same but for the tag
 moved_entry : (b : Option Candidate) (t u : Tag) (e : Entry) → entry_at b (Some t) ≡ Some e → entry_at b (Some u) ≡ Some (with_tag e u)
 moved_entry None t u e is = absurd (cc)
-moved_entry (Some c) t u e is = let first : Entry = record { attrs = c.attrs; tag = t } in ap (λ (x : Entry). Some (with_tag x u)) (some_of first e is)
+moved_entry (Some c) t u e is = let first : Entry = record { attrs = c.attrs; tag = t } in ap (λ (x : Entry). Some (with_tag x u)) (same_Some first e is)
 
 -- where there is none by some tag, there is none by any
 no_entry : (b : Option Candidate) (t : Tag) (o : Option Tag) → entry_at b (Some t) ≡ None → entry_at b o ≡ None

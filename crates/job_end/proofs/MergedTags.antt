@@ -11,7 +11,7 @@ use Rattle.events.specs.State.{State}
 use Rattle.events.specs.Tags.{carried, is_carried, tells}
 use Rattle.events.specs.declared.TagChange.{TagChange}
 use Rattle.exchange_laws.proofs.FreshTags.{carried_listed}
-use Rattle.exchange_laws.proofs.Lists.{clash, is_some_of, some_of}
+use Rattle.exchange_laws.proofs.Lists.{clash, is_some_of}
 use Rattle.exchange_laws.specs.Listed.{AreLiveOnly}
 use Rattle.exchange_laws.specs.Steady.{IsSteady}
 use Rattle.fast_path.proofs.CommittedSignatures.{nothing}
@@ -47,6 +47,7 @@ use Rattle.prefix_classes.proofs.MergeLemmas.{only_moved}
 use Rattle.prefix_classes.proofs.TabulatedLemmas.{merged_tabulated}
 use Rattle.prefix_classes.specs.MergeLaws.{HaveSignatures}
 use Rattle.prefix_classes.specs.Merging.{IsMergeOf, moved}
+use Rattle.std.proofs.lemmas.Option.{same_Some}
 
 -- moves in order are changes in order
 changes_rise : (ms : List (Prefix × Tag)) → IsRising is_before (map (λ m. m.0) ms) → IsRising is_change_before (map told_change ms)
@@ -90,7 +91,7 @@ module _ (s : State) (steady : IsSteady (without_job s)) (moves : List (Prefix �
   alike : (p q : Prefix) (t : Tag) → get s.tag p ≡ Some t → get s1.tag q ≡ Some t → signature s.routing p ≡ signature s.routing q
   alike p q t tagged now =
       let from = merged_from s q t now in
-      some_of (signature s.routing p) (signature s.routing from.like) (sym (steady.sound.kept p t tagged) ∙ steady.sound.kept from.like t from.tagged) ∙ from.alike
+      same_Some (signature s.routing p) (signature s.routing from.like) (sym (steady.sound.kept p t tagged) ∙ steady.sound.kept from.like t from.tagged) ∙ from.alike
 
   -- no prefix has a tag then that a moved prefix had
   left_empty : (p q : Prefix) (t u : Tag) → Member (p, u) moves → get s.tag p ≡ Some t → get s1.tag q ≡ Some t → ⊥
@@ -98,7 +99,7 @@ module _ (s : State) (steady : IsSteady (without_job s)) (moves : List (Prefix �
       let from = merged_from s q t now in
       let at : get s1.tag p ≡ Some t = merged_alike s p q (carries_with p t tagged) from.carried (alike p q t tagged now) ∙ now in
       let move = move_at p u m in
-      let same : u ≡ t = some_of u t (sym move.0 ∙ at) in
+      let same : u ≡ t = same_Some u t (sym move.0 ∙ at) in
       move.1 (tagged ∙ ap Some (sym same))
 
   -- ---- the tags that the moved prefixes had

@@ -18,7 +18,7 @@ use Rattle.events.specs.declared.Reply.{Reply}
 use Rattle.exchange_laws.proofs.Built.{right_rules_are_some}
 use Rattle.exchange_laws.proofs.Flows.{replies_build_tables}
 use Rattle.exchange_laws.proofs.FullTables.{accepted_lines_fit}
-use Rattle.exchange_laws.proofs.Lists.{TableOf, key_Member, some_of}
+use Rattle.exchange_laws.proofs.Lists.{TableOf, key_Member}
 use Rattle.exchange_laws.proofs.LivePairs.{live_at}
 use Rattle.exchange_laws.proofs.PassedSteps.{kept_passed}
 use Rattle.exchange_laws.specs.Replies.{IsBuiltOn}
@@ -42,6 +42,7 @@ use Rattle.net_types.specs.declared.rule.Pair.{Pair}
 use Rattle.net_types.specs.declared.rule.Rule.{Rule}
 use Rattle.reply_laws.proofs.BuiltLines.{counted, tie}
 use Rattle.run_laws.proofs.Answering.{ends_leave}
+use Rattle.std.proofs.lemmas.Option.{same_Some}
 
 -- ---- rules that are the same
 
@@ -147,7 +148,7 @@ module _ (s : State) (steady : IsSteady (without_job s)) (table : TableOf) (is :
 
   built_on : IsBuiltOn s s1 (has_other_rules s s1)
   built_on = record {
-    stays = λ pair old new same was now. some_of old new (sym was ∙ same_rules s s1 pair same ∙ now);
+    stays = λ pair old new same was now. same_Some old new (sym was ∙ same_rules s s1 pair same ∙ now);
     some = λ pair new has.
         let right = ended_sound.right.2 pair [] has in
         right_rules_are_some ended_sound.right.0 right.0 pair.port [] (small_port pair (sym (is.pairs pair) ∙ ap is_some has)) right.2 refl;

@@ -12,7 +12,7 @@ use Rattle.events.specs.After.{least_tag, merged}
 use Rattle.events.specs.State.{State}
 use Rattle.events.specs.Tags.{carried, is_carried}
 use Rattle.exchange_laws.proofs.FreshTags.{carried_listed}
-use Rattle.exchange_laws.proofs.Lists.{cond_there, some_of}
+use Rattle.exchange_laws.proofs.Lists.{cond_there}
 use Rattle.net_types.proofs.EqualLemmas.{signature_test}
 use Rattle.net_types.proofs.MapLemmas.{get-tabulate}
 use Rattle.net_types.proofs.MemberLemmas.{Member-filter_map}
@@ -29,6 +29,7 @@ use Rattle.net_types.specs.Signatures.{signature}
 use Rattle.net_types.specs.declared.address.Tag.{Tag}
 use Rattle.net_types.specs.declared.prefix.Prefix.{Prefix}
 use Rattle.net_types.proofs.SetLemmas.{given_by}
+use Rattle.std.proofs.lemmas.Option.{same_Some}
 
 -- ---- lists
 
@@ -47,8 +48,8 @@ tag_below t u is = by (nat_lt t.0 u.0) (nat_eq t.0 u.0) refl is
 -- the first of rising tags is the least
 first_least : (ts : List Tag) (t u : Tag) → IsRising (before tag_cmp) ts → first_of_list ts ≡ Some t → Member u ts → t.0 ≤ u.0
 first_least [] t u rises first m = absurd m
-first_least (x ∷ ts) t u rises first (inl same) = let here : t ≡ u = sym (some_of x t first) ∙ sym same in subst (λ (y : Tag). t.0 ≤ y.0) here (omega arith)
-first_least (x ∷ ts) t u rises first (inr m) = subst (λ (y : Tag). y.0 ≤ u.0) (some_of x t first) (tag_below x u (rises.0 u m))
+first_least (x ∷ ts) t u rises first (inl same) = let here : t ≡ u = sym (same_Some x t first) ∙ sym same in subst (λ (y : Tag). t.0 ≤ y.0) here (omega arith)
+first_least (x ∷ ts) t u rises first (inr m) = subst (λ (y : Tag). y.0 ≤ u.0) (same_Some x t first) (tag_below x u (rises.0 u m))
 
 tags_tie : (t u : Tag) → eq_by_cmp tag_cmp t u ≡ true → t ≡ u
 tags_tie = same_from_tie tag_cmp tag_cmp-IsAntisymmetric

@@ -5,7 +5,6 @@ use Rattle.std.specs.FinMap.{get}
 use Rattle.events.specs.After.{merged}
 use Rattle.events.specs.State.{State}
 use Rattle.events.specs.Tags.{is_carried}
-use Rattle.exchange_laws.proofs.Lists.{some_of}
 use Rattle.exchange_laws.specs.Steady.{IsSteady}
 use Rattle.job_laws.proofs.MergedStates.{kept_for, tag_there}
 use Rattle.job_laws.proofs.MergedTags.{merged_alike, merged_from, merged_there}
@@ -15,15 +14,16 @@ use Rattle.net_types.proofs.PassLemmas.{some_there}
 use Rattle.net_types.specs.Signatures.{signature}
 use Rattle.net_types.specs.declared.address.Tag.{Tag}
 use Rattle.net_types.specs.declared.prefix.Prefix.{Prefix}
+use Rattle.std.proofs.lemmas.Option.{same_Some}
 
 pub shared_tags_tell : SharedTagsTell
 shared_tags_tell s steady p q share =
-    some_of (signature s.routing p) (signature s.routing q) (sym (steady.steady.sound.kept p share.tag share.first) ∙ steady.steady.sound.kept q share.tag share.second)
+    same_Some (signature s.routing p) (signature s.routing q) (sym (steady.steady.sound.kept p share.tag share.first) ∙ steady.steady.sound.kept q share.tag share.second)
 
 -- a tag that prefixes share at the end of a job tells their signature
 merged_tell : (s : State) → IsSteady (without_job s) → (p q : Prefix) → ShareTag (merged s) p q → signature s.routing p ≡ signature s.routing q
 merged_tell s steady p q share =
-    some_of (signature s.routing p) (signature s.routing q) (sym (kept_for s steady p share.tag share.first) ∙ kept_for s steady q share.tag share.second)
+    same_Some (signature s.routing p) (signature s.routing q) (sym (kept_for s steady p share.tag share.first) ∙ kept_for s steady q share.tag share.second)
 
 merged_share : (s : State) → IsSteady (without_job s) → (p q : Prefix) → is_carried s.routing p ≡ true → is_carried s.routing q ≡ true → signature s.routing p ≡ signature s.routing q → ShareTag (merged s) p q
 merged_share s steady p q first second same =
@@ -45,6 +45,6 @@ least_tags_stay s steady p t tagged =
         kept = kept from.like there.0 from.tagged ∙ ap Some from.alike ∙ sym (kept p t tagged);
         prefix = from.like;
         tagged = from.tagged;
-        least = λ q v is same. from.least q v (carries q v is) is (some_of (signature s.routing q) (signature s.routing p) (sym (kept q v is) ∙ same ∙ kept p t tagged));
+        least = λ q v is same. from.least q v (carries q v is) is (same_Some (signature s.routing q) (signature s.routing p) (sym (kept q v is) ∙ same ∙ kept p t tagged));
       },
     )

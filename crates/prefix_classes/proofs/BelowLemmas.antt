@@ -9,15 +9,8 @@ use Rattle.std.specs.FinMap.{FinMap, remove, entries, entries_sorted, from_sorte
 use Rattle.std.specs.FinMap.Entries.{find, find-where_key, is_sorted, below_all}
 use Rattle.std.proofs.lemmas.Bool.{and_parts}
 use Rattle.net_types.proofs.PlaceLemmas.{without, entries_of_sorted, without_sorted, remove_sorted, cond_not}
-
-pub shown : (b : Bool) → T b → b ≡ true
-shown true h = refl
-shown false h = absurd h
-
-pub less : (r : Ordering) → is_lt r ≡ true → r ≡ Less
-less Less e = refl
-less Equal e = cc
-less Greater e = cc
+use Rattle.net_types.proofs.TestLemmas.{shown}
+use Rattle.net_types.proofs.TieLemmas.{less}
 
 module _ {K X : Type 0} (R : K → K → Ordering) where
   -- the first key is below all that follow

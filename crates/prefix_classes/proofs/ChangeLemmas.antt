@@ -8,7 +8,7 @@ use Rattle.std.specs.FinMap.{FinMap, get, get-insert, get-remove, find}
 use Rattle.std.proofs.lemmas.Bool.{false_from_ne_true}
 use Rattle.net_types.proofs.OrderLemmas.{prefixes_total}
 use Rattle.net_types.proofs.SetLemmas.{Member-map}
-use Rattle.net_types.proofs.TieLemmas.{prefix_cmp-IsAntisymmetric, same_from_tie, ties_itself}
+use Rattle.net_types.proofs.TieLemmas.{prefix_cmp-IsAntisymmetric, same_from_tie, ties_itself, less}
 use Rattle.net_types.specs.Keys.{prefix_cmp}
 use Rattle.net_types.specs.Sets.{Member}
 use Rattle.net_types.specs.UpdateSpelling.{is_before}
@@ -30,11 +30,6 @@ get_here m p q (Some u) tie = get-insert prefixes_total m p u q ∙ ap (λ b. co
 get_other : (m : FinMap prefix_cmp Tag) (p q : Prefix) (after : Option Tag) → eq_by_cmp prefix_cmp q p ≡ false → get (with_change m p after) q ≡ get m q
 get_other m p q None tie = get-remove prefixes_total m p q ∙ ap (λ b. cond b None (get m q)) tie
 get_other m p q (Some u) tie = get-insert prefixes_total m p u q ∙ ap (λ b. cond b (Some u) (get m q)) tie
-
-less : (r : Ordering) → is_lt r ≡ true → r ≡ Less
-less Less e = refl
-less Equal e = cc
-less Greater e = cc
 
 -- a prefix doesn't tie with one before it, nor one with a prefix behind it
 after_apart : (p q : Prefix) → is_before p q ≡ true → eq_by_cmp prefix_cmp q p ≡ false

@@ -9,11 +9,11 @@ use Rattle.std.specs.Ordering.{eq_by_cmp, is_eq, is_lt, ordering_reverse}
 use Rattle.std.specs.declared.cmp.Ordering.{Ordering}
 use Rattle.std.specs.declared.cmp.Ordering.TheVariants.{Less}
 use Rattle.net_types.proofs.OrderLemmas.{tags_total}
-use Rattle.net_types.proofs.TieLemmas.{same_from_tie, tag_cmp-IsAntisymmetric, tie_Equal, ties_itself}
+use Rattle.net_types.proofs.TieLemmas.{same_from_tie, tag_cmp-IsAntisymmetric, tie_Equal, ties_itself, less}
 use Rattle.net_types.specs.Keys.{tag_cmp}
 use Rattle.net_types.specs.declared.address.Tag.{Tag}
 use Rattle.net_types.specs.declared.route.Part.{Part}
-use Rattle.prefix_classes.proofs.BelowLemmas.{first_below, less, rest_sorted}
+use Rattle.prefix_classes.proofs.BelowLemmas.{first_below, rest_sorted}
 use Rattle.prefix_classes.proofs.PlacedLemmas.{sig_cmp-IsAntisymmetric}
 use Rattle.prefix_classes.specs.Placed.{AreFirsts, first_with, sig_cmp}
 use Rattle.prefix_classes.specs.PlacedLaws.{sigs_total}

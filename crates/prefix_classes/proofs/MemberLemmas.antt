@@ -12,8 +12,9 @@ use Rattle.net_types.proofs.ValueLemmas.{no_entries, later_apart}
 use Rattle.net_types.specs.Keys.{prefix_cmp, tag_cmp}
 use Rattle.net_types.specs.declared.address.Tag.{Tag}
 use Rattle.net_types.specs.declared.prefix.Prefix.{Prefix}
-use Rattle.prefix_classes.proofs.BelowLemmas.{shown, first_below, rest_sorted, find_before, without_first, entries-remove}
+use Rattle.prefix_classes.proofs.BelowLemmas.{first_below, rest_sorted, find_before, without_first, entries-remove}
 use Rattle.prefix_classes.specs.Classes.{is_tag, has_tag, count_of, members}
+use Rattle.net_types.proofs.TestLemmas.{shown}
 
 -- a prefix's new tag, in the list
 count_put : (t : Tag) (k : Prefix) (v : Tag) (es : List (Prefix × Tag)) → is_sorted prefix_cmp es ≡ true → count_of t (put prefix_cmp k v es) + has_tag t (find prefix_cmp k es) ≡ count_of t es + is_tag t v

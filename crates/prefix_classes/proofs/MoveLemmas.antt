@@ -15,12 +15,13 @@ use Rattle.net_types.specs.UpdateSpelling.{is_before}
 use Rattle.net_types.specs.declared.address.Tag.{Tag}
 use Rattle.net_types.specs.declared.prefix.Prefix.{Prefix}
 use Rattle.net_types.specs.declared.route.Part.{Part}
-use Rattle.prefix_classes.proofs.BelowLemmas.{rest_sorted, shown}
+use Rattle.prefix_classes.proofs.BelowLemmas.{rest_sorted}
 use Rattle.prefix_classes.proofs.MemberLemmas.{found_later, some_member}
 use Rattle.prefix_classes.proofs.MergeLemmas.{same_number, used_is}
 use Rattle.prefix_classes.specs.Merging.{IsFull, IsLeastTag, IsMergeOf, IsMove}
 use Rattle.prefix_classes.specs.Moving.{AreMoves, IsMoveAmong}
 use Rattle.prefix_classes.specs.Placed.{IsLeastBeside}
+use Rattle.net_types.proofs.TestLemmas.{shown}
 
 -- ---- entries of prefixes
 

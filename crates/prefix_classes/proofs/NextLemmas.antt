@@ -12,12 +12,12 @@ use Rattle.std.specs.declared.cmp.Ordering.TheVariants.{Less, Equal, Greater}
 use Rattle.ordered_map.specs.Entries.{above}
 use Rattle.std.proofs.lemmas.Bool.{and_parts, ltb-true, lt-ltb}
 use Rattle.net_types.proofs.OrderLemmas.{tags_total}
-use Rattle.net_types.proofs.TieLemmas.{tag_cmp-IsAntisymmetric, same_from_tie, ties_itself}
+use Rattle.net_types.proofs.TieLemmas.{tag_cmp-IsAntisymmetric, same_from_tie, ties_itself, less}
 use Rattle.net_types.specs.Keys.{prefix_cmp, tag_cmp}
 use Rattle.net_types.specs.declared.address.Tag.{Tag}
 use Rattle.net_types.specs.declared.prefix.Prefix.{Prefix}
 use Rattle.net_types.specs.declared.route.Part.{Part}
-use Rattle.prefix_classes.proofs.BelowLemmas.{first_below, rest_sorted, less}
+use Rattle.prefix_classes.proofs.BelowLemmas.{first_below, rest_sorted}
 use Rattle.prefix_classes.proofs.CountLemmas.{is_some-kept, some_there}
 use Rattle.prefix_classes.proofs.MemberLemmas.{some_member}
 use Rattle.prefix_classes.specs.Classes.{IsAbove, IsNextTag, members}

@@ -14,7 +14,7 @@ use Rattle.net_types.proofs.MemberLemmas.{Member-filter_map}
 use Rattle.net_types.proofs.OrderLemmas.{prefix_tie, prefixes_total, tags_total}
 use Rattle.net_types.proofs.OrderedLemmas.{any_member, member_any, ordered_rises, ordered_same}
 use Rattle.net_types.proofs.RisingLemmas.{Member-filter, before, filter-Member}
-use Rattle.net_types.proofs.TieLemmas.{prefix_cmp-IsAntisymmetric, tag_cmp-IsAntisymmetric, same_from_tie}
+use Rattle.net_types.proofs.TieLemmas.{prefix_cmp-IsAntisymmetric, tag_cmp-IsAntisymmetric, same_from_tie, less}
 use Rattle.net_types.specs.Attributes.{same_signature}
 use Rattle.net_types.specs.Keys.{prefix_cmp, tag_cmp}
 use Rattle.net_types.specs.Maps.{ordered, tabulate}
@@ -23,7 +23,6 @@ use Rattle.net_types.specs.Sets.{IsRising, Member}
 use Rattle.net_types.specs.declared.address.Tag.{Tag}
 use Rattle.net_types.specs.declared.prefix.Prefix.{Prefix}
 use Rattle.net_types.specs.declared.route.Part.{Part}
-use Rattle.prefix_classes.proofs.BelowLemmas.{less}
 use Rattle.prefix_classes.proofs.MemberLemmas.{has_member, some_member}
 use Rattle.prefix_classes.proofs.MergeLemmas.{has_least, is_used, unmoved, used_is, no_move, some_is}
 use Rattle.prefix_classes.specs.MergeLaws.{HaveSignatures, least_tag}

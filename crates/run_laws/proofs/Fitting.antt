@@ -53,6 +53,8 @@ use Rattle.run_laws.proofs.Answered.{answered}
 use Rattle.run_laws.proofs.Carried.{runs_hold}
 use Rattle.run_laws.specs.Promises.{AdvertsFitMessages}
 use Rattle.run_laws.proofs.Known.{answer_is, free_holds, known_holds, resolved_is}
+use Rattle.std.proofs.lemmas.Option.{same_Some}
+use Rattle.exchange_laws.proofs.Lists.{clash}
 
 -- ---- messages
 
@@ -99,13 +101,10 @@ set_or_there from attrs (p ∷ ps) m k a e =
       | inr new ↦ inr (new.0, new.1, inr new.2)
     ]
   where
-    some_of : (x y : Attrs) → Some x ≡ Some y → x ≡ y
-    some_of x y e = cc
-
     by : (b : Bool) → eq_by_cmp route_cmp k (record { from = from; prefix = p }) ≡ b → cond b (Some attrs) (get m k) ≡ Some a → (get m k ≡ Some a) ⊎ ((k.from ≡ from) × (attrs ≡ a) × Member k.prefix (p ∷ ps))
     by true is e =
         let same : k ≡ record { from = from; prefix = p } = same_from_tie route_cmp route_cmp-IsAntisymmetric k (record { from = from; prefix = p }) is in
-        inr (ap (λ (x : RouteKey). x.from) same, some_of attrs a e, inl (ap (λ (x : RouteKey). x.prefix) same))
+        inr (ap (λ (x : RouteKey). x.from) same, same_Some attrs a e, inl (ap (λ (x : RouteKey). x.prefix) same))
     by false is e = inl e
 
 -- an update that isn't refused announces what can be told
@@ -113,9 +112,6 @@ announced_fit : (a : Attrs) (ps : List Prefix) → list_any (λ p. nat_lt 4096 (
 announced_fit a ps none p m =
     ltb-false 4096 (length (announcement p a a.next_hop)) (false_from_ne_true (nat_lt 4096 (length (announcement p a a.next_hop))) (λ long.
     clash (any_at (λ q. nat_lt 4096 (length (announcement q a a.next_hop))) ps p m long) none))
-  where
-    clash : {b : Bool} → b ≡ true → b ≡ false → ⊥
-    clash e f = cc
 
 update_fits : (s : State) (who : Pid) (u : Message) → is_oversize u ≡ false → RoutesFit s → (w : Pid) (p : Prefix) (a : Attrs) → get (changes.updated who u s.routing.routes) (record { from = w; prefix = p }) ≡ Some a
     → length (announcement p a a.next_hop) ≤ 4096

@@ -6,7 +6,7 @@ use Rattle.std.specs.FinMap.{FinMap, get, get-empty, keys}
 use Rattle.std.specs.List.{list_any}
 use Rattle.std.specs.Option.{option_map, option_map_or}
 use Rattle.std.specs.Ordering.{eq_by_cmp}
-use Rattle.std.proofs.lemmas.Bool.{and_parts, eq-eqb, eqb-true, false_from_ne_true, or_left, or_right}
+use Rattle.std.proofs.lemmas.Bool.{and_parts, eq-eqb, eqb-true, false_from_ne_true, or_left, or_right, not-false}
 use Rattle.events.proofs.Candidates.{candidate_exported}
 use Rattle.events.proofs.Drained.{some_cond}
 use Rattle.events.proofs.Routed.{part_with}
@@ -180,14 +180,10 @@ updated_hops s who u free is k a e = by u.attrs free e
     old : RoutesOf
     old = s.routing.routes
 
-    turned : (b : Bool) → not b ≡ false → b ≡ true
-    turned true e = refl
-    turned false e = cc
-
     hop : (attrs : Attrs) → attrs_refusal s who (Some attrs) ≡ None → IsHopOf s.routing.ports who attrs.next_hop
     hop attrs none =
         looked_at s.routing.ports is.apart who attrs.next_hop
-        (turned (has_next_hop s who attrs.next_hop) (not_stopped (not (has_next_hop s who attrs.next_hop)) NextHop (neither _ (refused_if (not (has_next_hop s who attrs.next_hop)) NextHop) none).1))
+        (not-false (has_next_hop s who attrs.next_hop) (not_stopped (not (has_next_hop s who attrs.next_hop)) NextHop (neither _ (refused_if (not (has_next_hop s who attrs.next_hop)) NextHop) none).1))
 
     by : (o : Option Attrs) → attrs_refusal s who o ≡ None → get (announced_with who o u.announced (withdrawn who u.withdrawn s.routing.routes)) k ≡ Some a → IsHopOf s.routing.ports k.from a.next_hop
     by None none e = is.hops k a (still_there who u.withdrawn s.routing.routes k a e)
