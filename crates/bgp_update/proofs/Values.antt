@@ -1,19 +1,12 @@
 -- The update that is made of a message's parts is theirs.
 use Rattle.bgp_update.proofs.OneUpdate.{type_trans}
-use Rattle.std.proofs.Common.{◌≡◌, ℕ, ◌≤◌, Bool, true, false, cond, List, [], ◌∷◌, eqb, refl, sym, ap, ◌∙◌, inl, inr, arith}
+use Rattle.std.proofs.Common.{◌≡◌, ℕ, ◌≤◌, Bool, true, false, cond, List, [], ◌∷◌, eqb, refl, ap, ◌∙◌, inl, inr, arith}
 use Rattle.std.specs.Prelude.{Option, Some, None, is_some, ◌&&◌}
-use Rattle.std.specs.FinMap.{contains_key-keys}
-use Rattle.std.specs.List.{list_any}
 use Rattle.std.specs.Option.{option_and_then, option_map}
-use Rattle.std.specs.Ordering.{eq_by_cmp}
 use Rattle.std.proofs.lemmas.Bool.{eq-eqb, false≢true, lt-ltb, ltb-false}
 use Rattle.std.proofs.lemmas.List.Sums.{sum_by-cons}
-use Rattle.net_types.proofs.FindLemmas.{is_some-cond}
-use Rattle.net_types.proofs.MapLemmas.{get-tabulate}
-use Rattle.net_types.proofs.OrderLemmas.{prefix_tie, prefixes_total}
-use Rattle.net_types.proofs.RisingLemmas.{keys-IsRising}
 use Rattle.net_types.specs.Keys.{prefix_cmp}
-use Rattle.net_types.specs.Maps.{ordered, tabulate}
+use Rattle.net_types.specs.Maps.{ordered}
 use Rattle.net_types.specs.Sets.{IsRising, Member}
 use Rattle.net_types.specs.UpdateFormat.{Parts, is_complete, no_types}
 use Rattle.net_types.specs.UpdateReading.{attrs_for, by_type, insert_unknown, update_of}

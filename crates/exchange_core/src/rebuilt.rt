@@ -9,9 +9,9 @@ ghost use Rattle.net_types.specs.Answers.{is_offered};
 ghost use Rattle.net_types.specs.declared.route.Part.{Part as AnyPart};
 ghost use Rattle.exchange_core.specs.Rebuilt.{AreTagged, is_at, is_from, is_later, is_to};
 
-use fast_path::{ascending_pairs, part_in};
+use fast_path::part_in;
 use match_switch::Switch;
-use net_types::{Memory, Offer, Pair, Part, Pid, PortNo, Tag};
+use net_types::{Memory, Offer, Pair, Part, Pid, PortNo, Tag, ascending};
 use prefix_classes::ClassMap;
 use registry::Registry;
 use std::alloc::Global;
@@ -59,7 +59,7 @@ pub fn pairs_from(
     for &port in ports {
         push_pairs_at(switch, port, &mut pairs)?;
     }
-    Ok(ascending_pairs(pairs))
+    Ok(ascending(pairs))
 }
 
 /// Whether a participant stands among the offers.

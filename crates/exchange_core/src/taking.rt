@@ -7,8 +7,8 @@ ghost use Rattle.net_types.specs.Sets.{union_over};
 ghost use Rattle.exchange_core.specs.Taking.{all_pairs, dead_tags, pairs_at};
 
 use advert_queue::Adverts;
-use fast_path::{ascending_pairs, push_pairs};
-use net_types::{Memory, Pair, Pid, PortNo, Tag};
+use fast_path::push_pairs;
+use net_types::{Memory, Pair, Pid, PortNo, Tag, ascending};
 use prefix_classes::ClassMap;
 use std::alloc::Global;
 
@@ -27,7 +27,7 @@ fn each_pair(alloc: Global, ports: &[PortNo], tags: &[Tag]) -> Result<Vec<Pair>,
 pub fn pairs_of(alloc: Global, ports: &[PortNo], tags: &[Tag]) -> Result<Vec<Pair>, Memory>
     ensures { IfOk result (λ pairs. pairs.items ≡ all_pairs ports.now tags.now) }
 {
-    Ok(ascending_pairs(each_pair(alloc, ports, tags)?))
+    Ok(ascending(each_pair(alloc, ports, tags)?))
 }
 
 /// Whether anybody but one participant was told the tag.

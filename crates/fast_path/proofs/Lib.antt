@@ -4,7 +4,6 @@ pub mod PortsAndTags
 pub mod GonePairs
 pub mod NewPairs
 pub mod DeadTags
-pub mod SortedLists
 pub mod EmptiedTags
 pub mod NewlyCarried
 pub mod Loops

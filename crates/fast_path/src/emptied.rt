@@ -8,9 +8,8 @@ ghost use Rattle.net_types.specs.Keys.{tag_cmp};
 ghost use Rattle.net_types.specs.Maps.{ordered};
 ghost use Rattle.fast_path.specs.Emptied.{emptied, old_tags};
 
-use crate::ascending::ascending_tags;
 use events::TagChange;
-use net_types::{Memory, Tag};
+use net_types::{Memory, Tag, ascending};
 use prefix_classes::ClassMap;
 use std::alloc::Global;
 
@@ -55,7 +54,7 @@ fn each_once(alloc: Global, tags: &[Tag]) -> Result<Vec<Tag>, Memory>
     ensures { IfOk result (λ once. once.items ≡ ordered tag_cmp tags.now) }
 {
     let copied = Vec::from_slice(alloc, tags)?;
-    Ok(ascending_tags(copied))
+    Ok(ascending(copied))
 }
 
 /// The tags that the changed prefixes had and no other prefix has, ascending, each once. Memory is the only refusal.

@@ -2,7 +2,6 @@
 //! without taking memory.
 #![tactic(auto)]
 
-mod ascending;
 mod building;
 mod carried;
 mod classes;
@@ -21,7 +20,6 @@ mod planned;
 mod planning;
 mod tagging;
 
-pub use ascending::{ascending_pairs, ascending_tags};
 pub use building::push_flows;
 pub use carried::plans_are_committed;
 pub use committing::{commit, reserve};

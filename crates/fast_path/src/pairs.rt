@@ -5,10 +5,9 @@ ghost use Rattle.net_types.specs.Sets.{IsRising, union_over};
 ghost use Rattle.exchange_laws.specs.Listed.{is_pair_before};
 ghost use Rattle.fast_path.specs.Pairs.{built_pairs, class_pairs, dropped_pairs, fresh_pairs, gone_pairs, is_among, pair_at, part_pairs, staying, untold, was_told};
 
-use crate::ascending::ascending_pairs;
 use crate::planned::Class;
 use advert_queue::Adverts;
-use net_types::{Items, Memory, Pair, Pairs, Part, Pid, PortNo, Tag};
+use net_types::{Items, Memory, Pair, Pairs, Part, Pid, PortNo, Tag, ascending};
 use prefix_classes::ClassMap;
 use registry::Registry;
 use std::alloc::Global;
@@ -69,7 +68,7 @@ pub fn gone_pairs(
             push_gone(names, adverts, tag, sig.items(), &mut pairs)?;
         }
     }
-    Ok(Items::from_vec(ascending_pairs(pairs)))
+    Ok(Items::from_vec(ascending(pairs)))
 }
 
 /// Puts the tag of a class at the ports of the senders in its signature.
@@ -128,7 +127,7 @@ pub fn built_pairs(
 {
     let mut pairs = fresh_pairs(alloc, names, fresh)?;
     push_staying(gone, rebuild, &mut pairs)?;
-    Ok(Items::from_vec(ascending_pairs(pairs)))
+    Ok(Items::from_vec(ascending(pairs)))
 }
 
 /// The pairs whose rules are taken out, ascending by port, and then by tag: those that go, and those to be built anew.
@@ -138,7 +137,7 @@ pub fn dropped_pairs(alloc: Global, gone: &[Pair], rebuild: &[Pair]) -> Result<P
 {
     let mut pairs = Vec::from_slice(alloc, gone)?;
     pairs.extend_from_slice(rebuild)?;
-    Ok(Items::from_vec(ascending_pairs(pairs)))
+    Ok(Items::from_vec(ascending(pairs)))
 }
 
 /// Those of the tags that nobody was told, in their order. Memory is the only refusal.

@@ -14,8 +14,8 @@ use crate::offering::offers_of;
 use advert_queue::Adverts;
 use block_build::Blocks;
 use events::{TagChange, TagChanges};
-use fast_path::{ascending_tags, dropped_pairs, gone_pairs, old_tags, untold};
-use net_types::{Items, Memory, Pair, Prefix, Tag};
+use fast_path::{dropped_pairs, gone_pairs, old_tags, untold};
+use net_types::{Items, Memory, Pair, Prefix, Tag, ascending};
 use prefix_classes::ClassMap;
 use recompile::Swap;
 use registry::Registry;
@@ -40,7 +40,7 @@ fn left_tags(alloc: Global, classes: &ClassMap, tags: &[TagChange]) -> Result<Ve
     ensures { IfOk result (λ left. left.items ≡ ordered tag_cmp (old_tags classes.now.tag tags.now)) }
 {
     let old = old_tags(alloc, classes, tags)?;
-    Ok(ascending_tags(old))
+    Ok(ascending(old))
 }
 
 /// Each part of an end, as it is found.

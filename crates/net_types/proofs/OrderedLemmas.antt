@@ -1,22 +1,23 @@
--- The different members of a list in an order: they rise, and depend on which members it has alone.
-use Rattle.std.proofs.Common.{◌≡◌, true, false, ◌||◌, List, [], ◌∷◌, sym, ap, ◌∙◌, refl, inl, inr, Bool, IsPermutation, subst}
-use Rattle.std.specs.Prelude.{Some, is_some}
+-- The different members of a list in an order: they rise, and depend on which members it has alone. What a search finds in a
+-- rising list.
+use Rattle.std.proofs.Common.{◌≡◌, ℕ, zero, suc, ◌+◌, ◌<◌, arith, length, Result, Ok, Err, true, false, ◌||◌, List, [], ◌∷◌, sym, ap, ◌∙◌, refl, inl, inr, Bool, IsPermutation, subst}
+use Rattle.std.specs.Prelude.{Some, is_ok, is_some, slice_index_or}
 use Rattle.std.specs.Cmp.{IsTotalOrder}
 use Rattle.std.specs.FinMap.{contains_key-keys}
 use Rattle.std.specs.List.{list_any, AllByRecursion, dedup}
-use Rattle.std.specs.Ordering.{eq_by_cmp, is_lt}
+use Rattle.std.specs.Ordering.{eq_by_cmp, is_eq, is_lt}
 use Rattle.std.specs.declared.cmp.Ordering.{Ordering}
-use Rattle.std.proofs.lemmas.Bool.{or_left, or_right}
-use Rattle.std.specs.List.Sorted.{IsSorted, IsStrictlySortedBy}
-use Rattle.std.specs.declared.cmp.Ordering.TheVariants.{Less}
-use Rattle.std.proofs.lemmas.Cmp.{eq_by_cmp_equiv}
+use Rattle.std.proofs.lemmas.Bool.{cases_lt, false_from_ne_true, or_left, or_right}
+use Rattle.std.specs.List.Sorted.{IsBinarySearchResult, IsSearchInRange, IsSorted, IsSortedBy, IsStrictlySortedBy}
+use Rattle.std.specs.declared.cmp.Ordering.TheVariants.{Equal, Less}
+use Rattle.std.proofs.lemmas.Cmp.{eq_by_cmp_equiv, tied_itself}
 use Rattle.std.proofs.lemmas.List.Kept.{Contains-dedup, Contains-from_dedup, IsStrictlySortedBy-dedup}
-use Rattle.std.proofs.lemmas.List.Sorted.{IsPermutation-sym}
+use Rattle.std.proofs.lemmas.List.Sorted.{IsPermutation-sym, searchable_from_sorted}
 use Rattle.net_types.proofs.FindLemmas.{is_some-cond}
 use Rattle.net_types.proofs.MapLemmas.{get-tabulate}
 use Rattle.net_types.proofs.RisingLemmas.{before, before_itself, before_trans, keys-IsRising}
 use Rattle.net_types.proofs.SetLemmas.{rising_unique, same_trans, same_sym}
-use Rattle.net_types.proofs.TieLemmas.{ties_itself}
+use Rattle.net_types.proofs.TieLemmas.{backward, not_tied, ties_itself}
 use Rattle.net_types.specs.Maps.{ordered, tabulate}
 use Rattle.net_types.specs.Sets.{Member, SameMembers, IsRising}
 use Rattle.net_types.proofs.MemberLemmas.{Contains-Member, Member-at, Member-permutation}
@@ -89,3 +90,27 @@ module _ {K : Type 0} (R : K → K → Ordering) (o : IsTotalOrder R) (tie : (x 
   deduped_is test ties xs ys moved sorted =
       let alike : test ≡ eq_by_cmp R = λ i x y. ties x y i in
       ap (λ (f : K → K → Bool). dedup f ys) alike ∙ tied_is xs ys moved sorted
+
+-- ---- search
+
+module _ {K : Type 0} (R : K → K → Ordering) (o : IsTotalOrder R) (tie : (x y : K) → eq_by_cmp R x y ≡ true → x ≡ y) where
+  -- a rising list is sorted
+  in_order : (xs : List K) → IsRising (before R) xs → IsSortedBy (λ x y. is_lt (R x y)) xs
+  in_order xs r k d low within = go xs r k within
+    where
+      go : (xs : List K) → IsRising (before R) xs → (k : ℕ) → k + 1 < length xs → is_lt (R (slice_index_or xs (k + 1) d) (slice_index_or xs k d)) ≡ false
+      go [] r k within = absurd (omega arith)
+      go (x ∷ []) r k within = absurd (omega arith)
+      go (x ∷ y ∷ ys) r zero within = backward (R x y) (R y x) (o.antisymm x y) (r.0 y (inl refl))
+      go (x ∷ y ∷ ys) r (suc k) within =
+          let e : suc k + 1 ≡ suc (k + 1) = omega arith in
+          subst (λ (j : ℕ). is_lt (R (slice_index_or (x ∷ y ∷ ys) j d) (slice_index_or (y ∷ ys) k d)) ≡ false) (sym e) (go (y ∷ ys) r.1 k (omega arith))
+
+  -- a search in a rising list finds what is there
+  pub search_finds : (xs : List K) (x : K) (r : Result ℕ ℕ) → IsRising (before R) xs → IsSearchInRange r (length xs) → IsBinarySearchResult (λ y. R y x) xs r → is_ok r ≡ list_any (eq_by_cmp R x) xs
+  search_finds xs x (Ok i) rises within found = sym (member_any R o tie x xs (Member-at xs i x x within (tie (slice_index_or xs i x) x (ap is_eq (found x)))))
+  search_finds xs x (Err i) rises within found = sym (false_from_ne_true (list_any (eq_by_cmp R x) xs) (λ among.
+      let c = Contains-Member xs x (any_member R o tie x xs among) in
+      let halves = found (searchable_from_sorted o (λ (y : K). y) xs x (in_order xs rises)) in
+      let level : R (slice_index_or xs c.0 x) x ≡ Equal = ap (λ (y : K). R y x) c.2 ∙ tied_itself o x in
+      not_tied (R (slice_index_or xs c.0 x) x) level (elim (cases_lt c.0 i) [ inl low ↦ inl (halves.0 c.0 x (omega arith) low) | inr high ↦ inr (halves.1 c.0 x high c.1) ])))

@@ -1,18 +1,12 @@
 -- Entries whose keys rise, and their map.
-use Rattle.std.proofs.Common.{◌≡◌, ℕ, zero, suc, ◌+◌, ◌<◌, ◌≤◌, Bool, true, false, cond, ◌&&◌, not, List, [], ◌∷◌, length, get_or, set, sym, ap, subst, ◌∙◌, refl, arith}
-use Rattle.std.specs.Prelude.{Some, None, T}
-use Rattle.std.specs.List.{insert, remove, AllWithin, HoldsAt}
-use Rattle.std.specs.List.Sorted.{IsNonDecreasingBy}
+use Rattle.std.proofs.Common.{◌≡◌, Bool, true, false, cond, not, List, [], length, sym, ap, ◌∙◌, refl}
+use Rattle.std.specs.Prelude.{None}
 use Rattle.std.specs.Cmp.{IsTotalOrder, alike_right, eq_by_cmp_equiv}
-use Rattle.std.specs.Ordering.{is_lt, is_eq, eq_by_cmp, ordering_reverse, ordering_index}
+use Rattle.std.specs.Ordering.{is_eq, eq_by_cmp}
 use Rattle.std.specs.declared.cmp.Ordering.{Ordering}
-use Rattle.std.specs.declared.cmp.Ordering.TheVariants.{Less, Equal, Greater}
 use Rattle.std.specs.FinMap as map
 use Rattle.std.specs.FinMap.{IsAntisymmetric}
-use Rattle.std.specs.FinMap.Entries.{find, put, where_key, is_sorted, below_all, by_order, is_sorted-put, is_sorted-where_key, find-where_key}
-use Rattle.std.proofs.lemmas.Bool.{and_parts}
-use Rattle.std.proofs.lemmas.List.Sorted.{searchable_from_sorted}
-use Rattle.net_types.proofs.TieLemmas.{less}
+use Rattle.std.specs.FinMap.Entries.{find, put, where_key, is_sorted, is_sorted-put, is_sorted-where_key, find-where_key}
 use Rattle.net_types.proofs.TestLemmas.{holds, shown}
 
 -- the entries with other keys

@@ -1,5 +1,5 @@
 -- Lists that rise in a total order: the keys of a map, what a filter leaves of them, and a sorted list without repeats.
-use Rattle.std.proofs.Common.{◌≡◌, ℕ, suc, ◌+◌, ◌≤◌, Bool, true, false, cond, not, List, [], ◌∷◌, map, filter, sum_by, ap, ◌∙◌, refl, sym, inl, inr, subst, arith, T}
+use Rattle.std.proofs.Common.{◌≡◌, ℕ, suc, ◌+◌, ◌≤◌, Bool, true, false, cond, not, List, [], ◌∷◌, map, filter, sum_by, ap, ◌∙◌, refl, sym, inl, inr, subst, arith}
 use Rattle.std.specs.Prelude.{slice_index_or, ◌⊎◌}
 use Rattle.std.specs.Cmp.{IsTotalOrder}
 use Rattle.std.specs.FinMap.{FinMap, keys, entries, entries_sorted, is_sorted}

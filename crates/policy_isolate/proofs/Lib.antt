@@ -1,3 +1,2 @@
 pub mod FirstFault
 pub mod InText
-pub mod NameOrder

@@ -8,7 +8,7 @@ ghost use Rattle.policy_syntax.specs.Nodes.{node_of};
 ghost use Rattle.policy_syntax.specs.Views.{policy_of, target_of};
 
 use crate::names::Names;
-use net_types::{Items, Memory, Pid, Pids};
+use net_types::{Items, Memory, Pid, Pids, ascending};
 use policy_syntax::{Node, Target, Tree};
 use std::alloc::Global;
 
@@ -54,15 +54,6 @@ fn add_tree<N: Names>(named: &mut Vec<Pid>, names: &N, tree: &Tree<'_>) -> Resul
     ensures { OnOk result (named.new.items ≡ named.old.items ++ forwards (N.pid_of names.now) (policy_of tree.now)) }
 {
     add_node(named, names, tree.node())
-}
-
-/// The same participants, ascending, each once.
-fn ascending(mut pids: Vec<Pid>) -> Vec<Pid>
-    ensures { result.items ≡ ordered pid_cmp pids.items }
-{
-    pids.sort_unstable();
-    pids.dedup();
-    pids
 }
 
 /// The participants that a policy names in its forwards, in order of declaration, each once: for

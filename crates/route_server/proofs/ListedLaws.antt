@@ -108,12 +108,6 @@ look_at (x ∷ xs) (suc i) n h e same = by (eqb x.from.0 n) (look_at xs i n h e 
 
 -- ---- in order
 
-same_ties : (p q : Prefix) → same_prefix p q ≡ eq_by_cmp prefix_cmp p q
-same_ties p q = grind (arith, nat_tests)
-
-pub prefixes_in_order : (xs ys : List Prefix) → IsPermutation xs ys → IsSorted prefix_cmp ys → dedup same_prefix ys ≡ ordered prefix_cmp xs
-prefixes_in_order = deduped_is prefix_cmp prefixes_total prefix_tie same_prefix same_ties
-
 -- what is listed, in order, stands among others
 pub listed_among : (rows : FinMap prefix_cmp (List Held)) (a : Announced) (m : FinMap route_cmp Attrs) (from : Pid) (xs ps : List Prefix) → routes_of rows ≡ m → AreListed rows a → ((p : Prefix) → Lists a from.0 p → Member p xs) → ps ≡ ordered prefix_cmp xs → StandAmong m from ps
 listed_among rows a m from xs ps same are lists is = subst (StandAmong m from) (sym is) (record {

@@ -33,16 +33,6 @@ pub struct Announced {
     pub whole: bool,
 }
 
-/// The prefixes ascending, each once.
-pub fn ascending(prefixes: Vec<Prefix>) -> Vec<Prefix>
-    ensures { result.items ≡ ordered prefix_cmp prefixes.items }
-{
-    let mut sorted = prefixes;
-    sorted.sort_unstable();
-    sorted.dedup();
-    sorted
-}
-
 /// Puts a prefix last, where there is room.
 fn put_in_room(prefixes: &mut Vec<Prefix>, prefix: Prefix) -> bool
     ensures kept { (p : AnyPrefix) → Member p prefixes.old.items → Member p prefixes.new.items }

@@ -13,14 +13,14 @@ ghost use Rattle.route_server.specs.Proposed.{named_with};
 ghost use Rattle.route_server.specs.Rows.{look, Rising};
 ghost use Rattle.route_server.specs.Served.{Served, routing, AreRows, AreDeclared, route_in, one_after, route_after, Reaches, AreAll, Carries};
 
-use crate::announced::{Announced, ascending, put_participants};
+use crate::announced::{Announced, put_participants};
 use crate::change::Change;
 use crate::choices::chosen_in;
 use crate::held::Held;
 use crate::rows::{MOST, best_attrs_in};
 use crate::signature::signature_in;
 use crate::terms::Terms;
-use net_types::{Attrs, ExportRules, Items, Memory, Pid, Pids, Prefix, Sig};
+use net_types::{Attrs, ExportRules, Items, Memory, Pid, Pids, Prefix, Sig, ascending};
 use prefix_map::PrefixMap;
 use registry::Registry;
 use std::alloc::Global;

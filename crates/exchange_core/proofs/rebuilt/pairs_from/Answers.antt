@@ -18,5 +18,5 @@ returns c =
     let pairs = c.loop-port.pairs.items in
     let all : pairs ≡ union_over own ports =
     sym (append-nil pairs) ∙ sym (ap (λ xs. pairs ++ union_over own xs) (drop_all c.loop-port.port-index ports c.loop-port-test.false)) ∙ c.loop-port.invariant in
-    c.ascending_pairs.ensures ∙ ap (ordered pair_cmp) (all ∙ ap (union_over own) c.ports_of-ports.ensures)
+    c.ascending.ensures ∙ ap (ordered pair_cmp) (all ∙ ap (union_over own) c.ports_of-ports.ensures)
     ∙ theirs_are c.args.switch.now.table c.args.names.now c.args.who c.requires.apart

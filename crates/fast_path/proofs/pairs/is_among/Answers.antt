@@ -1,7 +1,7 @@
 -- A search in a rising list finds what is there.
 use Rattle.std.proofs.Common.{◌∙◌}
 use Rattle.fast_path.proofs.PortsAndTags.{tie}
-use Rattle.fast_path.proofs.SortedLists.{search_finds}
+use Rattle.net_types.proofs.OrderedLemmas.{search_finds}
 use Rattle.net_types.proofs.OrderLemmas.{pairs_total}
 use Rattle.net_types.specs.Keys.{pair_cmp}
 use Rattle.fast_path.proofs.pairs.is_among.Goals as goal

@@ -1,8 +1,0 @@
--- A sorted list without repeats.
-use Rattle.std.proofs.Common.{◌∙◌}
-use Rattle.std.proofs.lemmas.List.Filters.{dedup_is}
-use Rattle.fast_path.proofs.SortedLists.{tags_in_order}
-use Rattle.fast_path.proofs.ascending.ascending_tags.Goals as goal
-
-pub returns : goal.returns
-returns c = dedup_is _ _ _ c.dedup.ensures.filtered ∙ tags_in_order c.args.tags.items c.sort_unstable.new.self.items c.sort_unstable.ensures.permutation c.sort_unstable.ensures.sorted
