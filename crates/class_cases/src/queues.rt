@@ -71,7 +71,7 @@ fn entry(alloc: Global, text: &str) -> Result<Option<Entry>, Wrong> {
     Ok(Some(Entry { attrs, tag }))
 }
 
-/// Makes an entry present for a participant at a prefix, or none; told is whether it holds and whether it was told tag 1.
+/// Makes an entry present for a participant at a prefix, or none.
 pub fn offer(alloc: Global, adverts: &mut Adverts, text: &str) -> Result<String, Wrong> {
     let (who, rest) = who(adverts, text)?;
     let (word, rest) = first_word(rest);

@@ -1,5 +1,7 @@
 //! A job that does some units between a thousand updates, and then ends.
 
+ghost use Rattle.std.specs.Prelude.{◌<◌};
+
 use crate::{Given, run_given};
 use net_types::Memory;
 use replay_run::Status;
