@@ -32,6 +32,7 @@ use Rattle.net_types.specs.declared.rule.Rule.{Rule}
 use Rattle.registry.specs.Registered.{Registered, port_of, ports_of}
 use Rattle.exchange_core.specs.Rebuilt.{AreTagged, is_at, is_from, is_later}
 use Rattle.std.proofs.lemmas.Option.{same_Some}
+use Rattle.fast_path.proofs.CommittedMaps.{filter_alike}
 
 -- ---- the order of pairs
 
@@ -88,12 +89,6 @@ alike last p y is after = elim (lesser p y after) [
 
 -- ---- one after another
 
--- tests that agree on the members leave the same
-filter_on : {A : Type 0} (f g : A → Bool) (xs : List A) → ((x : A) → Member x xs → f x ≡ g x) → filter f xs ≡ filter g xs
-filter_on f g [] same = refl
-filter_on f g (x ∷ xs) same =
-    ap (λ b. cond b (x ∷ filter f xs) (filter f xs)) (same x (inl refl)) ∙ ap (λ ys. cond (g x) (x ∷ ys) ys) (filter_on f g xs (λ y m. same y (inr m)))
-
 -- the first later pair, and those that are later than it
 pub one_later : (last p : Pair) (ks : List Pair) → IsRising (before pair_cmp) ks → find (is_later last) ks ≡ Some p → filter (is_later last) ks ≡ p ∷ filter (is_later p) ks
 one_later last p [] rises e = absurd (cc)
@@ -103,7 +98,7 @@ one_later last p (x ∷ ks) rises e =
           let same : x ≡ p = same_Some x p is in
           let itself : is_later p x ≡ false = not_later p x (λ l. let tag : p.tag.0 < x.tag.0 = l.tag in let one : x.tag.0 ≡ p.tag.0 = ap (λ (y : Pair). y.tag.0) same in absurd (omega (arith, tag, one))) in
           (λ i. same i ∷ filter (is_later last) ks)
-          ∙ ap (λ ys. p ∷ ys) (filter_on (is_later last) (is_later p) ks (λ y m. alike last p y (later_is last p (ap (is_later last) (sym same) ∙ here)) (ap (λ z. before pair_cmp z y) (sym same) ∙ rises.0 y m)))
+          ∙ ap (λ ys. p ∷ ys) (filter_alike (is_later last) (is_later p) ks (λ y m. alike last p y (later_is last p (ap (is_later last) (sym same) ∙ here)) (ap (λ z. before pair_cmp z y) (sym same) ∙ rises.0 y m)))
           ∙ ap (λ b. p ∷ cond b (x ∷ filter (is_later p) ks) (filter (is_later p) ks)) (sym itself)
       | false ↦ λ here is.
           let found = find-IsFound (is_later last) ks p is in
@@ -190,7 +185,7 @@ module _ (table : FinMap pair_cmp (List Rule)) where
 
   -- all have a greater tag than none
   pub all_later : (port : PortNo) (last : Pair) → last.port ≡ port → last.tag.0 ≡ 0 → AreTagged table → filter (is_later last) (keys table) ≡ filter (is_at port) (keys table)
-  all_later port last at none tagged = filter_on (is_later last) (is_at port) (keys table) (λ y m.
+  all_later port last at none tagged = filter_alike (is_later last) (is_at port) (keys table) (λ y m.
       let some : 1 ≤ y.tag.0 = tagged y (table_key y m) in
       ap (λ b. nat_eq y.port.0 last.port.0 && b) (lt-ltb last.tag.0 y.tag.0 (omega (arith, some, none)))
       ∙ both (nat_eq y.port.0 last.port.0) ∙ ap (λ (n : PortNo). nat_eq y.port.0 n.0) at)

@@ -15,20 +15,13 @@ use Rattle.net_types.specs.declared.address.Pid.{Pid}
 use Rattle.net_types.specs.declared.prefix.Prefix.{Prefix}
 use Rattle.net_types.specs.declared.route.Attrs.{Attrs}
 use Rattle.net_types.specs.declared.route.Participant.{Participant}
+use Rattle.exchange_laws.proofs.Counted.{how_many}
+use Rattle.fast_path.proofs.OfferedPresent.{number_at}
 
 abbrev pid_at : ℕ → Pid
 pid_at n = record { 0 = n }
 
 -- ---- places
-
-number_at : {A : Type 0} (at : ℕ → A) (low count k : ℕ) → k < count → slice_get (map at (numbers low count)) k ≡ Some (at (low + k))
-number_at at low zero k within = absurd (omega arith)
-number_at at low (suc count) zero within = ap (λ n. Some (at n)) (let same : low ≡ low + 0 = omega arith in same)
-number_at at low (suc count) (suc k) within = number_at at (low + 1) count k (omega arith) ∙ ap (λ n. Some (at n)) (let same : low + 1 + k ≡ low + suc k = omega arith in same)
-
-count_is : {A : Type 0} (at : ℕ → A) (low count : ℕ) → length (map at (numbers low count)) ≡ count
-count_is at low zero = refl
-count_is at low (suc count) = ap suc (count_is at (low + 1) count)
 
 -- what is kept as present for a declared participant is what is present for it
 pub kept_present : (s : State) (all : Present) (who : Pid) → all ≡ all_present s → who.0 < length s.routing.participants → present_to all who ≡ present s who
@@ -54,7 +47,7 @@ all_alike f y same (x ∷ xs) = λ i. same x i ∷ all_alike f y same xs i
 -- where there are no routes, nothing is present for anybody
 pub all_nothing : (s : State) → s.routing.routes ≡ empty → all_present s ≡ replicate (length s.routing.participants) empty
 all_nothing s none =
-    all_alike (present s) empty (λ who. nothing_present s who none) (pids s.routing) ∙ ap (λ n. replicate n empty) (count_is pid_at 0 (length s.routing.participants))
+    all_alike (present s) empty (λ who. nothing_present s who none) (pids s.routing) ∙ ap (λ n. replicate n empty) (how_many pid_at 0 (length s.routing.participants))
 
 -- where nobody is declared, nothing is kept
 pub nobody_there : (s : State) → s.routing.routes ≡ empty → s.routing.participants ≡ [] → [] ≡ all_present s

@@ -1,4 +1,5 @@
 -- The pairs and tags that go where a participant is told anew.
+use Rattle.std.proofs.Math.Bool.{or-false}
 use Rattle.std.proofs.Common.{◌≡◌, ℕ, zero, suc, ◌<◌, Bool, true, false, ◌||◌, not, nat_eq, List, [], ◌∷◌, length, map, sym, ap, subst, ◌∙◌, refl, inl, inr, arith}
 use Rattle.std.specs.Prelude.{Some, slice_set}
 use Rattle.std.specs.FinMap.{FinMap, empty}
@@ -48,18 +49,14 @@ pub record IsGone (told then now : FinMap prefix_cmp Entry) (t : Tag) : Type 0 w
   pub not_then : tells then t ≡ false
   pub not_now : tells now t ≡ false
 
-alone : (b : Bool) → (b || false) ≡ b
-alone true = refl
-alone false = refl
-
 -- what stands in the list without the tags that a map tells
 left : (m : FinMap prefix_cmp Entry) (ts : List Tag) (t : Tag) → Member t (untold (m ∷ []) ts) → Member t ts × (tells m t ≡ false)
 left m ts t k =
     let is = filter-Member (λ u. not (is_told (m ∷ []) u)) ts t k in
-    (is.stands, sym (alone (tells m t)) ∙ not-true (is_told (m ∷ []) t) is.passes)
+    (is.stands, sym (or-false (tells m t)) ∙ not-true (is_told (m ∷ []) t) is.passes)
 
 stays : (m : FinMap prefix_cmp Entry) (ts : List Tag) (t : Tag) → Member t ts → tells m t ≡ false → Member t (untold (m ∷ []) ts)
-stays m ts t k none = Member-filter (λ u. not (is_told (m ∷ []) u)) ts t k (ap (λ b. not b) (alone (tells m t) ∙ none))
+stays m ts t k none = Member-filter (λ u. not (is_told (m ∷ []) u)) ts t k (ap (λ b. not b) (or-false (tells m t) ∙ none))
 
 pub gone_tag : (told then now : FinMap prefix_cmp Entry) (t : Tag) → Member t (gone_tags told then now) → IsGone told then now t
 gone_tag told then now t m =

@@ -24,8 +24,8 @@ pairs_from-requires-clause-tagged c =
     let s : State = state_of a.phase a.base a.size a.registry a.server a.resolved.items a.classes a.adverts.told a.switch a.programs.items in
     table_tagged s c.self.invariant.kept.steady
 
-pub propose_named-requires-clause-declared : goal.propose_named-requires-clause-declared
-propose_named-requires-clause-declared c =
+pub propose_named-requires : goal.propose_named-requires
+propose_named-requires c =
     let a = c.self.inside in
     let s : State = state_of a.phase a.base a.size a.registry a.server a.resolved.items a.classes a.adverts.told a.switch a.programs.items in
     routes_declared a.registry s.routing refl c.self.invariant.kept.steady.routed
