@@ -24,7 +24,7 @@ use Rattle.net_types.proofs.ActionOrder.{ordered_actions}
 use Rattle.block_build.proofs.DecideBlocks.{given-received, gathered_by}
 use Rattle.block_build.proofs.OfferLemmas.{stands-offered, port-stands, hole-stands, offered-from}
 use Rattle.block_build.proofs.SentLemmas.{answer-past, no_hole, received_past, sent_all, sent_plain, goes-sent, sent-goes, sent-offered}
-use Rattle.block_build.specs.Given.{gathered}
+use Rattle.block_build.proofs.GatheredItems.{gathered}
 use Rattle.block_build.specs.Offers.{each_once, goes_to, has_one_left}
 use Rattle.block_build.specs.Outcomes.{answer_from, received_from}
 use Rattle.block_build.specs.Receivers.{discarding, exit_of, add_exit, add_exits, received_items, received_lines, receiver, receivers}

@@ -18,7 +18,7 @@ use Rattle.net_types.specs.declared.address.PortNo.{PortNo}
 use Rattle.net_types.specs.declared.cube.Cube.{Cube}
 use Rattle.net_types.specs.declared.headers.Headers.{Headers}
 use Rattle.net_types.specs.declared.route.Offer.{Offer}
-use Rattle.block_build.specs.Given.{gathered}
+use Rattle.block_build.proofs.GatheredItems.{gathered}
 use Rattle.block_build.specs.Offers.{goes_to, has_one_left}
 use Rattle.block_build.specs.Receivers.{received_items, received_lines}
 use Rattle.block_build.specs.Spreads.{restricted, beside, spread, within_rule, blocks}

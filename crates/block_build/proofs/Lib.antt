@@ -16,3 +16,4 @@ pub mod PortLemmas
 pub mod InportLemmas
 pub mod TightLemmas
 mod LentLemmas
+pub mod GatheredItems

@@ -6,7 +6,6 @@ pub mod Offers
 pub mod Groups
 pub mod Receivers
 pub mod Spreads
-pub mod Given
 pub mod Bounds
 pub mod Closed
 pub mod Rules

@@ -2,13 +2,14 @@
 use Rattle.std.proofs.Common.{◌≡◌, ℕ, suc, ◌+◌, Bool, true, false, List, [], ◌∷◌, ◌++◌, length, Ok, Err, inl, inr}
 use Rattle.std.specs.Prelude.{◌⊎◌}
 use Rattle.std.proofs.lemmas.Bool.{cond_both}
-use Rattle.grammar.specs.Octets.{Follows, IsLonger, StartsAs, StartsIn, among}
+use Rattle.grammar.specs.Octets.{Follows, IsLonger, StartsAs, among}
 use Rattle.grammar.specs.Rules.{either}
 use Rattle.grammar.specs.TextReading.{Deep, Fault, Read, Reader, Wrong, read_either}
 use Rattle.grammar.specs.Exactness.{Covers, Deeper, Family, Holds, IsExact, ReadsExactly}
 use Rattle.grammar.proofs.Lists.{starts_behind}
 use Rattle.grammar.proofs.OctetKinds.{Apart, all_pass, among_within, besides, besides_apart, besides_rest, no_begin, other_kind}
 use Rattle.grammar.proofs.Firsts.{Heads, Heads-within}
+use Rattle.grammar.proofs.Starts.{StartsIn}
 
 abbrev pub one_of : {X : Type 0} → Family X → Family X → Family X
 one_of f g = λ e. either (f e) (g e)

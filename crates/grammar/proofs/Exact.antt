@@ -3,7 +3,7 @@ use Rattle.std.proofs.Common.{◌≡◌, ℕ, suc, ◌+◌, Bool, true, List, []
 use Rattle.std.specs.Prelude.{not}
 use Rattle.std.proofs.lemmas.List.{length-append}
 use Rattle.grammar.specs.TextReading as reading
-use Rattle.grammar.specs.Octets.{Follows, IsLonger, StartsAs, StartsIn}
+use Rattle.grammar.specs.Octets.{Follows, IsLonger, StartsAs}
 use Rattle.grammar.specs.Rules.{BeginsBoth, SpellsBoth, ◌>>=◌}
 use Rattle.grammar.specs.Reading.{on_read}
 use Rattle.grammar.specs.TextReading.{Deep, Fault, Read, Reader, Wrong}
@@ -11,6 +11,7 @@ use Rattle.grammar.specs.Exactness.{Covers, Deeper, Family, Holds, IsExact, Read
 use Rattle.grammar.proofs.Lists.{longer_append, regroup, starts_behind}
 use Rattle.grammar.proofs.OctetKinds.{Follows-starts}
 use Rattle.grammar.proofs.Firsts.{Heads, Leads}
+use Rattle.grammar.proofs.Starts.{StartsIn}
 
 abbrev pub both : {X Y : Type 0} → Family X → (X → Family Y) → Family Y
 both f g = λ e. f e >>= λ x. g x e

@@ -1,9 +1,10 @@
 -- What the first octet of a text of a rule is.
 use Rattle.std.proofs.Common.{◌≡◌, ℕ, Bool, true, List, [], ◌∷◌, ◌++◌, refl, sym, ap, subst, ◌∙◌}
-use Rattle.grammar.specs.Octets.{Follows, StartsIn, among}
+use Rattle.grammar.specs.Octets.{Follows, among}
 use Rattle.grammar.specs.Rules.{word}
 use Rattle.grammar.specs.Exactness.{Family}
 use Rattle.grammar.proofs.OctetKinds.{Follows-starts, Follows-within, Within, all_pass, among_within, any}
+use Rattle.grammar.proofs.Starts.{StartsIn}
 
 -- What stands in front of what may follow, or is begun there, begins with such an octet itself.
 pub record Leads {X : Type 0} (f : Family X) (follow test : ℕ → Bool) : Type 0 where

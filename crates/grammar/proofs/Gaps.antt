@@ -1,7 +1,7 @@
 -- At least one octet of a kind is read exactly.
 use Rattle.std.proofs.Common.{◌≡◌, ℕ, ◌+◌, ◌-◌, Bool, false, List, [], ◌∷◌, ◌++◌, length, Ok, Err, refl, sym, ap, ◌∙◌, arith}
 use Rattle.std.proofs.lemmas.Bool.{cond_both, both_ways}
-use Rattle.grammar.specs.Octets.{AllPass, IsLonger, StartsIn}
+use Rattle.grammar.specs.Octets.{AllPass, IsLonger}
 use Rattle.grammar.specs.Rules.{IsNonemptyRun, nonempty_run}
 use Rattle.grammar.specs.TextReading.{Read, Wrong, after_run, read_nonempty_run}
 use Rattle.grammar.specs.Exactness.{Holds, IsExact, ReadsExactly}
@@ -9,6 +9,7 @@ use Rattle.grammar.proofs.Lists.{AllPass-at, AllPass-front}
 use Rattle.grammar.proofs.OctetKinds.{Apart}
 use Rattle.grammar.proofs.Firsts.{Heads}
 use Rattle.grammar.proofs.Tokens.{IsLast, IsToken, token_heads, token_reads, token_stops}
+use Rattle.grammar.proofs.Starts.{StartsIn}
 
 pub nonempty_runs : (test : ℕ → Bool) → IsToken (IsNonemptyRun test) test test
 nonempty_runs test = record {

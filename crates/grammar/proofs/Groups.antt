@@ -2,7 +2,7 @@
 use Rattle.std.proofs.Common.{◌≡◌, ℕ, zero, suc, ◌+◌, ◌-◌, ◌≤◌, Bool, true, false, List, [], ◌∷◌, ◌++◌, length, Ok, Err, refl, sym, ap, subst, ◌∙◌, arith, inl, inr, eqb}
 use Rattle.std.specs.Prelude.{◌⊎◌, codes}
 use Rattle.std.proofs.lemmas.Bool.{cond_both, eqb-true, or_cases}
-use Rattle.grammar.specs.Octets.{Follows, IsLonger, StartsAs, StartsIn, among}
+use Rattle.grammar.specs.Octets.{Follows, IsLonger, StartsAs, among}
 use Rattle.grammar.specs.Rules.{Rule, never, ◌>>=◌}
 use Rattle.grammar.specs.Tokens.{parens}
 use Rattle.grammar.specs.TokenReading.{read_parens, read_too_deep}
@@ -15,6 +15,7 @@ use Rattle.grammar.proofs.Exact.{both_exact, both_heads}
 use Rattle.grammar.proofs.Nothing.{pure_exact, pure_leads}
 use Rattle.grammar.proofs.Same.{Same, same_exact, same_heads}
 use Rattle.grammar.proofs.Spaces.{no_space, sign_heads, sign_then}
+use Rattle.grammar.proofs.Starts.{StartsIn}
 
 -- no group where none may be open, and else one whose inside may have one group fewer
 abbrev pub deeper_of : {X : Type 0} → Family X → Family X

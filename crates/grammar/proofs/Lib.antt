@@ -1,3 +1,4 @@
+pub mod Starts
 pub mod Lists
 pub mod OctetKinds
 pub mod Firsts

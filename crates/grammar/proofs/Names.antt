@@ -4,7 +4,7 @@ use Rattle.std.specs.Prelude.{◌⊎◌}
 use Rattle.std.specs.List.{prefix_len}
 use Rattle.std.proofs.lemmas.List.{take-append-drop, length-append}
 use Rattle.std.proofs.lemmas.Bool.{cond_both, both_ways}
-use Rattle.grammar.specs.Octets.{AllPass, IsLonger, StartsIn}
+use Rattle.grammar.specs.Octets.{AllPass, IsLonger}
 use Rattle.grammar.specs.Tokens.{IsName, is_letter, is_name_octet, name}
 use Rattle.grammar.specs.TokenReading.{name_len, read_name}
 use Rattle.grammar.specs.TextReading.{Read, Wrong}
@@ -13,6 +13,7 @@ use Rattle.grammar.proofs.Lists.{AllPass-at, AllPass-front}
 use Rattle.grammar.proofs.OctetKinds.{Apart}
 use Rattle.grammar.proofs.Firsts.{Heads}
 use Rattle.grammar.proofs.Tokens.{IsLast, IsToken, token_heads, token_reads, token_stops}
+use Rattle.grammar.proofs.Starts.{StartsIn}
 
 name_closed : (a b : List ℕ) → IsLonger a → IsName (a ++ b) → IsName a
 name_closed [] b lo h = lo

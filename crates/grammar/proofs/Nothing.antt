@@ -2,7 +2,7 @@
 use Rattle.std.proofs.Common.{ℕ, ◌+◌, ◌-◌, Bool, List, [], ◌++◌, length, refl, sym, ap, subst, ◌∙◌, arith, inl, inr}
 use Rattle.grammar.specs.Rules as rules
 use Rattle.grammar.specs.TextReading as reading
-use Rattle.grammar.specs.Octets.{Follows, StartsIn}
+use Rattle.grammar.specs.Octets.{Follows}
 use Rattle.grammar.specs.Rules.{place, pure, ◌>>=◌}
 use Rattle.grammar.specs.TextReading.{Reader}
 use Rattle.grammar.specs.Exactness.{Family, IsExact, Reads}
@@ -10,6 +10,7 @@ use Rattle.grammar.proofs.Lists.{no_longer}
 use Rattle.grammar.proofs.OctetKinds.{Follows-within, Within}
 use Rattle.grammar.proofs.Firsts.{Heads, Leads}
 use Rattle.grammar.proofs.Exact.{both, both_exact}
+use Rattle.grammar.proofs.Starts.{StartsIn}
 
 pure_reads : {X : Type 0} (x : X) (d : ℕ) (follow : ℕ → Bool) (at : ℕ) (s : List ℕ) → Reads (λ e. rules.pure x) d follow at s x s
 pure_reads x d follow at s = record {

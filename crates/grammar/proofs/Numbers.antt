@@ -2,7 +2,7 @@
 use Rattle.std.proofs.Common.{◌≡◌, ℕ, ◌+◌, ◌-◌, ◌*◌, ◌≤◌, ◌<◌, Bool, true, false, List, [], ◌∷◌, ◌++◌, length, Ok, Err, refl, sym, ap, subst, ◌∙◌, arith, inl, inr, ltb, leb}
 use Rattle.std.specs.Prelude.{◌⊎◌, ◌&&◌}
 use Rattle.std.proofs.lemmas.Bool.{cond_both, both_ways, and_parts, and_cases, ltb-false, leb-false, leb-true, ltb-true, cases_eq}
-use Rattle.grammar.specs.Octets.{AllPass, IsLonger, StartsIn}
+use Rattle.grammar.specs.Octets.{AllPass, IsLonger}
 use Rattle.grammar.specs.Tokens.{IsNumber, is_digit, number, number_from, number_of}
 use Rattle.grammar.specs.TokenReading.{digits_from, read_number}
 use Rattle.grammar.specs.TextReading.{Read, Wrong}
@@ -11,6 +11,7 @@ use Rattle.grammar.proofs.Lists.{AllPass-at, AllPass-front, no_front}
 use Rattle.grammar.proofs.OctetKinds.{Apart, Within}
 use Rattle.grammar.proofs.Firsts.{Heads}
 use Rattle.grammar.proofs.Tokens.{IsLast, IsToken, token_heads, token_reads, token_stops}
+use Rattle.grammar.proofs.Starts.{StartsIn}
 
 pub number_from-append : (v : ℕ) (a b : List ℕ) → number_from v (a ++ b) ≡ number_from (number_from v a) b
 number_from-append v [] b = refl

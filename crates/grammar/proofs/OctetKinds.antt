@@ -2,7 +2,8 @@
 use Rattle.std.proofs.Common.{◌≡◌, ℕ, Bool, true, false, List, [], ◌∷◌, ◌++◌, sym, ap, subst, ◌∙◌, inl, inr, eqb}
 use Rattle.std.specs.Prelude.{◌⊎◌, ◌&&◌, not}
 use Rattle.std.proofs.lemmas.Bool.{eqb-true, both_ways, and_parts, or_cases, not_from_false, not-true}
-use Rattle.grammar.specs.Octets.{Follows, IsLonger, StartsAs, StartsIn, among}
+use Rattle.grammar.specs.Octets.{Follows, IsLonger, StartsAs, among}
+use Rattle.grammar.proofs.Starts.{StartsIn}
 
 -- one kind of octet is part of the other
 abbrev pub Within : (ℕ → Bool) → (ℕ → Bool) → Type 0

@@ -1,13 +1,14 @@
 -- An optional part is read exactly.
 use Rattle.std.proofs.Common.{◌≡◌, ℕ, ◌+◌, Bool, true, false, List, [], ◌∷◌, ◌++◌, length, Ok, Err, refl, sym, ap, subst, ◌∙◌, arith, inl, inr}
 use Rattle.std.proofs.lemmas.Bool.{cond_both, both_ways}
-use Rattle.grammar.specs.Octets.{Follows, IsLonger, StartsAs, StartsIn}
+use Rattle.grammar.specs.Octets.{Follows, IsLonger, StartsAs}
 use Rattle.grammar.specs.Rules.{maybe}
 use Rattle.grammar.specs.TextReading.{Deep, Fault, Read, Reader, Wrong, read_maybe}
 use Rattle.grammar.specs.Exactness.{Covers, Deeper, Family, Holds, IsExact, Reads, ReadsExactly, Stops}
 use Rattle.grammar.proofs.Lists.{no_longer, starts_behind, never_empty}
 use Rattle.grammar.proofs.OctetKinds.{Apart, Follows-starts, Follows-within, Within, not_nothing}
 use Rattle.grammar.proofs.Firsts.{Heads, Leads}
+use Rattle.grammar.proofs.Starts.{StartsIn}
 
 abbrev pub maybe_of : {X : Type 0} → X → Family X → Family X
 maybe_of x f = λ e. maybe x (f e)

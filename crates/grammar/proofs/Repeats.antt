@@ -2,7 +2,7 @@
 use Rattle.std.proofs.Common.{◌≡◌, ℕ, zero, suc, ◌+◌, ◌≤◌, ◌<◌, Bool, true, false, List, [], ◌∷◌, ◌++◌, length, Ok, Err, refl, sym, ap, subst, ◌∙◌, append_assoc, arith, inl, inr}
 use Rattle.std.proofs.lemmas.List.{length-append}
 use Rattle.std.proofs.lemmas.Bool.{cond_both, both_ways}
-use Rattle.grammar.specs.Octets.{Follows, IsLonger, StartsAs, StartsIn}
+use Rattle.grammar.specs.Octets.{Follows, IsLonger, StartsAs}
 use Rattle.grammar.specs.Rules.{BeginsTimes, SpellsTimes, many, ◌>>=◌}
 use Rattle.grammar.specs.Reading.{on_read}
 use Rattle.grammar.specs.TextReading.{Deep, Fault, Read, Reader, Wrong, read_many}
@@ -11,6 +11,7 @@ use Rattle.grammar.proofs.Lists.{no_longer, starts_behind, never_empty}
 use Rattle.grammar.proofs.OctetKinds.{Apart, Follows-starts, Follows-within, Within, not_nothing}
 use Rattle.grammar.proofs.Firsts.{Heads, Leads}
 use Rattle.grammar.proofs.Exact.{both, both_reads, both_stops, both_stops_later}
+use Rattle.grammar.proofs.Starts.{StartsIn}
 
 abbrev pub many_of : {X Y : Type 0} → (X → Y → X) → Family Y → X → Family X
 many_of join part before = λ e. many join (part e) before

@@ -1,13 +1,14 @@
 -- Tokens, of which each front with an octet is a token too, are read exactly.
 use Rattle.std.proofs.Common.{◌≡◌, ℕ, Bool, true, List, [], ◌∷◌, ◌++◌, refl, sym, ap, subst, ◌∙◌, append_assoc, arith, inl, inr}
 use Rattle.std.specs.Prelude.{◌⊎◌}
-use Rattle.grammar.specs.Octets.{Follows, IsLonger, StartsAs, StartsIn}
+use Rattle.grammar.specs.Octets.{Follows, IsLonger, StartsAs}
 use Rattle.grammar.specs.Rules.{token}
 use Rattle.grammar.specs.TextReading.{Wrong}
 use Rattle.grammar.specs.Exactness.{Reads, Stops}
 use Rattle.grammar.proofs.Lists.{GoesOn, fronts}
 use Rattle.grammar.proofs.OctetKinds.{Apart}
 use Rattle.grammar.proofs.Firsts.{Heads}
+use Rattle.grammar.proofs.Starts.{StartsIn}
 
 pub record IsToken (Is : List ℕ → Type 0) (first inner : ℕ → Bool) : Type 0 where
   pub closed : (a b : List ℕ) → IsLonger a → Is (a ++ b) → Is a

@@ -1,5 +1,5 @@
 -- When a reader reads exactly what a format spells and gives the first fault.
-use Rattle.std.specs.Prelude.{◌≡◌, ℕ, List, ◌++◌, Result, Ok, Err}
+use Rattle.std.specs.Prelude.{◌≡◌, ℕ, List, ◌++◌, Ok, Err}
 use Rattle.grammar.specs.Formats.{Format}
 use Rattle.grammar.specs.FormatReading.{Read, Reader}
 

@@ -21,11 +21,6 @@ abbrev pub IsLonger : List ℕ → Type 0
 IsLonger [] = ⊥
 IsLonger (c ∷ s) = Unit {0}
 
--- There is at least one octet, and the first is of this kind.
-abbrev pub StartsIn : (ℕ → Bool) → List ℕ → Type 0
-StartsIn test [] = ⊥
-StartsIn test (c ∷ s) = test c ≡ true
-
 -- There is no octet, or the first is of this kind.
 abbrev pub Follows : (ℕ → Bool) → List ℕ → Type 0
 Follows test [] = Unit {0}

@@ -16,12 +16,11 @@ use Rattle.net_types.specs.declared.prefix.Prefix.{Prefix}
 use Rattle.net_types.specs.declared.route.Part.{Part}
 use Rattle.prefix_classes.proofs.ChangeLemmas.{changed_prefixes_have_new_tags, other_prefixes_keep_their_tags}
 use Rattle.prefix_classes.proofs.MemberLemmas.{has_member, some_member}
-use Rattle.prefix_classes.proofs.PlacedLemmas.{is_sig_itself, same_sig}
+use Rattle.prefix_classes.proofs.PlacedLemmas.{is_sig_itself, same_sig, is_sig}
 use Rattle.prefix_classes.specs.Classes.{members}
 use Rattle.prefix_classes.specs.Laws.{AreRising, Change}
 use Rattle.prefix_classes.specs.MergeLaws.{sig_at}
 use Rattle.prefix_classes.specs.Merging.{IsLeastTag, IsMergeOf, IsMove, as_change, moved, used_sig}
-use Rattle.prefix_classes.specs.Placed.{is_sig}
 
 pub some_is : {A : Type 0} (o : Option A) (x y : A) → o ≡ Some x → o ≡ Some y → x ≡ y
 some_is o x y e f = cc

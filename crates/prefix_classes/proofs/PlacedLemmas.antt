@@ -1,14 +1,19 @@
 -- What ties in the order of signatures is one signature.
-use Rattle.std.proofs.Common.{◌≡◌, ◌∙◌, true, false, List, sym, ap, refl}
+use Rattle.std.proofs.Common.{◌≡◌, ◌∙◌, Bool, true, false, List, sym, ap, refl}
 use Rattle.std.specs.Prelude.{Option, Some, None}
 use Rattle.std.specs.FinMap.{IsAntisymmetric, nat_cmp-IsAntisymmetric, slice_cmp-IsAntisymmetric}
-use Rattle.std.specs.Ordering.{bool_cmp, nat_cmp, ordering_then}
+use Rattle.std.specs.Ordering.{bool_cmp, eq_by_cmp, nat_cmp, ordering_then}
 use Rattle.std.specs.Cmp.Lexicographic.{slice_cmp}
 use Rattle.std.specs.declared.cmp.Ordering.TheVariants.{Equal}
 use Rattle.net_types.proofs.TieLemmas.{first_tie, second_tie, ties_itself, same_from_tie}
 use Rattle.net_types.specs.declared.route.Part.{Part}
-use Rattle.prefix_classes.specs.Placed.{is_sig, offer_cmp, part_cmp, sig_cmp}
+use Rattle.prefix_classes.specs.Placed.{offer_cmp, part_cmp, sig_cmp}
 use Rattle.prefix_classes.specs.PlacedLaws.{sigs_total}
+
+-- a signature that may be absent is this one
+abbrev pub is_sig : List Part → Option (List Part) → Bool
+is_sig sig None = false
+is_sig sig (Some other) = eq_by_cmp sig_cmp sig other
 
 -- ---- the order
 

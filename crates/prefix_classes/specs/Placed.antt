@@ -22,11 +22,6 @@ part_cmp = then_cmp (on (λ q. q.sender.0) nat_cmp) (then_cmp (on (λ q. q.best.
 abbrev pub sig_cmp : List Part → List Part → Ordering
 sig_cmp = slice_cmp part_cmp
 
--- a signature that may be absent is this one
-abbrev pub is_sig : List Part → Option (List Part) → Bool
-is_sig sig None = false
-is_sig sig (Some other) = eq_by_cmp sig_cmp sig other
-
 -- the first of the tags with a signature
 abbrev pub first_with : List Part → List (Tag × List Part) → Option Tag
 first_with sig [] = None

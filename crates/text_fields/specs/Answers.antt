@@ -9,10 +9,6 @@ use Rattle.text_fields.specs.declared.fault.WrongOctet.{WrongOctet}
 abbrev pub cause_of : WrongOctet → Cause Fault
 cause_of e = Met (Wrong e.at)
 
--- a fault is that of the reading
-abbrev pub Fails : {Y : Type 0} → WrongOctet → Result Y Fault → Type 0
-Fails e read = reading.Tells (cause_of e) read
-
 -- what was answered, seen by view, is what reading gives
 abbrev pub Gives : {X Y : Type 0} → (X → Y) → Result X WrongOctet → Result Y Fault → Type 0
 Gives view result read = reading.Gives cause_of view result read

@@ -1,5 +1,5 @@
 -- What the receivers' rules give to the headers of a packet.
-use Rattle.std.specs.Prelude.{Bool, List, [], ◌∷◌, if◌then◌else◌}
+use Rattle.std.proofs.Common.{Bool, cond, List, [], ◌∷◌}
 use Rattle.classifier.specs.Items.{Item, add_all}
 use Rattle.classifier.specs.Meaning.{given}
 use Rattle.net_types.specs.declared.address.Pid.{Pid}
@@ -10,4 +10,4 @@ use Rattle.block_build.specs.declared.receive.Receiver.{Receiver}
 -- the items beside those of each receiver that some items send a packet to
 abbrev pub gathered : Bool → Pid → List Item → Headers → List Item → List Receiver → List Item
 gathered left best items h kept [] = kept
-gathered left best items h kept (r ∷ rs) = gathered left best items h (if goes_to left best items r.who then add_all kept (given r.lines h) else kept) rs
+gathered left best items h kept (r ∷ rs) = gathered left best items h (cond (goes_to left best items r.who) (add_all kept (given r.lines h)) kept) rs
