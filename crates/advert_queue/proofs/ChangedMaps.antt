@@ -4,16 +4,14 @@ use Rattle.std.specs.Prelude.{Option, Some, None, unwrap_or}
 use Rattle.std.specs.Ordering.{eq_by_cmp}
 use Rattle.std.specs.FinMap.{FinMap, get, get-insert, get-remove, same_map}
 use Rattle.std.specs.FinMap.Entries.{find, find-put, put, is_sorted, below_all}
-use Rattle.std.proofs.lemmas.Bool.{and_from, and_parts, eqb-true}
+use Rattle.std.proofs.lemmas.Bool.{and_parts}
 use Rattle.events.specs.Pending.{same_entry, with_news}
-use Rattle.events.specs.Tags.{same_tag}
 use Rattle.events.specs.declared.Entry.{Entry}
-use Rattle.net_types.proofs.EqualLemmas.{IsEqualityTest, from_itself, option_test, optional_test}
+use Rattle.net_types.proofs.EqualLemmas.{IsEqualityTest, option_test}
 use Rattle.net_types.proofs.OrderLemmas.{prefixes_total, prefix_tie}
 use Rattle.net_types.proofs.PlaceLemmas.{put_sorted, without_sorted}
-use Rattle.net_types.proofs.SameLemmas.{attrs_itself, nat_itself}
 use Rattle.net_types.proofs.TieLemmas.{prefix_cmp-IsAntisymmetric, tie_Equal}
-use Rattle.net_types.specs.Attributes.{same_attrs, same_option}
+use Rattle.net_types.specs.Attributes.{same_option}
 use Rattle.net_types.specs.Keys.{prefix_cmp}
 use Rattle.net_types.specs.declared.prefix.Prefix.{Prefix}
 use Rattle.ordered_map.specs.Entries.{without}

@@ -56,7 +56,6 @@ cube_eq_is a b = elim (cases_Bool (same_cube a b)) [
 
 is_there-push : (xs : List Line) (y : Line) (c : Cube) → is_there (xs ++ y ∷ []) c ≡ (is_there xs c || same_cube y.cube c)
 is_there-push [] y c = or-false (same_cube y.cube c)
-
 is_there-push (x ∷ xs) y c = ap (λ b. same_cube x.cube c || b) (is_there-push xs y c) ∙ sym (or_regroup (same_cube x.cube c) (is_there xs c) (same_cube y.cube c))
   where
     or_regroup : (a b c : Bool) → ((a || b) || c) ≡ (a || (b || c))

@@ -1,6 +1,6 @@
 -- What holds of every state that a legal run reaches.
 use Rattle.std.proofs.Common.{◌≡◌, ℕ, zero, suc, ◌+◌, ◌<◌, Bool, true, false, cond, nat_eq, List, [], ◌∷◌, ◌++◌, length, map, sym, ap, subst, ◌∙◌, refl, arith, sum_by, inl, inr}
-use Rattle.std.specs.Prelude.{◌&&◌, ◌-◌, nat_lt, take, Option, Some, None, Result, Ok, Err, is_some, slice_get, slice_set, find, unwrap_or}
+use Rattle.std.specs.Prelude.{◌&&◌, ◌-◌, nat_lt, take, Option, Some, None, Result, Ok, Err, is_some, slice_get, slice_set, find}
 use Rattle.std.specs.FinMap.{empty, get-empty}
 use Rattle.std.specs.List.{position_from}
 use Rattle.std.specs.Option.{option_map, option_map_or}

@@ -1,11 +1,10 @@
 -- The test of entries decides whether they are equal.
-use Rattle.std.proofs.Common.{◌≡◌, true, ap, ◌∙◌}
+use Rattle.std.proofs.Common.{◌≡◌, true, ap}
 use Rattle.std.specs.Prelude.{Some, unwrap_or}
 use Rattle.std.proofs.lemmas.Bool.{and_from, and_parts, eqb-true}
 use Rattle.net_types.proofs.EqualLemmas.{IsEqualityTest, from_itself, optional_test}
 use Rattle.net_types.proofs.SameLemmas.{attrs_itself, nat_itself}
 use Rattle.net_types.specs.Attributes.{same_attrs}
-use Rattle.net_types.specs.declared.route.Attrs.{Attrs}
 use Rattle.events.specs.Pending.{same_entry}
 use Rattle.events.specs.Tags.{same_tag}
 use Rattle.events.specs.declared.Entry.{Entry}

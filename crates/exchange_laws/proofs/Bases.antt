@@ -4,7 +4,6 @@ use Rattle.std.proofs.Common.{◌≡◌, ℕ, zero, suc, Bool, true, false, cond
 use Rattle.std.specs.Prelude.{Option, Some, None, is_some, slice_set, unwrap_or}
 use Rattle.std.specs.FinMap.{get, keys}
 use Rattle.std.specs.Option.{option_and_then, option_map, option_map_or}
-use Rattle.std.specs.Ordering.{eq_by_cmp}
 use Rattle.std.proofs.lemmas.Bool.{eq-eqb, eqb-true}
 use Rattle.events.specs.After.{trimmed_kept}
 use Rattle.events.specs.Fits.{is_receivers, is_senders, none_rebuilt}
@@ -23,7 +22,7 @@ use Rattle.exchange_laws.specs.Whole.{IsWhole, KeptAreWhole}
 use Rattle.net_types.proofs.FindLemmas.{find-IsFound}
 use Rattle.net_types.proofs.OrderLemmas.{tags_total}
 use Rattle.net_types.proofs.SetLemmas.{map-Member}
-use Rattle.net_types.proofs.TieLemmas.{same_from_tie, tag_cmp-IsAntisymmetric, tag_tie}
+use Rattle.net_types.proofs.TieLemmas.{tag_tie}
 use Rattle.net_types.specs.Answers.{Policies, is_offered, policy_of}
 use Rattle.net_types.specs.Exports.{pid_of}
 use Rattle.net_types.specs.Keys.{tag_cmp}

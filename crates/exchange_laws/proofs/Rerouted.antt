@@ -18,7 +18,7 @@ use Rattle.exchange_laws.specs.Fresh.{HasEnoughTags}
 use Rattle.exchange_laws.specs.Rerouting.{is_rerouting}
 use Rattle.exchange_laws.specs.Rules.{IsDeclaredAlike}
 use Rattle.net_types.proofs.OrderLemmas.{routes_total}
-use Rattle.net_types.proofs.TieLemmas.{route_cmp-IsAntisymmetric, same_from_tie, route_tie}
+use Rattle.net_types.proofs.TieLemmas.{route_cmp-IsAntisymmetric, route_tie}
 use Rattle.net_types.specs.Changes.{announced_by, announced_with, withdrawn}
 use Rattle.net_types.specs.Changes as changes
 use Rattle.net_types.specs.ExportReading.{rules_of_text}

@@ -1,5 +1,5 @@
 -- How many rules there are once the rules of pairs that had none are put in.
-use Rattle.std.proofs.Common.{◌≡◌, ◌+◌, Bool, true, false, T, List, [], ◌∷◌, cond, length, sum_by, ap, ◌∙◌, refl, arith, inl, inr}
+use Rattle.std.proofs.Common.{◌≡◌, ◌+◌, List, [], ◌∷◌, cond, length, sum_by, ap, ◌∙◌, refl, arith, inl, inr}
 use Rattle.std.specs.Prelude.{Some, None, unwrap_or}
 use Rattle.std.specs.FinMap.{entries, entries-insert, entries_sorted, get, get-entries, get-insert, insert}
 use Rattle.std.specs.FinMap.Entries.{find}

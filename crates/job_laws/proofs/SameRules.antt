@@ -4,7 +4,6 @@ use Rattle.std.specs.Cmp.Lexicographic.{pointwise, pointwise_decides}
 use Rattle.std.specs.FinMap.{IsAntisymmetric, nat_cmp-IsAntisymmetric}
 use Rattle.std.specs.Option.{option_cmp}
 use Rattle.std.specs.Ordering.{eq_by_cmp, nat_cmp, ordering_then}
-use Rattle.std.specs.declared.cmp.Ordering.{Ordering}
 use Rattle.std.proofs.lemmas.Bool.{and_from, and_parts}
 use Rattle.events.specs.Sound.{same_rule}
 use Rattle.net_types.proofs.ActionOrder.{actions_total, option_cmp-IsAntisymmetric}

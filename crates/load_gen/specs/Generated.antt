@@ -1,6 +1,6 @@
 -- Generated lines (this exchange's own rule): an exchange of eight participants with a port each, and then lines that are
 -- drawn from the seed.
-use Rattle.std.specs.Prelude.{ℕ, ◌+◌, ◌-◌, ◌*◌, ◌/◌, ◌%◌, nat_eq, nat_le, false, List, [], ◌∷◌, ◌++◌, codes, flat_map, replicate, sum, Some, None, if◌then◌else◌}
+use Rattle.std.specs.Prelude.{ℕ, ◌+◌, ◌-◌, ◌*◌, ◌%◌, nat_eq, nat_le, false, List, [], ◌∷◌, ◌++◌, codes, flat_map, replicate, sum, Some, None, if◌then◌else◌}
 use Rattle.std.specs.Fmt.{decimal}
 use Rattle.events.specs.Text.{hex_text}
 use Rattle.net_types.specs.FirstBits.{first_bits_of}

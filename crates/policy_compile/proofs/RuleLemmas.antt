@@ -1,5 +1,5 @@
 -- The rules of cells, each with what the policy makes there, do what the policy does.
-use Rattle.std.proofs.Common.{◌≡◌, ℕ, Bool, true, false, cond, Option, Some, None, unwrap_or, List, [], ◌∷◌, ◌++◌, map, refl, inl, inr, sym, ap, ◌∙◌, subst}
+use Rattle.std.proofs.Common.{◌≡◌, ℕ, true, cond, Option, Some, None, unwrap_or, List, [], ◌∷◌, ◌++◌, map, refl, inl, inr, sym, ap, ◌∙◌, subst}
 use Rattle.std.specs.Option.{option_or}
 use Rattle.std.proofs.lemmas.Bool.{cases_Bool, false≢true, false_from_ne_true}
 use Rattle.net_types.specs.declared.address.Pid.{Pid}
@@ -19,8 +19,7 @@ use Rattle.net_types.proofs.MeetLemmas.{IsMeet-everything, IsMeet-member, IsMeet
 use Rattle.classifier.specs.declared.classifier.Classifier.{Classifier}
 use Rattle.classifier.specs.declared.line.Line.{Line}
 use Rattle.classifier.specs.Lines.{add_lines}
-use Rattle.classifier.specs.Meaning.{carried, cubes_of, decide, Follows}
-use Rattle.classifier.specs.Meaning as lines
+use Rattle.classifier.specs.Meaning.{carried, cubes_of, decide}
 use Rattle.classifier.specs.Classifiers.{lines_of, meaning}
 use Rattle.classifier.specs.Compiled.{IsCompiled}
 use Rattle.classifier.proofs.DecideLemmas.{decide-add_lines}

@@ -1,10 +1,10 @@
 -- A key below all keys of entries isn't among them, and what a removal does to entries and to a map.
-use Rattle.std.proofs.Common.{◌≡◌, Bool, true, false, cond, ◌&&◌, not, T, List, [], ◌∷◌, sym, ap, ◌∙◌, refl}
+use Rattle.std.proofs.Common.{◌≡◌, true, cond, ◌&&◌, not, List, [], ◌∷◌, sym, ap, ◌∙◌, refl}
 use Rattle.std.specs.Prelude.{Some, None}
 use Rattle.std.specs.Ordering.{eq_by_cmp, is_lt, is_eq}
 use Rattle.std.specs.Cmp.{IsTotalOrder, alike_right, eq_by_cmp_equiv}
 use Rattle.std.specs.declared.cmp.Ordering.{Ordering}
-use Rattle.std.specs.declared.cmp.Ordering.TheVariants.{Less, Equal, Greater}
+use Rattle.std.specs.declared.cmp.Ordering.TheVariants.{Less, Equal}
 use Rattle.std.specs.FinMap.{FinMap, remove, entries, entries_sorted, from_sorted, entries-from_sorted, same_entries_map, IsAntisymmetric}
 use Rattle.std.specs.FinMap.Entries.{find, find-where_key, is_sorted, below_all}
 use Rattle.std.proofs.lemmas.Bool.{and_parts}

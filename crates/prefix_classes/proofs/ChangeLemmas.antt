@@ -1,9 +1,7 @@
 -- What becomes of tags and of the numbers of members after changes at different prefixes.
 use Rattle.std.proofs.Common.{◌≡◌, ◌+◌, true, false, cond, List, [], ◌∷◌, map, inl, inr, sym, ap, ◌∙◌, refl, arith}
 use Rattle.std.specs.Prelude.{Option, Some, None, unwrap_or}
-use Rattle.std.specs.Ordering.{eq_by_cmp, is_eq, is_lt, ordering_reverse}
-use Rattle.std.specs.declared.cmp.Ordering.{Ordering}
-use Rattle.std.specs.declared.cmp.Ordering.TheVariants.{Less, Equal, Greater}
+use Rattle.std.specs.Ordering.{eq_by_cmp, is_eq, ordering_reverse}
 use Rattle.std.specs.FinMap.{FinMap, get, get-insert, get-remove, find}
 use Rattle.std.proofs.lemmas.Bool.{false_from_ne_true}
 use Rattle.net_types.proofs.OrderLemmas.{prefixes_total}

@@ -1,6 +1,6 @@
 -- The tags of a grouping as a map, when one is put in and when the least one of its signature is asked for.
-use Rattle.std.proofs.Common.{◌≡◌, ◌∙◌, true, List, sym, ap, refl}
-use Rattle.std.specs.Prelude.{Option, Some, None, is_some}
+use Rattle.std.proofs.Common.{◌≡◌, ◌∙◌, true, List, sym, ap}
+use Rattle.std.specs.Prelude.{Some, is_some}
 use Rattle.std.specs.FinMap.{entries, from_sorted, get}
 use Rattle.std.specs.FinMap.Entries.{find, is_sorted}
 use Rattle.net_types.proofs.PlaceLemmas.{entries_of_sorted, get_sorted}

@@ -1,6 +1,6 @@
 -- The map of a trie's entries, and what holds of a map's parts after a prefix was put in or taken out.
 use Rattle.std.proofs.Common.{◌≡◌, ℕ, ◌+◌, ◌-◌, ◌<◌, ◌≤◌, Bool, true, false, cond, Option, List, [], ◌∷◌, length, map, inl, inr, ◌⊎◌, IfSome, sym, ap, subst, ◌∙◌, refl, arith}
-use Rattle.std.specs.Prelude.{T, Some, None, is_some, nat_lt}
+use Rattle.std.specs.Prelude.{Some, None, is_some, nat_lt}
 use Rattle.std.specs.Borrow.{Bor}
 use Rattle.std.specs.Option.{option_map, unwrap_or}
 use Rattle.std.specs.Ordering.{is_eq}

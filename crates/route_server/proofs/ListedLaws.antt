@@ -1,15 +1,11 @@
 -- What is listed of each participant.
-use Rattle.std.proofs.Common.{◌≡◌, ℕ, zero, suc, ◌<◌, Bool, true, false, cond, eqb, List, [], ◌∷◌, ◌++◌, map, length, Option, Some, sym, ap, subst, ◌∙◌, refl, inl, inr, arith, IsPermutation}
+use Rattle.std.proofs.Common.{◌≡◌, ℕ, zero, suc, ◌<◌, Bool, true, false, cond, eqb, List, [], ◌∷◌, ◌++◌, map, length, Option, Some, sym, ap, subst, ◌∙◌, refl, inl, inr, arith}
 use Rattle.std.specs.Prelude.{is_some, slice_get, slice_set}
 use Rattle.std.specs.FinMap.{FinMap, empty, get, get-empty}
-use Rattle.std.specs.List.{dedup}
-use Rattle.std.specs.List.Sorted.{IsSorted}
-use Rattle.std.specs.Ordering.{eq_by_cmp}
 use Rattle.std.specs.Option.{option_and_then, option_map_or}
 use Rattle.std.proofs.lemmas.Bool.{and_parts, eqb-true}
-use Rattle.std.proofs.lemmas.Bool.Decides.{nat_tests}
 use Rattle.net_types.proofs.OrderLemmas.{prefixes_total, prefix_tie}
-use Rattle.net_types.proofs.OrderedLemmas.{deduped_is, ordered_same, ordered_rises}
+use Rattle.net_types.proofs.OrderedLemmas.{ordered_same, ordered_rises}
 use Rattle.net_types.proofs.PrefixLemmas.{prefix_ext}
 use Rattle.net_types.specs.Exports.{same_prefix}
 use Rattle.net_types.specs.Keys.{RouteKey, prefix_cmp, route_cmp}

@@ -1,10 +1,10 @@
 -- Which prefixes are given a tag, and which share one.
 use Rattle.events.proofs.Candidates.{first_Member}
 use Rattle.events.proofs.Drained.{some_cond}
-use Rattle.std.proofs.Common.{◌≡◌, Bool, true, false, not, List, [], ◌∷◌, filter, ap, sym, subst, ◌∙◌, refl, inl, inr}
-use Rattle.std.specs.Prelude.{Option, Some, None}
+use Rattle.std.proofs.Common.{◌≡◌, Bool, true, false, not, List, filter, ap, sym, subst, ◌∙◌, refl, inl, inr}
+use Rattle.std.specs.Prelude.{Option, Some}
 use Rattle.std.specs.FinMap.{FinMap, get}
-use Rattle.std.specs.List.{cons_option, filter_map, list_any}
+use Rattle.std.specs.List.{filter_map, list_any}
 use Rattle.std.specs.Ordering.{eq_by_cmp}
 use Rattle.events.proofs.Reached.{runs_sound, step_sound}
 use Rattle.events.specs.After.{after, least_tag, merged, next}

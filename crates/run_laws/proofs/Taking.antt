@@ -4,7 +4,7 @@ use Rattle.std.specs.Prelude.{Option, Some, None, MatchOption, is_some, slice_ge
 use Rattle.std.specs.FinMap.{FinMap, contains_key-keys, empty, get, get-insert, get-remove, keys}
 use Rattle.std.specs.List.{list_any}
 use Rattle.std.specs.Ordering.{eq_by_cmp}
-use Rattle.std.proofs.lemmas.Bool.{and_from, and_parts, eqb-true, false_from_ne_true}
+use Rattle.std.proofs.lemmas.Bool.{false_from_ne_true}
 use Rattle.events.proofs.Drains.{get_set}
 use Rattle.events.proofs.Reached.{IsDeclared, declared_pid, runs_declared}
 use Rattle.events.specs.After.{next, next_by, running, settled, with_known, with_told}
@@ -13,19 +13,17 @@ use Rattle.events.specs.Legal.{state_after}
 use Rattle.events.specs.Pending.{pending, same_entry, with_all_news, with_news}
 use Rattle.events.specs.Refusals.{refusal}
 use Rattle.events.specs.State.{State, present, told_to}
-use Rattle.events.specs.Tags.{same_tag}
 use Rattle.events.specs.declared.Entry.{Entry}
 use Rattle.events.specs.declared.Event.{Event}
 use Rattle.events.specs.declared.Event.TheVariants.{Drain, Take}
 use Rattle.events.specs.declared.Head.TheVariants.{Fine}
 use Rattle.events.specs.declared.Reply.{Reply}
-use Rattle.net_types.proofs.EqualLemmas.{IsEqualityTest, from_itself, option_test, optional_test}
+use Rattle.net_types.proofs.EqualLemmas.{option_test}
 use Rattle.net_types.proofs.OrderLemmas.{prefix_tie, prefixes_total}
 use Rattle.net_types.proofs.OrderedLemmas.{any_member, member_any, ordered_same}
 use Rattle.net_types.proofs.RisingLemmas.{Member-filter}
-use Rattle.net_types.proofs.SameLemmas.{attrs_itself, nat_itself}
 use Rattle.net_types.proofs.SetLemmas.{Member-append_left, Member-append_right}
-use Rattle.net_types.specs.Attributes.{same_attrs, same_option}
+use Rattle.net_types.specs.Attributes.{same_option}
 use Rattle.net_types.specs.Exports.{pid_of}
 use Rattle.net_types.specs.Keys.{prefix_cmp}
 use Rattle.net_types.specs.Maps.{ordered}
@@ -33,7 +31,7 @@ use Rattle.net_types.specs.Sets.{Member}
 use Rattle.net_types.specs.declared.address.Pid.{Pid}
 use Rattle.net_types.specs.declared.prefix.Prefix.{Prefix}
 use Rattle.run_laws.specs.Taking.{TakesTellTheFirst, TellsOf}
-use Rattle.events.proofs.SameEntries.{entry_test, same_attributes}
+use Rattle.events.proofs.SameEntries.{entry_test}
 
 -- ---- a map with news
 

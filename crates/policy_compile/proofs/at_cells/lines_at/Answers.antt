@@ -1,4 +1,4 @@
-use Rattle.std.proofs.Common.{◌∷◌, [], ◌++◌, ◌+◌, take, refl, sym, ap, ◌∙◌, subst}
+use Rattle.std.proofs.Common.{◌∷◌, [], ◌++◌, take, refl, sym, subst}
 use Rattle.policy_syntax.specs.Views.{policy_of}
 use Rattle.policy_compile.specs.Paths.{AreAt}
 use Rattle.policy_compile.proofs.ApartLemmas.{took-one}

@@ -1,4 +1,4 @@
-use Rattle.std.proofs.Common.{◌∷◌, [], ◌++◌, ◌+◌, take, refl, inl, sym, ap, ◌∙◌, subst}
+use Rattle.std.proofs.Common.{take, refl, inl, sym, ap, ◌∙◌, subst}
 use Rattle.std.proofs.lemmas.List.{take_more}
 use Rattle.net_types.specs.Headers.{no_change}
 use Rattle.net_types.specs.declared.headers.Loc.TheVariants.{Nowhere}

@@ -1,6 +1,5 @@
 -- What is put into the entries is put into the map.
-use Rattle.std.proofs.Common.{ap, ◌∙◌, ◌≤◌, ◌+◌, Bool, true, false, cond, arith}
-use Rattle.std.specs.Prelude.{is_some}
+use Rattle.std.proofs.Common.{ap, ◌∙◌}
 use Rattle.std.specs.FinMap.{from_sorted, insert}
 use Rattle.net_types.proofs.OrderLemmas.{ips_total}
 use Rattle.net_types.proofs.PlaceLemmas.{insert_sorted}

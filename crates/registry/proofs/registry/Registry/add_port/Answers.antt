@@ -1,4 +1,4 @@
-use Rattle.std.proofs.Common.{◌≡◌, sym, ◌∙◌, true, false, true≢false}
+use Rattle.std.proofs.Common.{◌≡◌, sym, ◌∙◌, false, true≢false}
 use Rattle.registry.specs.Registered.{is_taken}
 use Rattle.registry.proofs.registry.Registry.add_port.Goals as goal
 use Rattle.registry.proofs.registry.Registry.add_port.Goals.{in-Ok, in-Err}
