@@ -2,58 +2,25 @@
 
 ghost use Rattle.std.specs.Prelude.{◌≡◌, IfOk};
 ghost use Rattle.std.specs.Cmp.Lexicographic.{pointwise};
-ghost use Rattle.std.specs.Ordering.{eq_by_cmp};
 ghost use Rattle.events.specs.Fits.{flows_of};
 ghost use Rattle.events.specs.Sound.{same_rule};
 ghost use Rattle.exchange_laws.specs.Listed.{is_pair_before};
 ghost use Rattle.job_end.specs.Rebuilt.{blocks_of, changed_pairs, has_others};
-ghost use Rattle.net_types.specs.Actions.{action_cmp, assign_cmp};
 ghost use Rattle.net_types.specs.Sets.{IsRising, union_over};
 
 use block_build::Blocks;
 use cube::within;
 use events::Flows;
 use fast_path::{is_among, push_flows};
-use net_types::{Action, Assign, Items, Memory, Pair, Pairs, Rule};
+use net_types::{Items, Memory, Pair, Pairs, Rule, same_items};
 use recompile::Built;
 use std::alloc::Global;
-
-/// Whether two assignments are the same.
-fn same_set(one: &Assign, other: &Assign) -> bool
-    ensures { result ≡ eq_by_cmp assign_cmp one.now other.now }
-{
-    let addresses = one.src == other.src && one.dst == other.dst;
-    let ports = one.sport == other.sport && one.dport == other.dport;
-    addresses && ports
-}
-
-/// Whether two actions are the same.
-fn same_action(one: &Action, other: &Action) -> bool
-    ensures { result ≡ eq_by_cmp action_cmp one.now other.now }
-{
-    one.port.0 == other.port.0 && same_set(&one.set, &other.set)
-}
-
-/// Whether the actions are the same, one by one.
-fn same_actions(one: &[Action], other: &[Action]) -> bool
-    ensures { result ≡ pointwise (eq_by_cmp action_cmp) one.now other.now }
-{
-    if one.len() != other.len() {
-        return false;
-    }
-    for i in 0..one.len() {
-        if !same_action(&one[i], &other[i]) {
-            return false;
-        }
-    }
-    true
-}
 
 /// Whether two rules are the same.
 fn same_rule(one: &Rule, other: &Rule) -> bool
     ensures { result ≡ same_rule one.now other.now }
 {
-    let actions = same_actions(one.actions.items(), other.actions.items());
+    let actions = same_items(one.actions.items(), other.actions.items());
     within(&one.cube, &other.cube) && (within(&other.cube, &one.cube) && actions)
 }
 

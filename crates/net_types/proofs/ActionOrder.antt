@@ -2,7 +2,7 @@
 use Rattle.std.proofs.Common.{◌≡◌, true, List, IsPermutation, ap, refl}
 use Rattle.std.specs.Prelude.{Some, None}
 use Rattle.std.specs.Cmp.{IsTotalOrder, nat_cmp_total}
-use Rattle.std.specs.Cmp.Lexicographic.{options_total}
+use Rattle.std.specs.Cmp.Lexicographic.{options_total, pointwise, pointwise_decides}
 use Rattle.std.specs.FinMap.{IsAntisymmetric, nat_cmp-IsAntisymmetric}
 use Rattle.std.specs.List.{dedup}
 use Rattle.std.specs.List.Sorted.{IsSorted}
@@ -10,9 +10,10 @@ use Rattle.std.specs.Option.{option_cmp}
 use Rattle.std.specs.Ordering.{eq_by_cmp, nat_cmp, ordering_then}
 use Rattle.std.specs.declared.cmp.Ordering.{Ordering}
 use Rattle.std.proofs.lemmas.Cmp.{on_total, then_total}
+use Rattle.net_types.proofs.EqualLemmas.{IsEqualityTest, from_itself}
 use Rattle.net_types.proofs.OrderedLemmas.{ordered_same, ordered_rises, deduped_is}
 use Rattle.net_types.proofs.RisingLemmas.{before}
-use Rattle.net_types.proofs.TieLemmas.{same_from_tie, first_tie, second_tie, ip_cmp-IsAntisymmetric}
+use Rattle.net_types.proofs.TieLemmas.{same_from_tie, first_tie, second_tie, ip_cmp-IsAntisymmetric, ties_itself}
 use Rattle.net_types.specs.Maps.{ordered}
 use Rattle.net_types.specs.Sets.{IsRising, SameMembers}
 use Rattle.net_types.specs.declared.headers.Assign.{Assign}
@@ -55,11 +56,15 @@ assign_cmp-IsAntisymmetric a b e =
       dport = option_cmp-IsAntisymmetric nat_cmp nat_cmp-IsAntisymmetric a.dport b.dport (second_tie sports dports in_ports) i;
     }
 
-action_cmp-IsAntisymmetric : IsAntisymmetric action_cmp
+pub action_cmp-IsAntisymmetric : IsAntisymmetric action_cmp
 action_cmp-IsAntisymmetric a b e = λ i. record {
   port = record { 0 = nat_cmp-IsAntisymmetric a.port.0 b.port.0 (first_tie (nat_cmp a.port.0 b.port.0) (assign_cmp a.set b.set) e) i };
   set = assign_cmp-IsAntisymmetric a.set b.set (second_tie (nat_cmp a.port.0 b.port.0) (assign_cmp a.set b.set) e) i;
 }
+
+-- the test of lists of actions decides whether they are equal
+pub actions_test : IsEqualityTest (pointwise (eq_by_cmp action_cmp))
+actions_test = pointwise_decides (from_itself (eq_by_cmp action_cmp) (same_from_tie action_cmp action_cmp-IsAntisymmetric) (ties_itself actions_total))
 
 actions_tie : (a b : Action) → eq_by_cmp action_cmp a b ≡ true → a ≡ b
 actions_tie = same_from_tie action_cmp action_cmp-IsAntisymmetric

@@ -1,6 +1,7 @@
 //! The actions of a rule.
 
 ghost use Rattle.std.specs.Prelude.{◌≡◌, [], IfOk, OnOk, OnErr, List};
+ghost use Rattle.std.specs.Ordering.{eq_by_cmp};
 ghost use Rattle.net_types.specs.Actions.{action_cmp, assign_cmp, with_action};
 ghost use Rattle.net_types.specs.Maps.{ordered};
 ghost use Rattle.net_types.specs.declared.actions.Action.{Action};
@@ -9,6 +10,7 @@ use crate::address::PortNo;
 use crate::copy::TryCopy;
 use crate::headers::Assign;
 use crate::memory::Memory;
+use crate::same::Same;
 use crate::shared_items::SharedItems;
 use std::alloc::Global;
 use std::cmp::Ordering;
@@ -19,6 +21,23 @@ use std::marker::Model;
 pub struct Action {
     pub port: PortNo,
     pub set: Assign,
+}
+
+/// Whether two assignments are the same.
+fn same_set(one: &Assign, other: &Assign) -> bool
+    ensures { result ≡ eq_by_cmp assign_cmp one.now other.now }
+{
+    let addresses = one.src == other.src && one.dst == other.dst;
+    let ports = one.sport == other.sport && one.dport == other.dport;
+    addresses && ports
+}
+
+impl Same for Action {
+    ghost same = { eq_by_cmp action_cmp };
+
+    fn same(&self, other: &Action) -> bool {
+        self.port.0 == other.port.0 && same_set(&self.set, &other.set)
+    }
 }
 
 /// The actions of a rule: each once, by port and then by srcip, dstip, srcport and dstport, where an absent field comes

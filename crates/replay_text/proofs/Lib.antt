@@ -5,3 +5,4 @@ pub mod Formed
 pub mod Utf8
 pub mod HexFields
 pub mod LedFields
+pub mod RuleLines

@@ -5,7 +5,8 @@ mod fields;
 mod lines;
 mod pieces;
 mod replies;
+mod reply_text;
 mod rules;
 
 pub use lines::read_line;
-pub use replies::write_reply;
+pub use reply_text::{ReplyText, write_reply};

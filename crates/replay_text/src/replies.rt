@@ -1,15 +1,12 @@
-//! Writing a reply.
-ghost use Rattle.std.specs.Prelude.{◌≡◌, ◌++◌, IfOk, OnOk, codes, string_bytes, flat_map};
-ghost use Rattle.events.specs.Text.{reply_text, head_text, kind_word, refusal_text, tag_text, drop_text, end_line, flow_text, add_text, rule_line, hex_text, advert_text, ask_text, exchange_text, frame_text};
+//! Writing what a reply says, line by line.
+ghost use Rattle.std.specs.Prelude.{◌≡◌, ◌++◌, OnOk, codes, string_bytes, flat_map};
+ghost use Rattle.events.specs.Text.{head_text, kind_word, refusal_text, tag_text, drop_text, end_line, flow_text, add_text, rule_line, hex_text, advert_text, ask_text, exchange_text, frame_text};
 ghost use Rattle.replay_text.specs.Fields.{pair_rule_text};
+ghost use Rattle.replay_text.specs.ReplyTexts.{before_rules, behind_rules};
 
-use super::rules::{push_address, push_prefix, push_rule};
+use super::rules::{LastActions, push_address, push_prefix, push_rule};
 use events::{Event, Exchange, Flow, Frame, Head, Refusal, Reply, TagChange};
-use net_types::{Bytes, Items, Kind, Memory, Pair};
-use std::alloc::Global;
-
-/// The room that a text starts with, in octets: most replies fit in it, so that their texts never move.
-const ROOM: usize = 512;
+use net_types::{Bytes, Kind, Memory, Pair};
 
 /// How a policy breaks isolation.
 fn kind_word(kind: Kind) -> &'static str
@@ -153,48 +150,56 @@ fn push_drops(text: &mut String, pairs: &[Pair]) -> Result<(), Memory>
 }
 
 /// Writes a pair and a rule behind the first word of a line, and the line's end.
-fn push_pair_rule(text: &mut String, flow: &Flow) -> Result<(), Memory>
+fn push_pair_rule<'a>(
+    text: &mut String,
+    flow: &'a Flow,
+    last: &mut Option<LastActions<'a>>,
+) -> Result<(), Memory>
     ensures { OnOk result (string_bytes text.new ≡ string_bytes text.old ++ pair_rule_text flow.now) }
 {
     let port = flow.pair.port.0;
     let tag = flow.pair.tag.0;
     write!(text, "{port} {tag} ")?;
-    push_rule(text, &flow.rule)?;
+    push_rule(text, &flow.rule, last)?;
     text.push_str("\n")?;
     Ok(())
 }
 
-fn push_flow(text: &mut String, flow: &Flow) -> Result<(), Memory>
+fn push_flow<'a>(
+    text: &mut String,
+    flow: &'a Flow,
+    last: &mut Option<LastActions<'a>>,
+) -> Result<(), Memory>
     ensures { OnOk result (string_bytes text.new ≡ string_bytes text.old ++ flow_text flow.now) }
 {
     text.push_str("  flow ")?;
-    push_pair_rule(text, flow)
+    push_pair_rule(text, flow, last)
 }
 
-fn push_add(text: &mut String, flow: &Flow) -> Result<(), Memory>
+fn push_add<'a>(
+    text: &mut String,
+    flow: &'a Flow,
+    last: &mut Option<LastActions<'a>>,
+) -> Result<(), Memory>
     ensures { OnOk result (string_bytes text.new ≡ string_bytes text.old ++ add_text flow.now) }
 {
     text.push_str("  add ")?;
-    push_pair_rule(text, flow)
+    push_pair_rule(text, flow, last)
 }
 
 /// Writes a rule in the reply to an event, which says whether it is shown or put in.
-fn push_rule_line(text: &mut String, event: &Event, flow: &Flow) -> Result<(), Memory>
+pub fn push_rule_line<'a>(
+    text: &mut String,
+    event: &Event,
+    flow: &'a Flow,
+    last: &mut Option<LastActions<'a>>,
+) -> Result<(), Memory>
     ensures { OnOk result (string_bytes text.new ≡ string_bytes text.old ++ rule_line event.now flow.now) }
 {
     match event {
-        Event::Table => push_flow(text, flow),
-        _ => push_add(text, flow),
+        Event::Table => push_flow(text, flow, last),
+        _ => push_add(text, flow, last),
     }
-}
-
-fn push_rule_lines(text: &mut String, event: &Event, flows: &[Flow]) -> Result<(), Memory>
-    ensures { OnOk result (string_bytes text.new ≡ string_bytes text.old ++ flat_map (rule_line event.now) flows.now) }
-{
-    for flow in flows {
-        push_rule_line(text, event, flow)?;
-    }
-    Ok(())
 }
 
 fn push_adverts(text: &mut String, messages: &[Bytes]) -> Result<(), Memory>
@@ -253,30 +258,22 @@ fn push_frames(text: &mut String, frames: &[Frame]) -> Result<(), Memory>
     Ok(())
 }
 
-fn push_reply(text: &mut String, number: u32, event: &Event, reply: &Reply) -> Result<(), Memory>
-    ensures { OnOk result (string_bytes text.new ≡ string_bytes text.old ++ reply_text number event.now reply.now) }
+/// Writes what stands before the rules: the head line, and the lines of tags and of pairs that go.
+pub fn push_before_rules(text: &mut String, number: u32, reply: &Reply) -> Result<(), Memory>
+    ensures { OnOk result (string_bytes text.new ≡ string_bytes text.old ++ before_rules number reply.now) }
 {
     write!(text, "{number} ")?;
     push_head(text, reply.head)?;
     text.push_str("\n")?;
     push_tags(text, reply.tags.items())?;
-    push_drops(text, reply.drops.items())?;
-    push_rule_lines(text, event, reply.adds.items())?;
+    push_drops(text, reply.drops.items())
+}
+
+/// Writes what stands behind the rules: adverts, the exchanges with the responder, and frames.
+pub fn push_behind_rules(text: &mut String, reply: &Reply) -> Result<(), Memory>
+    ensures { OnOk result (string_bytes text.new ≡ string_bytes text.old ++ behind_rules reply.now) }
+{
     push_adverts(text, reply.adverts.items())?;
     push_exchanges(text, reply.asks.items())?;
     push_frames(text, reply.frames.items())
-}
-
-/// The text of the reply to the event of the line of this number: the head line, and the detail lines in their order.
-pub fn write_reply(
-    alloc: Global,
-    number: u32,
-    event: &Event,
-    reply: &Reply,
-) -> Result<Bytes, Memory>
-    ensures { IfOk result (λ text. text ≡ reply_text number event.now reply.now) }
-{
-    let mut text = String::with_capacity(alloc, ROOM)?;
-    push_reply(&mut text, number, event, reply)?;
-    Ok(Bytes::from_vec(text.into_bytes()))
 }

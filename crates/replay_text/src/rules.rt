@@ -3,7 +3,18 @@ ghost use Rattle.std.specs.Prelude.{◌≡◌, ◌++◌, [], OnOk, IfOk, string_
 ghost use Rattle.events.specs.Text.{address_text, prefix_text, number_field, address_field, prefix_field, cube_text, action_text, in_brackets, or_none, rule_text};
 ghost use Rattle.replay_text.specs.Fields.{cube_fields, led, more_text, next_lead, set_fields};
 
-use net_types::{Action, Assign, Cube, Ip, Memory, Prefix, Rule};
+use net_types::{Action, Assign, Cube, Ip, Memory, Prefix, Rule, same_items};
+
+/// So many actions are written anew at once, which is no more work than to look whether they are those of the last rule.
+const FEW: usize = 8;
+
+/// The last list of many actions, and how it is written: rules often have the same list.
+#[derive(Drop)]
+pub struct LastActions<'a> {
+    actions: &'a [Action],
+    text: String,
+    ghost is: { string_bytes text ≡ or_none (map action_text actions.now) },
+}
 
 pub fn push_address(text: &mut String, ip: Ip) -> Result<(), Memory>
     ensures { OnOk result (string_bytes text.new ≡ string_bytes text.old ++ address_text ip) }
@@ -172,11 +183,42 @@ fn push_actions(text: &mut String, actions: &[Action]) -> Result<(), Memory>
     }
 }
 
+/// Writes actions; many that were written last are copied.
+fn push_listed<'a>(
+    text: &mut String,
+    actions: &'a [Action],
+    last: &mut Option<LastActions<'a>>,
+) -> Result<(), Memory>
+    ensures { OnOk result (string_bytes text.new ≡ string_bytes text.old ++ or_none (map action_text actions.now)) }
+{
+    if actions.len() <= FEW {
+        return push_actions(text, actions);
+    }
+    if let Some(last) = last {
+        if same_items(last.actions, actions) {
+            text.push_str(last.text.as_str())?;
+            return Ok(());
+        }
+    }
+    let mut written = String::new(*text.allocator());
+    push_actions(&mut written, actions)?;
+    text.push_str(written.as_str())?;
+    *last = Some(LastActions {
+        actions,
+        text: written,
+    });
+    Ok(())
+}
+
 /// Writes what a rule matches and what it does.
-pub fn push_rule(text: &mut String, rule: &Rule) -> Result<(), Memory>
+pub fn push_rule<'a>(
+    text: &mut String,
+    rule: &'a Rule,
+    last: &mut Option<LastActions<'a>>,
+) -> Result<(), Memory>
     ensures { OnOk result (string_bytes text.new ≡ string_bytes text.old ++ rule_text rule.now) }
 {
     push_cube(text, &rule.cube)?;
     text.push_str(" -> ")?;
-    push_actions(text, rule.actions.items())
+    push_listed(text, rule.actions.items(), last)
 }
