@@ -61,7 +61,7 @@ action_cmp-IsAntisymmetric a b e = λ i. record {
   set = assign_cmp-IsAntisymmetric a.set b.set (second_tie (nat_cmp a.port.0 b.port.0) (assign_cmp a.set b.set) e) i;
 }
 
-actions_tie : (a b : Action) → eq_by_cmp action_cmp a b ≡ true → a ≡ b
+pub actions_tie : (a b : Action) → eq_by_cmp action_cmp a b ≡ true → a ≡ b
 actions_tie = same_from_tie action_cmp action_cmp-IsAntisymmetric
 
 pub actions_in_order : (xs ys : List Action) → IsPermutation xs ys → IsSorted action_cmp ys → dedup (eq_by_cmp action_cmp) ys ≡ ordered action_cmp xs

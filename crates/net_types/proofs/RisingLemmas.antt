@@ -8,10 +8,11 @@ use Rattle.std.specs.List.Sorted.{IsSortedBy}
 use Rattle.std.specs.Ordering.{eq_by_cmp, is_eq, is_lt, ordering_reverse}
 use Rattle.std.specs.declared.cmp.Ordering.{Ordering}
 use Rattle.std.specs.declared.cmp.Ordering.TheVariants.{Less, Equal, Greater}
-use Rattle.std.proofs.lemmas.Bool.{and_parts, false≢true, not-true}
+use Rattle.std.proofs.lemmas.Bool.{and_parts, cases_Bool, false≢true, not-true}
 use Rattle.std.proofs.lemmas.Cmp.{tied_itself}
 use Rattle.std.proofs.lemmas.List.Sums.{sum_by-cons}
-use Rattle.net_types.specs.Sets.{Member, IsRising}
+use Rattle.net_types.specs.Maps.{each_once}
+use Rattle.net_types.specs.Sets.{Member, HasNoRepeats, IsRising}
 use Rattle.net_types.proofs.TieLemmas.{less}
 use Rattle.net_types.proofs.TestLemmas.{shown}
 
@@ -41,6 +42,21 @@ Member-filter test [] x m t = elim m [ ]
 Member-filter test (y ∷ xs) x (inl e) t = subst (λ b. Member x (cond b (y ∷ filter test xs) (filter test xs))) (sym (ap test (sym e) ∙ t)) (inl e)
 Member-filter test (y ∷ xs) x (inr m) t = left_case y (filter test xs) x (test y) (Member-filter test xs x m t)
 
+-- what is left of a list's different members stands in it
+pub once_of : {A : Type 0} (same : A → A → Bool) (xs : List A) (x : A) → Member x (each_once same xs) → Member x xs
+once_of same [] x m = elim m [ ]
+once_of same (y ∷ xs) x (inl e) = inl e
+once_of same (y ∷ xs) x (inr m) = inr (once_of same xs x (filter-Member (λ z. not (same y z)) (each_once same xs) x m).stands)
+
+-- and each member is left, where the test passes equal ones alone
+pub Member-once : {A : Type 0} (same : A → A → Bool) → ((x y : A) → same x y ≡ true → x ≡ y) → (xs : List A) (x : A) → Member x xs → Member x (each_once same xs)
+Member-once same decides [] x m = elim m [ ]
+Member-once same decides (y ∷ xs) x (inl e) = inl e
+Member-once same decides (y ∷ xs) x (inr m) = elim (cases_Bool (same y x)) [
+  | inl equal ↦ inl (sym (decides y x equal))
+  | inr other ↦ inr (Member-filter (λ z. not (same y z)) (each_once same xs) x (Member-once same decides xs x m) (ap not other))
+]
+
 rising_case : {A : Type 0} (below : A → A → Bool) (test : A → Bool) (x : A) (xs : List A) (b : Bool) → IsRising below (x ∷ xs) → IsRising below (filter test xs) → IsRising below (cond b (x ∷ filter test xs) (filter test xs))
 rising_case below test x xs true r later = (λ y m. r.0 y (filter-Member test xs y m).stands, later)
 rising_case below test x xs false r later = later
@@ -59,6 +75,11 @@ before_itself R o x e = false≢true (sym (ap is_lt (tied_itself o x)) ∙ e)
 
 pub before_trans : {K : Type 0} (R : K → K → Ordering) → IsTotalOrder R → (x y z : K) → before R x y ≡ true → before R y z ≡ true → before R x z ≡ true
 before_trans R o x y z e f = ap is_lt (o.trans x y z (less (R x y) e) (less (R y z) f))
+
+-- a rising list has no repeats
+pub rising_differ : {K : Type 0} (R : K → K → Ordering) → IsTotalOrder R → (ks : List K) → IsRising (before R) ks → HasNoRepeats ks
+rising_differ R o [] rises = tt
+rising_differ R o (k ∷ ks) rises = (λ m. before_itself R o k (rises.0 k m), rising_differ R o ks rises.1)
 
 -- ---- the keys of a map
 
