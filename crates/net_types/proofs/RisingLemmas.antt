@@ -65,6 +65,11 @@ pub filter-IsRising : {A : Type 0} (below : A → A → Bool) (test : A → Bool
 filter-IsRising below test [] r = tt
 filter-IsRising below test (x ∷ xs) r = rising_case below test x xs (test x) r (filter-IsRising below test xs r.1)
 
+-- a list that rises has no repeats
+pub rising_once : {A : Type 0} (below : A → A → Bool) → ((x : A) → below x x ≡ true → ⊥) → (xs : List A) → IsRising below xs → HasNoRepeats xs
+rising_once below never [] rises = tt
+rising_once below never (x ∷ xs) rises = (λ m. never x (rises.0 x m), rising_once below never xs rises.1)
+
 -- ---- orders
 
 abbrev pub before : {K : Type 0} → (K → K → Ordering) → K → K → Bool
@@ -75,11 +80,6 @@ before_itself R o x e = false≢true (sym (ap is_lt (tied_itself o x)) ∙ e)
 
 pub before_trans : {K : Type 0} (R : K → K → Ordering) → IsTotalOrder R → (x y z : K) → before R x y ≡ true → before R y z ≡ true → before R x z ≡ true
 before_trans R o x y z e f = ap is_lt (o.trans x y z (less (R x y) e) (less (R y z) f))
-
--- a rising list has no repeats
-pub rising_differ : {K : Type 0} (R : K → K → Ordering) → IsTotalOrder R → (ks : List K) → IsRising (before R) ks → HasNoRepeats ks
-rising_differ R o [] rises = tt
-rising_differ R o (k ∷ ks) rises = (λ m. before_itself R o k (rises.0 k m), rising_differ R o ks rises.1)
 
 -- ---- the keys of a map
 
