@@ -2,22 +2,23 @@
 use Rattle.std.proofs.Common.{◌≡◌, Bool, true, false, cond, List, [], ◌∷◌, ◌++◌, ◌+◌, ◌≤◌, length, sym, ap, subst, ◌∙◌, refl, arith}
 use Rattle.std.specs.Prelude.{Option, Some, None, unwrap_or}
 use Rattle.std.specs.Ordering.{eq_by_cmp}
-use Rattle.std.specs.FinMap.{FinMap, get, get-insert, get-remove, same_map}
+use Rattle.std.specs.FinMap.{FinMap, get, same_map}
 use Rattle.std.specs.FinMap.Entries.{find, find-put, put, is_sorted, below_all}
 use Rattle.std.proofs.lemmas.Bool.{and_parts}
 use Rattle.events.specs.Pending.{same_entry, with_news}
 use Rattle.events.specs.declared.Entry.{Entry}
 use Rattle.net_types.proofs.EqualLemmas.{IsEqualityTest, option_test}
 use Rattle.net_types.proofs.OrderLemmas.{prefixes_total, prefix_tie}
-use Rattle.net_types.proofs.PlaceLemmas.{put_sorted, without_sorted}
+use Rattle.net_types.proofs.PlaceLemmas.{find-without, put_sorted, without_sorted}
 use Rattle.net_types.proofs.TieLemmas.{prefix_cmp-IsAntisymmetric, tie_Equal}
 use Rattle.net_types.specs.Attributes.{same_option}
 use Rattle.net_types.specs.Keys.{prefix_cmp}
 use Rattle.net_types.specs.declared.prefix.Prefix.{Prefix}
 use Rattle.ordered_map.specs.Entries.{without}
-use Rattle.advert_queue.proofs.RisingEntries.{fewer_without, find_below, find_without, length_put}
+use Rattle.advert_queue.proofs.RisingEntries.{fewer_without, find_below, length_put}
 use Rattle.advert_queue.specs.Changes.{AreNews, Change, changed, noted}
 use Rattle.events.proofs.SameEntries as same_entries
+use Rattle.events.proofs.NewsLemmas.{get-with_news}
 
 -- what was told, or is present
 abbrev pub Told : Type 0
@@ -28,13 +29,7 @@ Told = FinMap prefix_cmp Entry
 pub entry_test : IsEqualityTest (same_option same_entry)
 entry_test = option_test same_entry same_entries.entry_test
 
--- ---- one change
-
-pub get_with : (told : Told) (k : Prefix) (o : Option Entry) (q : Prefix) → get (with_news told k o) q ≡ cond (eq_by_cmp prefix_cmp q k) o (get told q)
-get_with told k None q = get-remove prefixes_total told k q
-get_with told k (Some e) q = get-insert prefixes_total told k e q
-
--- ---- all of them
+-- ---- changes
 
 -- a prefix has its change, or else what was told
 pub get_changed : (told : Told) (cs : List Change) (q : Prefix) → is_sorted prefix_cmp cs ≡ true → get (changed told cs) q ≡ unwrap_or (find prefix_cmp q cs) (get told q)
@@ -42,7 +37,7 @@ get_changed told [] q sorted = refl
 get_changed told (c ∷ cs) q sorted =
     let parts = and_parts (below_all prefix_cmp c.0 cs) (is_sorted prefix_cmp cs) sorted in
     let rest = get_changed (with_news told c.0 c.1) cs q parts.1 in
-    let here = get_with told c.0 c.1 q in
+    let here = get-with_news told c.0 c.1 q in
     elim (eq_by_cmp prefix_cmp q c.0) as (λ b. eq_by_cmp prefix_cmp q c.0 ≡ b → get (with_news told c.0 c.1) q ≡ cond b c.1 (get told q) → get (changed (with_news told c.0 c.1) cs) q ≡ unwrap_or (cond b (Some c.1) (find prefix_cmp q cs)) (get told q)) [
       | true ↦ λ tie at. rest ∙ ap (λ o. unwrap_or o (get (with_news told c.0 c.1) q)) (find_below prefix_cmp prefixes_total q c.0 cs (tie_Equal _ tie) parts.0) ∙ at
       | false ↦ λ apart at. rest ∙ ap (unwrap_or (find prefix_cmp q cs)) at
@@ -65,7 +60,7 @@ module _ (told : Told) (cs : List Change) (k : Prefix) (entry : Option Entry) (s
       ∙ ap (λ o. unwrap_or o (get told q)) (find-put prefix_cmp prefixes_total q k entry cs)
       ∙ by q (eq_by_cmp prefix_cmp q k)
       ∙ ap (cond (eq_by_cmp prefix_cmp q k) entry) (sym (get_changed told cs q sorted))
-      ∙ sym (get_with (changed told cs) k entry q))
+      ∙ sym (get-with_news (changed told cs) k entry q))
     where
       by : (q : Prefix) (b : Bool) → unwrap_or (cond b (Some entry) (find prefix_cmp q cs)) (get told q) ≡ cond b entry (unwrap_or (find prefix_cmp q cs) (get told q))
       by q true = refl
@@ -74,10 +69,10 @@ module _ (told : Told) (cs : List Change) (k : Prefix) (entry : Option Entry) (s
   pub changed_without : get told k ≡ entry → changed told (without prefix_cmp k cs) ≡ with_news (changed told cs) k entry
   changed_without was = same_map prefixes_total prefix_cmp-IsAntisymmetric _ _ (λ q.
       get_changed told (without prefix_cmp k cs) q (without_sorted prefix_cmp k cs sorted)
-      ∙ ap (λ o. unwrap_or o (get told q)) (find_without prefix_cmp prefixes_total q k cs)
+      ∙ ap (λ o. unwrap_or o (get told q)) (find-without prefix_cmp prefixes_total k q cs)
       ∙ by q (eq_by_cmp prefix_cmp q k) refl
       ∙ ap (cond (eq_by_cmp prefix_cmp q k) entry) (sym (get_changed told cs q sorted))
-      ∙ sym (get_with (changed told cs) k entry q))
+      ∙ sym (get-with_news (changed told cs) k entry q))
     where
       by : (q : Prefix) (b : Bool) → eq_by_cmp prefix_cmp q k ≡ b → unwrap_or (cond b None (find prefix_cmp q cs)) (get told q) ≡ cond b entry (unwrap_or (find prefix_cmp q cs) (get told q))
       by q true tie = ap (get told) (prefix_tie q k tie) ∙ was
@@ -91,7 +86,7 @@ module _ (told : Told) (cs : List Change) (k : Prefix) (entry : Option Entry) (s
       by false apart at same = news p now at same
 
   pub news_without : AreNews told cs → AreNews told (without prefix_cmp k cs)
-  news_without news p now is = by (eq_by_cmp prefix_cmp p k) (sym (find_without prefix_cmp prefixes_total p k cs) ∙ is)
+  news_without news p now is = by (eq_by_cmp prefix_cmp p k) (sym (find-without prefix_cmp prefixes_total k p cs) ∙ is)
     where
       by : (b : Bool) → cond b None (find prefix_cmp p cs) ≡ Some now → ¬ get told p ≡ now
       by true at = absurd (cc)
@@ -142,7 +137,7 @@ noted_at k cs was now seen answer is said b at = ap (λ c. cond c (without prefi
 pub news_left : (told : Told) (c : Change) (cs : List Change) → is_sorted prefix_cmp (c ∷ cs) ≡ true → AreNews told (c ∷ cs) → AreNews (with_news told c.0 c.1) cs
 news_left told c cs sorted news p now is same =
     let parts = and_parts (below_all prefix_cmp c.0 cs) (is_sorted prefix_cmp cs) sorted in
-    by (eq_by_cmp prefix_cmp p c.0) refl (sym (get_with told c.0 c.1 p) ∙ same)
+    by (eq_by_cmp prefix_cmp p c.0) refl (sym (get-with_news told c.0 c.1 p) ∙ same)
   where
     by : (b : Bool) → eq_by_cmp prefix_cmp p c.0 ≡ b → cond b c.1 (get told p) ≡ now → ⊥
     by true tie at =

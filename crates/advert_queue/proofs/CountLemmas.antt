@@ -14,8 +14,8 @@ use Rattle.events.specs.Pending.{with_news}
 use Rattle.events.specs.Tags.{same_tag, tells}
 use Rattle.events.specs.declared.Entry.{Entry}
 use Rattle.net_types.proofs.OrderLemmas.{prefixes_total, tags_total}
-use Rattle.net_types.proofs.PlaceLemmas.{entries_of_sorted, remove_sorted, without_sorted}
-use Rattle.net_types.proofs.TieLemmas.{nat_ties, prefix_cmp-IsAntisymmetric, same_from_tie, tag_cmp-IsAntisymmetric, ties_itself}
+use Rattle.net_types.proofs.PlaceLemmas.{entries_of_sorted, find-without, remove_sorted, without_sorted}
+use Rattle.net_types.proofs.TieLemmas.{nat_ties, prefix_cmp-IsAntisymmetric, tag_tie, ties_itself}
 use Rattle.net_types.proofs.ValueLemmas.{no_entries}
 use Rattle.net_types.specs.Keys.{prefix_cmp, tag_cmp}
 use Rattle.net_types.specs.declared.address.Tag.{Tag}
@@ -23,7 +23,7 @@ use Rattle.net_types.specs.declared.prefix.Prefix.{Prefix}
 use Rattle.ordered_map.proofs.ChangeLemmas.{find-changed}
 use Rattle.ordered_map.specs.Changes.{changed_at}
 use Rattle.ordered_map.specs.Entries.{without}
-use Rattle.advert_queue.proofs.RisingEntries.{find_without, without_first}
+use Rattle.advert_queue.proofs.RisingEntries.{without_first}
 use Rattle.advert_queue.specs.Changes.{Change, changed, tag_in}
 use Rattle.advert_queue.specs.Counts.{AreCounts, AreUsed, IsRecounted, by_side, counted, has_tag, is_tag, is_tag_of, new_places, number, other, total, uses, uses_in}
 use Rattle.advert_queue.specs.Recounted.{one_use, recounted}
@@ -172,9 +172,6 @@ untold_uses m t is = any_total t (entries m) false is
 
 -- ---- the numbers that are kept for each tag
 
-tag_same : (t u : Tag) → eq_by_cmp tag_cmp t u ≡ true → t ≡ u
-tag_same = same_from_tie tag_cmp tag_cmp-IsAntisymmetric
-
 pub is_tag_ties : (t u : Tag) → is_tag t u ≡ cond (eq_by_cmp tag_cmp t u) 1 0
 is_tag_ties t u = ap (λ b. let n : ℕ = cond b 1 0 in n) (sym (nat_ties t.0 u.0))
 
@@ -193,7 +190,7 @@ now_changed : (t : Tag) (f : Uses → Uses) (cs ds : List (Tag × Uses)) → ds 
 now_changed t f cs ds is u =
     ap (find tag_cmp u) is ∙ find-changed tag_cmp tags_total t f u cs
     ∙ elim (eq_by_cmp tag_cmp u t) as (λ b. eq_by_cmp tag_cmp u t ≡ b → cond b (option_map f (find tag_cmp u cs)) (find tag_cmp u cs) ≡ cond b (option_map f (find tag_cmp t cs)) (find tag_cmp u cs)) [
-      | true ↦ λ tie. ap (λ v. option_map f (find tag_cmp v cs)) (tag_same u t tie)
+      | true ↦ λ tie. ap (λ v. option_map f (find tag_cmp v cs)) (tag_tie u t tie)
       | false ↦ λ apart. refl
     ] refl
 
@@ -207,7 +204,7 @@ now_put t now v cs ds es before is u =
 
 now_without : (t : Tag) (now : Option Uses) (cs ds es : List (Tag × Uses)) → HasNow t now cs ds → es ≡ without tag_cmp t ds → HasNow t None cs es
 now_without t now cs ds es before is u =
-    ap (find tag_cmp u) is ∙ find_without tag_cmp tags_total u t ds
+    ap (find tag_cmp u) is ∙ find-without tag_cmp tags_total t u ds
     ∙ elim (eq_by_cmp tag_cmp u t) as (λ b. find tag_cmp u ds ≡ cond b now (find tag_cmp u cs) → cond b None (find tag_cmp u ds) ≡ cond b None (find tag_cmp u cs)) [
       | true ↦ λ at. refl
       | false ↦ λ at. at
@@ -231,12 +228,12 @@ module _ (side : Side) (t : Tag) (now : Option Uses) (cs ds : List (Tag × Uses)
 
       counts_at : (u : Tag) (b : Bool) → eq_by_cmp tag_cmp u t ≡ b → find tag_cmp u ds ≡ cond b now (find tag_cmp u cs) → counted side ds u + has_tag u before ≡ counted side cs u + has_tag u after
       counts_at u true tie at =
-          let same = tag_same u t tie in
+          let same = tag_tie u t tie in
           (λ i. number side (uses_in (at i)) + has_tag (same i) before) ∙ here ∙ sym (λ i. counted side cs (same i) + has_tag (same i) after)
       counts_at u false tie at = λ i. number side (uses_in (at i)) + apart u tie i
 
       others_at : (u : Tag) (b : Bool) → eq_by_cmp tag_cmp u t ≡ b → find tag_cmp u ds ≡ cond b now (find tag_cmp u cs) → counted (other side) ds u ≡ counted (other side) cs u
-      others_at u true tie at = ap (λ o. number (other side) (uses_in o)) at ∙ beside ∙ sym (ap (counted (other side) cs) (tag_same u t tie))
+      others_at u true tie at = ap (λ o. number (other side) (uses_in o)) at ∙ beside ∙ sym (ap (counted (other side) cs) (tag_tie u t tie))
       others_at u false tie at = ap (λ o. number (other side) (uses_in o)) at
 
 -- ---- one use more or less

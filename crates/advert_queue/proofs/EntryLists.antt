@@ -4,56 +4,40 @@ use Rattle.std.specs.Prelude.{Some, None}
 use Rattle.std.specs.Cmp.{IsTotalOrder}
 use Rattle.std.specs.FinMap.{FinMap, insert, from_sorted, get-insert, same_map, IsAntisymmetric}
 use Rattle.std.specs.FinMap.Entries.{find, is_sorted, below_all, find-append}
-use Rattle.std.specs.Ordering.{eq_by_cmp, is_eq, is_lt, ordering_reverse}
+use Rattle.std.specs.Ordering.{eq_by_cmp, is_eq, ordering_reverse}
 use Rattle.std.specs.declared.cmp.Ordering.{Ordering}
-use Rattle.std.specs.declared.cmp.Ordering.TheVariants.{Less, Greater}
-use Rattle.std.proofs.lemmas.Bool.{and_from, and_parts}
+use Rattle.std.specs.declared.cmp.Ordering.TheVariants.{Greater}
+use Rattle.std.proofs.lemmas.Bool.{and_parts}
 use Rattle.std.proofs.lemmas.List.{append_assoc}
 use Rattle.events.specs.declared.Entry.{Entry}
 use Rattle.net_types.proofs.OrderLemmas.{prefixes_total}
 use Rattle.net_types.proofs.PlaceLemmas.{get_sorted}
-use Rattle.net_types.proofs.TieLemmas.{prefix_cmp-IsAntisymmetric, ties_itself, less}
+use Rattle.net_types.proofs.TieLemmas.{prefix_cmp-IsAntisymmetric, ties_itself}
 use Rattle.net_types.proofs.ValueLemmas.{later_apart}
 use Rattle.net_types.specs.Keys.{prefix_cmp}
 use Rattle.net_types.specs.Sets.{Member}
 use Rattle.net_types.specs.declared.prefix.Prefix.{Prefix}
 use Rattle.net_types.proofs.TestLemmas.{holds}
+use Rattle.ordered_map.proofs.SplitLemmas.{below_entry, sorted_front}
 
 module _ {K X : Type 0} (R : K → K → Ordering) where
-  below_front : (k : K) (xs ys : List (K × X)) → below_all R k (xs ++ ys) ≡ true → below_all R k xs ≡ true
-  below_front k [] ys below = refl
-  below_front k (e ∷ xs) ys below =
-      let parts = and_parts (is_lt (R k e.0)) (below_all R k (xs ++ ys)) below in
-      and_from _ _ parts.0 (below_front k xs ys parts.1)
-
-  -- a front of rising entries rises
-  pub front_sorted : (xs ys : List (K × X)) → is_sorted R (xs ++ ys) ≡ true → is_sorted R xs ≡ true
-  front_sorted [] ys sorted = refl
-  front_sorted (e ∷ xs) ys sorted =
-      let parts = and_parts (below_all R e.0 (xs ++ ys)) (is_sorted R (xs ++ ys)) sorted in
-      and_from _ _ (below_front e.0 xs ys parts.0) (front_sorted xs ys parts.1)
-
-  below_here : (k : K) (xs : List (K × X)) (e : K × X) (ys : List (K × X)) → below_all R k (xs ++ e ∷ ys) ≡ true → R k e.0 ≡ Less
-  below_here k [] e ys below = less _ (and_parts (is_lt (R k e.0)) (below_all R k ys) below).0
-  below_here k (x ∷ xs) e ys below = below_here k xs e ys (and_parts (is_lt (R k x.0)) (below_all R k (xs ++ e ∷ ys)) below).1
-
   module _ (o : IsTotalOrder R) where
     -- the next key isn't among those before
     not_before : (xs : List (K × X)) (e : K × X) (ys : List (K × X)) → is_sorted R (xs ++ e ∷ ys) ≡ true → find R e.0 xs ≡ None
     not_before [] e ys sorted = refl
     not_before (x ∷ xs) e ys sorted =
         let parts = and_parts (below_all R x.0 (xs ++ e ∷ ys)) (is_sorted R (xs ++ e ∷ ys)) sorted in
-        let above : R e.0 x.0 ≡ Greater = o.antisymm e.0 x.0 ∙ ap ordering_reverse (below_here x.0 xs e ys parts.0) in
+        let above : R e.0 x.0 ≡ Greater = o.antisymm e.0 x.0 ∙ ap ordering_reverse (below_entry R x.0 xs e ys parts.0) in
         ap (λ r. cond (is_eq r) (Some x.1) (find R e.0 xs)) above ∙ not_before xs e ys parts.1
 
     -- to put the next entry in is to put it behind
     pub put_next : IsAntisymmetric R → (xs : List (K × X)) (k : K) (v : X) (ys : List (K × X)) → is_sorted R (xs ++ (k, v) ∷ ys) ≡ true → insert (from_sorted {R = R} xs) k v ≡ from_sorted (xs ++ (k, v) ∷ [])
     put_next same xs k v ys sorted =
         let one : (xs ++ (k, v) ∷ []) ++ ys ≡ xs ++ (k, v) ∷ ys = append_assoc xs ((k, v) ∷ []) ys in
-        let longer : is_sorted R (xs ++ (k, v) ∷ []) ≡ true = front_sorted (xs ++ (k, v) ∷ []) ys (ap (is_sorted R) one ∙ sorted) in
+        let longer : is_sorted R (xs ++ (k, v) ∷ []) ≡ true = sorted_front R (xs ++ (k, v) ∷ []) ys (ap (is_sorted R) one ∙ sorted) in
         same_map o same (insert (from_sorted {R = R} xs) k v) (from_sorted (xs ++ (k, v) ∷ [])) (λ q.
         get-insert o (from_sorted {R = R} xs) k v q
-        ∙ ap (cond (eq_by_cmp R q k) (Some v)) (get_sorted R xs q (front_sorted xs ((k, v) ∷ ys) sorted))
+        ∙ ap (cond (eq_by_cmp R q k) (Some v)) (get_sorted R xs q (sorted_front R xs ((k, v) ∷ ys) sorted))
         ∙ sym (find-append R o xs k v q (not_before xs (k, v) ys sorted))
         ∙ sym (get_sorted R (xs ++ (k, v) ∷ []) q longer))
 

@@ -1,6 +1,6 @@
 -- What is made of the front of a list, item by item, until there is so much or the list ends.
 use Rattle.std.proofs.Common.{◌≡◌, ℕ, zero, suc, ◌+◌, ◌≤◌, List, [], ◌∷◌, ◌++◌, map, take, drop, length, sym, ap, subst, ◌∙◌, refl, arith, inl, inr}
-use Rattle.std.proofs.lemmas.List.{take_all}
+use Rattle.std.proofs.lemmas.List.{take_all, map_push, length_push}
 use Rattle.net_types.specs.Sets.{Member}
 
 -- the first item of what is left comes behind the front
@@ -44,22 +44,14 @@ module _ {A B : Type 0} (f : A → B) (all : List A) (count : ℕ) where
   pub made_first : (left : List A) (made : List B) → left ≡ all → made ≡ [] → IsMade f all left count made
   made_first left made is none = subst (λ m. IsMade f all left count m) (sym none) (record { rest = is; front = refl; few = omega arith })
 
-  map_more : (xs : List A) (x : A) → map f (xs ++ x ∷ []) ≡ map f xs ++ f x ∷ []
-  map_more [] x = refl
-  map_more (y ∷ ys) x = ap (λ zs. f y ∷ zs) (map_more ys x)
-
-  length_more : (ys : List B) (y : B) → length (ys ++ y ∷ []) ≡ length ys + 1
-  length_more [] y = refl
-  length_more (z ∷ zs) y = let rest = length_more zs y in omega (arith, rest)
-
   pub made_more : (left later : List A) (x : A) (made more : List B) (y : B) → IsMade f all left count made → left ≡ x ∷ later → y ≡ f x → more ≡ made ++ y ∷ [] → ¬ length made ≡ count → IsMade f all later count more
   made_more left later x made more y so_far e is added unfull =
-      let longer : length more ≡ length made + 1 = ap length added ∙ length_more made y in
+      let longer : length more ≡ length made + 1 = ap length added ∙ length_push made y in
       let here : x ∷ later ≡ drop (length made) all = sym e ∙ so_far.rest in
       record {
         rest = front_left (length made) all later x here ∙ ap (λ n. drop n all) (sym longer);
         front =
-            added ∙ (λ i. so_far.front i ++ is i ∷ []) ∙ sym (map_more (take (length made) all) x)
+            added ∙ (λ i. so_far.front i ++ is i ∷ []) ∙ sym (map_push f (take (length made) all) x)
             ∙ ap (map f) (sym (front_more (length made) all later x here)) ∙ ap (λ n. map f (take n all)) (sym longer);
         few = (let before = so_far.few in omega (arith, before, longer, unfull));
       }

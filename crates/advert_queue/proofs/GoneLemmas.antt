@@ -13,12 +13,12 @@ use Rattle.events.specs.declared.Entry.{Entry}
 use Rattle.net_types.proofs.OrderLemmas.{prefixes_total, tags_total}
 use Rattle.net_types.proofs.OrderedLemmas.{any_member, member_any, ordered_rises}
 use Rattle.net_types.proofs.RisingLemmas.{before, filter-IsRising, filter-Member, Member-filter}
-use Rattle.net_types.proofs.TieLemmas.{same_from_tie, tag_cmp-IsAntisymmetric, tie_Equal}
+use Rattle.net_types.proofs.TieLemmas.{tag_tie, tie_Equal}
 use Rattle.net_types.specs.Keys.{prefix_cmp, tag_cmp}
 use Rattle.net_types.specs.Sets.{Member}
 use Rattle.net_types.specs.declared.address.Tag.{Tag}
 use Rattle.net_types.specs.declared.prefix.Prefix.{Prefix}
-use Rattle.advert_queue.proofs.ChangedMaps.{Told, get_with}
+use Rattle.advert_queue.proofs.ChangedMaps.{Told}
 use Rattle.advert_queue.proofs.CountLemmas.{has_tag-le, kept_found, still_right, told_number, told_uses, untold_uses, uses_one, uses_with}
 use Rattle.advert_queue.proofs.EntryLists.{found_itself, map-filter}
 use Rattle.advert_queue.proofs.Fronts.{front_all, front_more}
@@ -35,9 +35,7 @@ use Rattle.advert_queue.specs.Advertised.{is_told}
 use Rattle.advert_queue.specs.Taken.{gone_tags, untold}
 use Rattle.advert_queue.specs.Telling.{tags_of}
 use Rattle.net_types.proofs.FindLemmas.{Member-take}
-
-tag_same : (t u : Tag) → eq_by_cmp tag_cmp t u ≡ true → t ≡ u
-tag_same = same_from_tie tag_cmp tag_cmp-IsAntisymmetric
+use Rattle.events.proofs.NewsLemmas.{get-with_news}
 
 -- ---- the tags that are told
 
@@ -45,13 +43,13 @@ tag_found : (cs : List (Tag × Uses)) (t : Tag) → is_some (find tag_cmp t cs) 
 tag_found cs t = is_some-find tag_cmp t cs
 
 numbered : (side : Side) (cs : List (Tag × Uses)) (t : Tag) → 0 < counted side cs t → Member t (map entry_tag cs)
-numbered side cs t some = any_member tag_cmp tags_total tag_same t (map entry_tag cs) (sym (tag_found cs t) ∙ kept_found side cs t some)
+numbered side cs t some = any_member tag_cmp tags_total tag_tie t (map entry_tag cs) (sym (tag_found cs t) ∙ kept_found side cs t some)
 
 told_member : (m : Told) (t : Tag) → tells m t ≡ true → Member t (tags_of m)
-told_member m t told = any_member tag_cmp tags_total tag_same t (tags_of m) (told_among m t ∙ told)
+told_member m t told = any_member tag_cmp tags_total tag_tie t (tags_of m) (told_among m t ∙ told)
 
 member_told : (m : Told) (t : Tag) → Member t (tags_of m) → tells m t ≡ true
-member_told m t at = sym (told_among m t) ∙ member_any tag_cmp tags_total tag_same t (tags_of m) at
+member_told m t at = sym (told_among m t) ∙ member_any tag_cmp tags_total tag_tie t (tags_of m) at
 
 -- the tags with a number of what was told are those that were told
 module _ (cs : List (Tag × Uses)) (m n : Told) (right : AreCounts cs (by_side (uses m) (uses n))) where
@@ -76,8 +74,8 @@ module _ (cs : List (Tag × Uses)) (m n : Told) (right : AreCounts cs (by_side (
       Member-filter is_counted (map entry_tag cs) t (numbered sides.Told cs t (omega (arith, some, same))) (counted_as t ∙ told)
 
   pub counted_tags : map entry_tag (filter is_told_tag cs) ≡ tags_of m
-  counted_tags = counted_list ∙ rising_alike tag_cmp tags_total tag_same (filter is_counted (map entry_tag cs)) (tags_of m)
-      (filter-IsRising (before tag_cmp) is_counted (map entry_tag cs) (keys_rise tag_cmp tags_total cs right.rising)) (ordered_rises tag_cmp tags_total tag_same _)
+  counted_tags = counted_list ∙ rising_alike tag_cmp tags_total tag_tie (filter is_counted (map entry_tag cs)) (tags_of m)
+      (filter-IsRising (before tag_cmp) is_counted (map entry_tag cs) (keys_rise tag_cmp tags_total cs right.rising)) (ordered_rises tag_cmp tags_total tag_tie _)
       (record { onto = onto_told; back = back_told })
 
 -- ---- the uses that go and that come
@@ -94,7 +92,7 @@ AreApart p cs = (c : Change) → Member c cs → eq_by_cmp prefix_cmp c.0 p ≡ 
 left_same : (m : Told) (p : Prefix) (o : Option Entry) (cs : List Change) (t : Tag) → AreApart p cs → left (with_news m p o) cs t ≡ left m cs t
 left_same m p o [] t apart = refl
 left_same m p o (c ∷ cs) t apart =
-    let here : has_tag t (tag_in (get (with_news m p o) c.0)) ≡ has_tag t (tag_in (get m c.0)) = ap (λ e. has_tag t (tag_in e)) (get_with m p o c.0 ∙ ap (λ b. cond b o (get m c.0)) (apart c (inl refl))) in
+    let here : has_tag t (tag_in (get (with_news m p o) c.0)) ≡ has_tag t (tag_in (get m c.0)) = ap (λ e. has_tag t (tag_in e)) (get-with_news m p o c.0 ∙ ap (λ b. cond b o (get m c.0)) (apart c (inl refl))) in
     let rest = left_same m p o cs t (λ d k. apart d (inr k)) in
     omega (arith, here, rest)
 
@@ -187,7 +185,7 @@ module _ (told : Told) (cs : List Change) (sorted : is_sorted prefix_cmp cs ≡ 
       either false is at = untold_uses m t is
 
   leaves : (t : Tag) → Member t (map entry_tag ls) → 0 < left told (take count cs) t
-  leaves t m = either (find tag_cmp t ls) refl (tag_found ls t ∙ member_any tag_cmp tags_total tag_same t (map entry_tag ls) m)
+  leaves t m = either (find tag_cmp t ls) refl (tag_found ls t ∙ member_any tag_cmp tags_total tag_tie t (map entry_tag ls) m)
     where
       either : (o : Option Uses) → find tag_cmp t ls ≡ o → is_some (find tag_cmp t ls) ≡ true → 0 < left told (take count cs) t
       either None none some = let both : false ≡ true = sym (ap is_some none) ∙ some in absurd (cc)
@@ -242,10 +240,10 @@ module _ (told : Told) (cs : List Change) (sorted : is_sorted prefix_cmp cs ≡ 
       (and_from (nat_eq (counted sides.Told ts t) (counted sides.Told ls t)) (nat_eq (counted sides.Present ts t) 0) (eq-eqb (counted sides.Told ts t) (counted sides.Told ls t) same) (eq-eqb (counted sides.Present ts t) 0 none))
 
   pub gone_are : map entry_tag (filter (is_gone ts) ls) ≡ gone_tags told then present
-  gone_are = listed ∙ rising_alike tag_cmp tags_total tag_same (filter goes (map entry_tag ls)) (gone_tags told then present)
+  gone_are = listed ∙ rising_alike tag_cmp tags_total tag_tie (filter goes (map entry_tag ls)) (gone_tags told then present)
       (filter-IsRising (before tag_cmp) goes (map entry_tag ls) (keys_rise tag_cmp tags_total ls leaving.rising))
       (filter-IsRising (before tag_cmp) (not_told (then ∷ [])) (untold (present ∷ []) (tags_of told))
-      (filter-IsRising (before tag_cmp) (not_told (present ∷ [])) (tags_of told) (ordered_rises tag_cmp tags_total tag_same _)))
+      (filter-IsRising (before tag_cmp) (not_told (present ∷ [])) (tags_of told) (ordered_rises tag_cmp tags_total tag_tie _)))
       (record { onto = onto; back = back })
 
 -- ---- the tags so far

@@ -12,7 +12,7 @@ use Rattle.events.specs.declared.Entry.{Entry}
 use Rattle.events.specs.Tags.{same_tag, tells}
 use Rattle.net_types.proofs.OrderLemmas.{tags_total}
 use Rattle.net_types.proofs.PassLemmas.{any_map}
-use Rattle.net_types.proofs.TieLemmas.{nat_ties, same_from_tie, tag_cmp-IsAntisymmetric}
+use Rattle.net_types.proofs.TieLemmas.{nat_ties, tag_tie}
 use Rattle.net_types.specs.Keys.{prefix_cmp, tag_cmp}
 use Rattle.net_types.specs.declared.address.Tag.{Tag}
 use Rattle.net_types.specs.declared.prefix.Prefix.{Prefix}
@@ -27,7 +27,7 @@ tag_ties t u = nat_ties t.0 u.0
 pub told_among : (m : FinMap prefix_cmp Entry) (t : Tag) → list_any (eq_by_cmp tag_cmp t) (tags_of m) ≡ tells m t
 told_among m t =
     let all = map (λ (e : Entry). e.tag) (values m) in
-    any_ordered tag_cmp tags_total (same_from_tie tag_cmp tag_cmp-IsAntisymmetric) t all
+    any_ordered tag_cmp tags_total tag_tie t all
     ∙ ap (λ (f : Tag → Bool). list_any f all) (λ i u. tag_ties t u i)
     ∙ any_map (λ u. same_tag u t) (λ (e : Entry). e.tag) (values m)
 

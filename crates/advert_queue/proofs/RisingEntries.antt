@@ -1,16 +1,16 @@
 -- Entries whose keys rise: the first one, its removal, and lists that rise and have the same members.
 use Rattle.std.proofs.Common.{◌≡◌, ◌+◌, ◌≤◌, true, false, cond, not, List, [], ◌∷◌, map, drop, length, sym, ap, subst, ◌∙◌, refl, arith}
 use Rattle.std.specs.Prelude.{Some, None, is_some}
-use Rattle.std.specs.Cmp.{IsTotalOrder, alike_right, eq_by_cmp_equiv}
+use Rattle.std.specs.Cmp.{IsTotalOrder}
 use Rattle.std.specs.List.{list_any}
 use Rattle.std.specs.Ordering.{eq_by_cmp, is_eq, is_lt}
 use Rattle.std.specs.declared.cmp.Ordering.{Ordering}
 use Rattle.std.specs.declared.cmp.Ordering.TheVariants.{Equal}
 use Rattle.std.specs.FinMap.{from_sorted}
-use Rattle.std.specs.FinMap.Entries.{find, is_sorted, below_all, find-where_key, length-put, length_without, put}
+use Rattle.std.specs.FinMap.Entries.{find, is_sorted, below_all, length-put, length_without, put}
 use Rattle.std.proofs.lemmas.Bool.{and_parts}
 use Rattle.net_types.proofs.OrderedLemmas.{any_member, member_any, ordered_is}
-use Rattle.net_types.proofs.PlaceLemmas.{cond_not, entries_of_sorted}
+use Rattle.net_types.proofs.PlaceLemmas.{entries_of_sorted}
 use Rattle.net_types.proofs.RisingLemmas.{before, keys-IsRising}
 use Rattle.net_types.specs.Sets.{IsRising, SameMembers}
 use Rattle.ordered_map.specs.Entries.{head_of, without}
@@ -41,11 +41,6 @@ module _ {K X : Type 0} (R : K → K → Ordering) (o : IsTotalOrder R) where
   without_first q e es sorted tie =
       let parts = and_parts (below_all R e.0 es) (is_sorted R es) sorted in
       ap (λ r. cond (not (is_eq r)) (e ∷ without R q es) (without R q es)) tie ∙ without_below q e.0 es tie parts.0
-
-  pub find_without : (q k : K) (es : List (K × X)) → find R q (without R k es) ≡ cond (eq_by_cmp R q k) None (find R q es)
-  find_without q k es =
-      find-where_key R (λ x. not (eq_by_cmp R k x)) q (λ x t. ap (λ r. not (is_eq r)) (sym (alike_right o q x k t))) es
-      ∙ cond_not (eq_by_cmp R k q) _ _ ∙ ap (λ b. cond b None (find R q es)) ((eq_by_cmp_equiv o).symm k q)
 
   pub length_put : (k : K) (v : X) (es : List (K × X)) → is_sorted R es ≡ true → length (put R k v es) ≤ length es + 1
   length_put k v es sorted =

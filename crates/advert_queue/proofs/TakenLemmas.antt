@@ -33,10 +33,6 @@ place c = c.0
 listed : (m : Told) (p : Prefix) → is_some (get m p) ≡ true → Member p (keys m)
 listed m p there = any_member prefix_cmp prefixes_total prefix_tie p (keys m) (sym (contains_key-keys m p) ∙ there)
 
-none_there : {A : Type 0} (o : Option A) → (is_some o ≡ true → ⊥) → o ≡ None
-none_there None never = refl
-none_there (Some x) never = absurd (never refl)
-
 -- the first of a list, where at most so many are taken
 first_taken : {A : Type 0} (limit : Option ℕ) (xs : List A) → first_of limit xs ≡ take (limited limit (length xs)) xs
 first_taken None xs = sym (take_all (length xs) xs (omega arith))

@@ -1,11 +1,11 @@
 -- The leading part of a path, and two paths as one.
 use Rattle.std.proofs.Common.{◌≡◌, ℕ, ◌-◌, Bool, true, false, cond, leb, List, [], ◌∷◌, ◌++◌, take, refl, ap, ◌∙◌}
-use Rattle.std.specs.Prelude.{Option, Some, None, is_some}
-use Rattle.std.specs.Option.{option_map}
+use Rattle.std.specs.Prelude.{is_some}
 use Rattle.net_types.specs.Paths.{asns, hops_of, joined, leading, whole_path}
 use Rattle.net_types.specs.UpdateValue.{Said, said_path}
 use Rattle.net_types.specs.declared.route.Segment.{Segment}
 use Rattle.net_types.specs.declared.route.Segment.TheVariants.{Set, Sequence}
+use Rattle.net_types.proofs.FindLemmas.{is_some-map}
 
 -- what is taken of a path whose first segment is known
 pub leading_step : (k : ℕ) (s : Segment) (path : List Segment)
@@ -27,10 +27,6 @@ joined_last [] s back = refl
 joined_last (a ∷ []) s back = joined_more a s [] back
 joined_last (a ∷ b ∷ front) s back = joined_more a b (front ++ s ∷ []) back ∙ ap (λ (ss : List Segment). a ∷ ss) (joined_last (b ∷ front) s back)
 
-there : {X Y : Type 0} (f : X → Y) (o : Option X) → is_some (option_map f o) ≡ is_some o
-there f None = refl
-there f (Some x) = refl
-
 -- there is a path where there is an AS_PATH
 pub path_there : (s : Said) → is_some (said_path s) ≡ is_some s.path
-path_there s = there (λ path. whole_path path s.wide) s.path
+path_there s = is_some-map (λ path. whole_path path s.wide) s.path

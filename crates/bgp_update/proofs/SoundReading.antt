@@ -10,7 +10,7 @@ use Rattle.grammar.specs.Numbers.{big_endian}
 use Rattle.net_types.specs.AttributeTypes.{has_length, type_length, type_of}
 use Rattle.net_types.proofs.SetLemmas.{empty_same, same_sym}
 use Rattle.net_types.specs.Paths.{hops, joined, leading, merged_sequence, whole_path}
-use Rattle.net_types.specs.Sets.{Each, Member, SameMembers}
+use Rattle.net_types.specs.Sets.{Each, SameMembers}
 use Rattle.net_types.specs.SoundUpdates.{AreSoundAttrs, HasSoundAttrs, IsSoundAggregator, IsSoundNextHop, IsSoundSegment, IsSoundUpdate}
 use Rattle.net_types.specs.UpdateFormat.{Head, IsWide, Parts, address, attribute, head, known_value, longs, message, segment, segment_by, segment_of, unknown_value, value, wide_segment, wide_value, with_type, words}
 use Rattle.net_types.specs.UpdateSpelling.{AreAttrs, AreSaid, IsUpdateOf, Spells}
@@ -29,6 +29,7 @@ use Rattle.bgp_update.proofs.Decoded.{spells_said}
 use Rattle.bgp_update.proofs.PathLists.{joined_more}
 use Rattle.bgp_update.specs.Answers.{IsDecoded}
 use Rattle.bgp_update.specs.declared.fault.UpdateFault.{UpdateFault}
+use Rattle.net_types.proofs.MemberLemmas.{each_append, each_of, of_each}
 
 -- each number is an octet
 abbrev pub AreOctets : List ℕ → Type 0
@@ -41,19 +42,6 @@ each_front P (x ∷ a) b h = (h.0, each_front P a b h.1)
 each_back : {A : Type 0} (P : A → Type 0) (a b : List A) → Each P (a ++ b) → Each P b
 each_back P [] b h = h
 each_back P (x ∷ a) b h = each_back P a b h.1
-
-each_both : {A : Type 0} (P : A → Type 0) (a b : List A) → Each P a → Each P b → Each P (a ++ b)
-each_both P [] b h k = k
-each_both P (x ∷ a) b h k = (h.0, each_both P a b h.1 k)
-
-each_of : {A : Type 0} (P : A → Type 0) (xs : List A) (x : A) → Each P xs → Member x xs → P x
-each_of P [] x h m = elim m [ ]
-each_of P (y ∷ xs) x h (inl e) = subst P (sym e) h.0
-each_of P (y ∷ xs) x h (inr m) = each_of P xs x h.1 m
-
-pub of_each : {A : Type 0} (P : A → Type 0) (xs : List A) → ((x : A) → Member x xs → P x) → Each P xs
-of_each P [] h = tt
-of_each P (x ∷ xs) h = (h x (inl refl), of_each P xs (λ y m. h y (inr m)))
 
 pub front : (s a b : List ℕ) → s ≡ a ++ b → AreOctets s → AreOctets a
 front s a b e h = each_front (λ c. c < 256) a b (subst AreOctets e h)
@@ -164,7 +152,7 @@ merged_case : (ms ns : List ℕ) (path : List Segment) (b : Bool) → leb (lengt
 merged_case ms ns path true e h k later =
     let few : length ms + length ns ≤ 255 = leb-true (length ms + length ns) 255 e in
     let some : 1 ≤ length ms = h.some in
-    (record { some = omega (arith, some, length-append ms ns); few = omega (arith, few, length-append ms ns); asns = each_both _ ms ns h.asns k.asns }, later)
+    (record { some = omega (arith, some, length-append ms ns); few = omega (arith, few, length-append ms ns); asns = each_append _ ms ns h.asns k.asns }, later)
 merged_case ms ns path false e h k later = (h, (k, later))
 
 merged_sound : (ms : List ℕ) (path : List Segment) → IsSoundSegment (Sequence ms) → Each IsSoundSegment path → Each IsSoundSegment (merged_sequence ms path)
@@ -327,7 +315,7 @@ more_sound s attributes.AtomicAggregate h x = record { origin = h.origin; path =
 more_sound s (attributes.Aggregator a) h x = record { origin = h.origin; path = h.path; wide = h.wide; next_hop = h.next_hop; aggregator = x; partial = h.partial; unknown = h.unknown }
 more_sound s (attributes.Communities partial cs) h x = record { origin = h.origin; path = h.path; wide = h.wide; next_hop = h.next_hop; aggregator = h.aggregator; partial = no_mark partial cs; unknown = h.unknown }
 more_sound s (attributes.As4Path ss) h x = record { origin = h.origin; path = h.path; wide = x; next_hop = h.next_hop; aggregator = h.aggregator; partial = h.partial; unknown = h.unknown }
-more_sound s (attributes.Unknown u) h x = record { origin = h.origin; path = h.path; wide = h.wide; next_hop = h.next_hop; aggregator = h.aggregator; partial = h.partial; unknown = each_both _ s.unknown (u ∷ []) h.unknown (x, tt) }
+more_sound s (attributes.Unknown u) h x = record { origin = h.origin; path = h.path; wide = h.wide; next_hop = h.next_hop; aggregator = h.aggregator; partial = h.partial; unknown = each_append _ s.unknown (u ∷ []) h.unknown (x, tt) }
 more_sound s (attributes.Ignored n) h x = h
 
 all_sound : (s : Said) (all : List Attribute) → AreSoundSaid s → Each IsSound all → AreSoundSaid (fold with_attribute s all)

@@ -1,11 +1,9 @@
 -- The attributes and prefixes of a sound update, as they are written, spell it.
-use Rattle.std.proofs.Common.{◌≡◌, ℕ, zero, suc, ◌+◌, ◌-◌, ◌*◌, ◌/◌, ◌%◌, ◌^◌, ◌<◌, ◌≤◌, Bool, true, false, not, cond, List, [], ◌∷◌, ◌++◌, length, take, map, filter, flat_map, refl, sym, ap, subst, ◌∙◌, append_assoc, arith, inl, inr}
+use Rattle.std.proofs.Common.{◌≡◌, ℕ, zero, suc, ◌+◌, ◌-◌, ◌/◌, ◌%◌, ◌^◌, ◌<◌, ◌≤◌, Bool, true, false, not, cond, List, [], ◌∷◌, ◌++◌, length, take, map, filter, flat_map, refl, sym, ap, subst, ◌∙◌, append_assoc, arith, inl, inr}
 use Rattle.std.specs.Prelude.{Option, Some, None, ◌&&◌, ◌==◌, IsTrue, nat_le, nat_lt}
 use Rattle.std.specs.List.{fold}
 use Rattle.std.proofs.lemmas.Bool.{and_from, and_parts, cases_Bool, cases_eq, cases_lt, le-leb, leb-true, ltb-true, lt-ltb, ne_eqb}
 use Rattle.std.proofs.lemmas.List.{append-nil, length-take}
-use Rattle.std.proofs.lemmas.Nat.{pow-add}
-use Rattle.std.proofs.Math.Nat.{div-add-mod, mul-mod_right, mul_assoc}
 use Rattle.grammar.specs.Formats.{ItemsSpell}
 use Rattle.net_types.proofs.PrefixLemmas.{same_bits_refl}
 use Rattle.net_types.proofs.SetLemmas.{Member-append_cases, Member-append_left, Member-append_right}
@@ -29,7 +27,8 @@ use Rattle.net_types.specs.declared.route.Attrs.{Attrs}
 use Rattle.net_types.specs.declared.route.Segment.{Segment}
 use Rattle.net_types.specs.declared.route.Unknown.{Unknown}
 use Rattle.bgp_update.proofs.LengthSums.{is_highest, is_lowest, is_middle}
-use Rattle.bgp_update.proofs.SoundReading.{of_each}
+use Rattle.net_types.proofs.BitLemmas.{fewer_zeros}
+use Rattle.net_types.proofs.MemberLemmas.{each_append, of_each}
 use Rattle.bgp_update.proofs.SpelledAttributes.{IsTaken, octets_of, path_told, then_spells, told_segment}
 use Rattle.bgp_update.proofs.ToldPaths.{whole_back, wide_told}
 use Rattle.bgp_update.specs.Answers.{AreNew}
@@ -37,16 +36,6 @@ use Rattle.bgp_update.specs.RoundTrip.{FitAttrs, FitsAggregator, FitsMed}
 use Rattle.net_types.proofs.RisingLemmas.{Member-filter}
 
 -- ---- prefixes
-
--- low bits of which more are zero
-fewer_zeros : (a j m : ℕ) → j ≤ m → a % 2 ^ m ≡ 0 → a % 2 ^ j ≡ 0
-fewer_zeros a j m le zeros =
-    let whole : 2 ^ m * (a / 2 ^ m) + a % 2 ^ m ≡ a = div-add-mod a (2 ^ m) in
-    let sum : j + (m - j) ≡ m = omega arith in
-    let power : 2 ^ m ≡ 2 ^ j * 2 ^ (m - j) = ap (λ (k : ℕ). 2 ^ k) (sym sum) ∙ pow-add 2 j (m - j) in
-    let e : a ≡ 2 ^ m * (a / 2 ^ m) = omega (arith, whole, zeros) in
-    let f : a ≡ 2 ^ j * (2 ^ (m - j) * (a / 2 ^ m)) = e ∙ ap (λ (k : ℕ). k * (a / 2 ^ m)) power ∙ mul_assoc (2 ^ j) (2 ^ (m - j)) (a / 2 ^ m) in
-    ap (λ (k : ℕ). k % 2 ^ j) f ∙ mul-mod_right (2 ^ j) (2 ^ (m - j) * (a / 2 ^ m))
 
 -- so many octets hold the address, where the bits behind them are zero
 held : (a len k : ℕ) → a < 4294967296 → len ≤ 32 → a % 2 ^ (32 - len) ≡ 0 → k ≡ (len + 7) / 8 → padded (take k (address_octets (record { 0 = a }))) ≡ a
@@ -184,10 +173,6 @@ optional_written None = refl
 optional_written (Some a) = attrs_are_written a
 
 -- ---- each is taken
-
-each_append : {A : Type 0} (P : A → Type 0) (xs ys : List A) → Each P xs → Each P ys → Each P (xs ++ ys)
-each_append P [] ys h k = k
-each_append P (x ∷ xs) ys h k = (h.0, each_append P xs ys h.1 k)
 
 each_filter : {A : Type 0} (P : A → Type 0) (test : A → Bool) (xs : List A) → Each P xs → Each (λ x. P x × (test x ≡ true)) (filter test xs)
 each_filter P test [] h = tt

@@ -30,12 +30,7 @@ use Rattle.block_build.specs.Outcomes.{answer_from, received_from}
 use Rattle.block_build.specs.Receivers.{discarding, exit_of, add_exit, add_exits, received_items, received_lines, receiver, receivers}
 use Rattle.block_build.specs.Rules.{action_at, actions_in, actions_of}
 use Rattle.block_build.specs.declared.receive.Receiver.{Receiver}
-
--- ---- lists
-
-union-append : {A B : Type 0} (f : A → List B) (xs ys : List A) → union_over f (xs ++ ys) ≡ union_over f xs ++ union_over f ys
-union-append f [] ys = refl
-union-append f (x ∷ xs) ys = ap (λ zs. f x ++ zs) (union-append f xs ys) ∙ sym (append_assoc (f x) (union_over f xs) (union_over f ys))
+use Rattle.classifier.proofs.SumLemmas.{union-append}
 
 -- ---- what leaves by the actions of some items
 

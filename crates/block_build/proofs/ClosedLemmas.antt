@@ -2,18 +2,17 @@
 use Rattle.std.proofs.Common.{◌≡◌, ℕ, ◌+◌, ◌<◌, length, get_or, take, drop, ◌⊎◌, ◌&&◌, ◌||◌, Bool, true, false, cond, Option, Some, None, List, [], ◌∷◌, ◌++◌, refl, inl, inr, sym, ap, ◌∙◌, subst}
 use Rattle.std.specs.Prelude.{is_some}
 use Rattle.std.specs.Option.{option_map}
-use Rattle.std.specs.List.{list_any}
 use Rattle.std.proofs.lemmas.List.{at_drop_more, take_more}
-use Rattle.std.proofs.lemmas.Bool.{and_from, and_parts, cases_Bool, false≢true}
+use Rattle.std.proofs.lemmas.Bool.{and_from, and_parts, cases_Bool, false≢true, or_parts, or_right}
 use Rattle.classifier.proofs.ShapeLemmas.{cubes-push, shadowed-there, there-shadowed}
 use Rattle.classifier.specs.Items.{Item, add_all}
 use Rattle.classifier.specs.Hulls.{holds_each}
 use Rattle.classifier.specs.Lines.{add_line, add_lines, cons_line, is_shadowed, joined, line, row, same_cube}
 use Rattle.classifier.specs.Meaning.{cubes_of}
-use Rattle.classifier.proofs.SeenLemmas.{cube_eq_exact}
+use Rattle.classifier.proofs.SeenLemmas.{same_cube_exact}
 use Rattle.classifier.specs.Runs.{lines_in}
 use Rattle.classifier.specs.declared.run.Run.{Run}
-use Rattle.classifier.specs.Seen.{cube_eq, is_there}
+use Rattle.classifier.specs.Seen.{is_there}
 use Rattle.classifier.specs.declared.join.Join.TheVariants.{Union}
 use Rattle.classifier.specs.declared.line.Line.{Line}
 use Rattle.net_types.proofs.CubeLemmas.{has-meet, has-met, has-within, meet-everything, option_ext, some_from_has, within-from_has, within_refl, within_trans, witness}
@@ -24,15 +23,14 @@ use Rattle.net_types.specs.Meets.{IsMeet}
 use Rattle.net_types.specs.Sets.{Member}
 use Rattle.net_types.specs.declared.address.PortNo.{PortNo}
 use Rattle.net_types.specs.declared.cube.Cube.{Cube}
-use Rattle.block_build.proofs.PastLemmas.{same_cube_exact, shadowed-cube}
+use Rattle.block_build.proofs.PastLemmas.{shadowed-cube}
 use Rattle.block_build.specs.Bounds.{AreMeets}
 use Rattle.block_build.specs.Closed.{AreClosed, AreKept, AreThere, first_holding}
 use Rattle.block_build.specs.Groups.{lines_within}
 use Rattle.block_build.specs.declared.group.Group.{Group}
 use Rattle.block_build.specs.Receivers.{lines_by, received_items, received_lines}
-
-pub some_is : {x y : Cube} → Some x ≡ Some y → x ≡ y
-some_is e = cc
+use Rattle.std.proofs.Math.Bool.{and_assoc, or-false}
+use Rattle.std.proofs.lemmas.Option.{same_Some}
 
 -- ---- meets of tested cubes
 
@@ -53,16 +51,12 @@ split x a n c m first second =
       is_middle = there.1;
       is_whole = option_ext _ (Some m) (λ h.
           has-meet there.0 n h ∙ ap (λ t. t && has n h) (has-met x a there.0 h there.1)
-          ∙ regroup (has x h) (has a h) (has n h) ∙ sym (has-met x c m h second ∙ ap (λ t. has x h && t) (has-met a n c h first)));
+          ∙ and_assoc (has x h) (has a h) (has n h) ∙ sym (has-met x c m h second ∙ ap (λ t. has x h && t) (has-met a n c h first)));
     }
-  where
-    regroup : (p q r : Bool) → ((p && q) && r) ≡ (p && (q && r))
-    regroup true q r = refl
-    regroup false q r = refl
 
 -- what is closed for the tested cubes is closed for their meets
 closed_meet : (tests : List Cube) (xs : List Line) → AreClosed tests xs → (c : Cube) → IsMeet tests c → (x m : Cube) → Member x (cubes_of xs) → meet_cubes x c ≡ Some m → Member m (cubes_of xs)
-closed_meet [] xs closed c k x m stands e = subst (λ d. Member d (cubes_of xs)) (some_is (sym (ap (meet_cubes x) k ∙ meet-everything x) ∙ e)) stands
+closed_meet [] xs closed c k x m stands e = subst (λ d. Member d (cubes_of xs)) (same_Some _ _ (sym (ap (meet_cubes x) k ∙ meet-everything x) ∙ e)) stands
 closed_meet (a ∷ tests) xs closed c (inl k) x m stands e = closed_meet tests xs (λ d t n s i f. closed d t n s (inr i) f) c k x m stands e
 closed_meet (a ∷ tests) xs closed c (inr k) x m stands e =
     let s = split x a k.0 c m k.2 e in
@@ -123,15 +117,12 @@ row_once kept x (z ∷ ys) y fresh first there = elim (cases_Bool (lies_within_c
         | inl old ↦ SetLemmas.Member-append_left (cubes_of kept) (x.cube ∷ []) m old
         | inr own ↦ SetLemmas.Member-append_right (cubes_of kept) (x.cube ∷ []) m (inl own)
       ]))
-      ∙ ap (λ (w : Line). kept ++ line (joined Union x.results w.results) x.cube ∷ []) (line_is (sym (ap (λ b. cond b (Some z) (first_holding x.cube ys)) inside) ∙ first))
+      ∙ ap (λ (w : Line). kept ++ line (joined Union x.results w.results) x.cube ∷ []) (same_Some _ _ (sym (ap (λ b. cond b (Some z) (first_holding x.cube ys)) inside) ∙ first))
   | inr outside ↦ of outside (meet_cubes x.cube z.cube) refl (row_once kept x ys y fresh (sym (ap (λ b. cond b (Some z) (first_holding x.cube ys)) outside) ∙ first) (λ w m k e. there w m (inr k) e))
 ]
   where
     js : List Item
     js = joined Union x.results z.results
-
-    line_is : {v w : Line} → Some v ≡ Some w → v ≡ w
-    line_is e = cc
 
     of : lies_within_cube x.cube z.cube ≡ false → (o : Option Cube) → meet_cubes x.cube z.cube ≡ o → add_lines kept (row Union x ys) ≡ kept ++ line (joined Union x.results y.results) x.cube ∷ []
         → add_lines kept (cons_line (option_map (line js) o) (row Union x ys)) ≡ kept ++ line (joined Union x.results y.results) x.cube ∷ []
@@ -143,10 +134,6 @@ row_once kept x (z ∷ ys) y fresh first there = elim (cases_Bool (lies_within_c
 
 -- ---- which cubes are there
 
-or_parts : (a b : Bool) → (a || b) ≡ false → (a ≡ false) × (b ≡ false)
-or_parts true b e = absurd (false≢true (sym e))
-or_parts false b e = (refl, e)
-
 there_member : (xs : List Line) (c : Cube) → is_there xs c ≡ true → Member c (cubes_of xs)
 there_member [] c e = absurd (false≢true e)
 there_member (x ∷ xs) c e = elim (cases_Bool (same_cube x.cube c)) [
@@ -157,20 +144,12 @@ there_member (x ∷ xs) c e = elim (cases_Bool (same_cube x.cube c)) [
 member_there : (xs : List Line) (c : Cube) → Member c (cubes_of xs) → is_there xs c ≡ true
 member_there [] c k = elim k [ ]
 member_there (x ∷ xs) c (inl e) = ap (λ b. b || is_there xs c) (ap (same_cube x.cube) e ∙ and_from _ _ (within_refl x.cube) (within_refl x.cube))
-member_there (x ∷ xs) c (inr k) = or_last (same_cube x.cube c) (is_there xs c) (member_there xs c k)
-  where
-    or_last : (a b : Bool) → b ≡ true → (a || b) ≡ true
-    or_last true b e = refl
-    or_last false b e = e
+member_there (x ∷ xs) c (inr k) = or_right (same_cube x.cube c) (is_there xs c) (member_there xs c k)
 
 -- a cube that is hidden, where that of all headers isn't there, is there
 pub hidden_there : (xs : List Line) (c d : Cube) → (is_there xs d || is_there xs everything) ≡ false → (is_there xs c || is_there xs everything) ≡ true → Member c (cubes_of xs)
 hidden_there xs c d fresh hidden =
-    there_member xs c (sym (or_right (is_there xs c)) ∙ ap (λ b. is_there xs c || b) (sym (or_parts (is_there xs d) (is_there xs everything) fresh).1) ∙ hidden)
-  where
-    or_right : (a : Bool) → (a || false) ≡ a
-    or_right true = refl
-    or_right false = refl
+    there_member xs c (sym (or-false (is_there xs c)) ∙ ap (λ b. is_there xs c || b) (sym (or_parts (is_there xs d) (is_there xs everything) fresh).1) ∙ hidden)
 
 unshadowed : (xs : List Line) (c : Cube) → (is_there xs c || is_there xs everything) ≡ false → is_shadowed xs (line [] c) ≡ false
 unshadowed xs c fresh =
@@ -270,13 +249,6 @@ each_more P xs i x lt at f p y k = elim (SetLemmas.Member-append_cases (take i x
 ]
 
 -- ---- tested cubes
-
-pub any_member : (cs : List Cube) (c : Cube) → list_any (λ d. cube_eq d c) cs ≡ true → Member c cs
-any_member [] c e = absurd (false≢true e)
-any_member (d ∷ cs) c e = elim (cases_Bool (cube_eq d c)) [
-  | inl same ↦ inl (sym (cube_eq_exact d c same))
-  | inr apart ↦ inr (any_member cs c (sym (ap (λ b. b || list_any (λ x. cube_eq x c) cs) apart) ∙ e))
-]
 
 -- a meet of some cubes is one of more
 pub meet_kept : (cs ds : List Cube) (c : Cube) → AreKept cs ds → IsMeet cs c → IsMeet ds c

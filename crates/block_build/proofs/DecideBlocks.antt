@@ -3,7 +3,7 @@ use Rattle.std.proofs.Common.{◌≡◌, Bool, true, false, ◌&&◌, cond, Opti
 use Rattle.std.specs.Prelude.{nat_eq}
 use Rattle.std.specs.Option.{option_map}
 use Rattle.std.proofs.lemmas.Bool.{cases_Bool}
-use Rattle.classifier.proofs.DecideLemmas.{decide-append, decide-add_lines, decide-product, total, given_is}
+use Rattle.classifier.proofs.DecideLemmas.{decide-add_lines, decide-append, decide-product, given_is, map_twice, total}
 use Rattle.classifier.specs.Items.{Item, add_all}
 use Rattle.classifier.specs.Lines.{line, product}
 use Rattle.classifier.specs.Meaning.{decide, given, ends_with_everything}
@@ -44,7 +44,7 @@ ends-received hop (y ∷ (z ∷ ys)) = ends-received hop (z ∷ ys)
 -- ---- the sender's rules at a port
 
 -- the headers agree with the cube in all but the port
-abbrev agrees_besides : Cube → Headers → Bool
+abbrev pub agrees_besides : Cube → Headers → Bool
 agrees_besides c h = covers c.src h.src && (covers c.dst h.dst && (agrees nat_eq c.proto h.proto && (agrees port_is c.sport h.sport && agrees port_is c.dport h.dport)))
 
 decide-freed : (port : PortNo) (c : Cube) (items : List Item) (xs : List Line) (h : Headers) → h.inport ≡ port → (wanted : Option PortNo) → c.inport ≡ wanted
@@ -72,10 +72,6 @@ decide-restricted port (x ∷ xs) h e =
 map_id : {A : Type 0} (o : Option A) → o ≡ option_map (λ x. x) o
 map_id (Some x) = refl
 map_id None = refl
-
-map_twice : {A B C : Type 0} (f : B → C) (g : A → B) (o : Option A) → option_map f (option_map g o) ≡ option_map (λ x. f (g x)) o
-map_twice f g (Some x) = refl
-map_twice f g None = refl
 
 decide-beside : (xs ys : List Line) (h : Headers) → ends_with_everything ys ≡ true → decide (beside xs ys) h ≡ option_map (λ kept. add_all kept (given ys h)) (decide xs h)
 decide-beside xs ys h t = decide-add_lines [] (product Union xs ys) h ∙ decide-product Union xs ys h (given ys h) (given_is ys h (total ys t h))

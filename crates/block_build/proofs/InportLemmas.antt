@@ -18,7 +18,7 @@ use Rattle.block_build.specs.Right.{view_atoms}
 use Rattle.block_build.specs.Views.{inbound_of}
 
 -- the headers, coming in by another port
-abbrev through : PortNo → Headers → Headers
+abbrev pub through : PortNo → Headers → Headers
 through port h = record { inport = port; src = h.src; dst = h.dst; proto = h.proto; sport = h.sport; dport = h.dport }
 
 -- a cube without inport has headers whatever their port

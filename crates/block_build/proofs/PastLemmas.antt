@@ -1,8 +1,7 @@
 -- A cube behind which none of the same is reached.
 use Rattle.std.proofs.Common.{◌≡◌, true, ◌||◌, cond, Some, List, [], ◌∷◌, ◌++◌, refl, inl, inr, sym, ap, ◌∙◌, subst}
 use Rattle.std.specs.Option.{option_map}
-use Rattle.std.proofs.lemmas.Bool.{and_parts, cases_Bool}
-use Rattle.net_types.proofs.CubeLemmas.{cubes_antisym}
+use Rattle.std.proofs.lemmas.Bool.{cases_Bool}
 use Rattle.net_types.proofs.SetLemmas
 use Rattle.net_types.specs.Cubes.{everything, lies_within_cube, meet_cubes}
 use Rattle.net_types.specs.Sets.{Member}
@@ -16,10 +15,6 @@ use Rattle.classifier.specs.declared.join.Join.TheVariants.{Union}
 use Rattle.classifier.specs.declared.line.Line.{Line}
 use Rattle.block_build.specs.Receivers.{received_items}
 use Rattle.block_build.proofs.ExitLemmas.{row_received}
-
--- cubes of which each lies within the other are the same
-pub same_cube_exact : (a b : Cube) → same_cube a b ≡ true → a ≡ b
-same_cube_exact a b same = let p = and_parts (lies_within_cube a b) (lies_within_cube b a) same in cubes_antisym a b p.0 p.1
 
 -- the cube alone decides whether a rule is reached
 pub shadowed-cube : (xs : List Line) (is js : List Item) (c : Cube) → is_shadowed xs (line is c) ≡ is_shadowed xs (line js c)

@@ -10,10 +10,9 @@ use Rattle.net_types.proofs.WidthLemmas.{no_longer, meets-HasNoRepeats}
 use Rattle.net_types.proofs.MeetLemmas.{IsMeet-meets}
 use Rattle.net_types.specs.Answers.{Policies, is_offered, leaves_by, offered_hole, offered_port, or_unchanged, part_answer, policy_of, received_at, sent}
 use Rattle.net_types.specs.Cells.{cell_atoms, freed, freed_from}
-use Rattle.net_types.specs.Cubes.{has, everything, agrees, same_port, port_is}
+use Rattle.net_types.specs.Cubes.{has, everything, agrees, same_port}
 use Rattle.net_types.specs.Meets.{IsMeet, meets}
 use Rattle.net_types.specs.Policies.{Packet, atoms, den}
-use Rattle.net_types.specs.Prefixes.{covers}
 use Rattle.net_types.specs.Sets.{Member, SameMembers, union_over}
 use Rattle.net_types.specs.declared.address.Pid.{Pid}
 use Rattle.net_types.specs.declared.address.PortNo.{PortNo}
@@ -29,6 +28,9 @@ use Rattle.block_build.specs.Laws.{IsViewOf, RightForPolicies, RightForViews, No
 use Rattle.block_build.specs.Outcomes.{Makes, answer_from, atoms_from, received_from}
 use Rattle.block_build.specs.Right.{view_answer, view_atoms}
 use Rattle.block_build.specs.Views.{Viewed, inbound_of}
+use Rattle.std.proofs.lemmas.Option.{same_Some}
+use Rattle.block_build.proofs.InportLemmas.{through}
+use Rattle.block_build.proofs.DecideBlocks.{agrees_besides}
 
 -- ---- the answer depends on sets alone
 
@@ -89,13 +91,6 @@ abbrev at_port : PortNo → Cube → Option PortNo → Option Cube
 at_port port c None = Some c
 at_port port c (Some q) = cond (nat_eq q.0 port.0) (Some (record c { inport = None })) None
 
--- the headers, coming in by a port
-abbrev coming : PortNo → Headers → Headers
-coming port h = record { inport = port; src = h.src; dst = h.dst; proto = h.proto; sport = h.sport; dport = h.dport }
-
-abbrev agrees_besides : Cube → Headers → Bool
-agrees_besides c h = covers c.src h.src && (covers c.dst h.dst && (agrees nat_eq c.proto h.proto && (agrees port_is c.sport h.sport && agrees port_is c.dport h.dport)))
-
 has-at : (port : PortNo) (c : Cube) (h : Headers) (wanted : Option PortNo) → c.inport ≡ wanted → has_option (at_port port c wanted) h ≡ (agrees same_port wanted port && agrees_besides c h)
 unfolding has
 has-at port c h None w = ap (λ o. agrees same_port o h.inport && agrees_besides c h) w
@@ -105,7 +100,7 @@ has-at port c h (Some q) w = of (nat_eq q.0 port.0)
     of true = refl
     of false = refl
 
-has-coming : (port : PortNo) (c : Cube) (h : Headers) → has_option (at_port port c c.inport) h ≡ has c (coming port h)
+has-coming : (port : PortNo) (c : Cube) (h : Headers) → has_option (at_port port c c.inport) h ≡ has c (through port h)
 unfolding has
 has-coming port c h = has-at port c h c.inport refl
 
@@ -135,9 +130,6 @@ freed-at port c d (Some q) k = of (nat_eq q.0 port.0) k
 
 -- ---- meets seen through a change of the headers
 
-same_some : {x y : Cube} → Some x ≡ Some y → x ≡ y
-same_some e = cc
-
 -- a cube of the headers that a change takes into another cube
 module _ (seen : Cube → Option Cube) (change : Headers → Headers) (law : (c : Cube) (h : Headers) → has_option (seen c) h ≡ has c (change h)) where
   has-seen : (a c : Cube) (h : Headers) → seen a ≡ Some c → has c h ≡ has a (change h)
@@ -150,7 +142,7 @@ module _ (seen : Cube → Option Cube) (change : Headers → Headers) (law : (c 
   pub IsMeet-seen : (atoms others : List Cube) → ((a d : Cube) → Member a atoms → seen a ≡ Some d → IsMeet others d) → (c d : Cube) → IsMeet atoms c → seen c ≡ Some d → IsMeet others d
   IsMeet-seen [] others each c d h e =
       let same : Some d ≡ Some everything = sym e ∙ ap (λ x. seen x) h ∙ seen-everything in
-      subst (λ x. IsMeet others x) (sym (same_some same)) (IsMeet-everything others)
+      subst (λ x. IsMeet others x) (sym (same_Some _ _ same)) (IsMeet-everything others)
   IsMeet-seen (a ∷ atoms) others each c d (inl h) e = IsMeet-seen atoms others (λ b x k. each b x (inr k)) c d h e
   IsMeet-seen (a ∷ atoms) others each c d (inr h) e =
       let w = witness d in
@@ -175,7 +167,7 @@ atoms_wider port p cubes all inbound others out ins c h =
       | inl k ↦
           let s = SetLemmas.union-Member (freed port) cubes c k in
           IsMeet-append_left mine theirs c
-          (IsMeet-seen (λ a. at_port port a a.inport) (coming port) (has-coming port) all mine
+          (IsMeet-seen (λ a. at_port port a a.inport) (through port) (has-coming port) all mine
           (λ a d stands e. IsMeet-member mine d (SetLemmas.Member-union (freed port) all a d stands (at-freed port a d a.inport e)))
           s.of c (out s.of s.stands) (freed-at port s.of c s.of.inport s.gives))
       | inr k ↦

@@ -8,7 +8,7 @@ use Rattle.classifier.proofs.DecideLemmas.{total, given_is, decide-add_lines}
 use Rattle.classifier.specs.Items.{Item}
 use Rattle.classifier.specs.Lines.{add_lines}
 use Rattle.classifier.specs.Meaning as lines
-use Rattle.classifier.specs.Meaning.{decide, given, meaning, HasDistinctCubes, ends_with_everything}
+use Rattle.classifier.specs.Meaning.{decide, given, HasDistinctCubes, ends_with_everything}
 use Rattle.classifier.specs.declared.line.Line.{Line}
 use Rattle.events.specs.Sound.{cubes_of}
 use Rattle.events.specs.Table.{done_by, first_rule}
@@ -40,6 +40,7 @@ use Rattle.block_build.specs.Rules.{actions_in, actions_of, rule_of, rules_of}
 use Rattle.block_build.specs.Spreads.{restricted, blocks, built}
 use Rattle.block_build.specs.Views.{Viewed, IsTotal, entry_of, rules_in, inbound_of, has_all}
 use Rattle.block_build.specs.declared.receive.Receiver.{Receiver}
+use Rattle.std.proofs.lemmas.Option.{same_Some}
 
 -- ---- lines as rules
 
@@ -49,16 +50,13 @@ record Matches (xs : List Line) (h : Headers) (items : List Item) : Type 0 where
   first : first_rule (rules_of xs) h ≡ Some rule
   acts : rule.actions ≡ actions_of items
 
-same_some : {A : Type 0} {x y : A} → Some x ≡ Some y → x ≡ y
-same_some e = cc
-
 match-rules : (xs : List Line) (h : Headers) (items : List Item) → decide xs h ≡ Some items → Matches xs h items
 match-rules [] h items e = absurd (cc)
 match-rules (x ∷ xs) h items e = elim (cases_Bool (has x.cube h)) [
   | inl here ↦ record {
     rule = rule_of x;
     first = ap (λ b. cond b (Some (rule_of x)) (first_rule (rules_of xs) h)) here;
-    acts = ap actions_of (same_some (sym (ap (λ b. cond b (Some x.results) (decide xs h)) here) ∙ e));
+    acts = ap actions_of (same_Some _ _ (sym (ap (λ b. cond b (Some x.results) (decide xs h)) here) ∙ e));
   }
   | inr apart ↦
       let later = match-rules xs h items (sym (ap (λ b. cond b (Some x.results) (decide xs h)) apart) ∙ e) in

@@ -1,7 +1,7 @@
 -- Where the results of a sender's rule go.
 use Rattle.std.proofs.Common.{◌≡◌, ◌⊎◌, ℕ, Bool, true, false, ◌||◌, cond, List, [], ◌∷◌, ◌++◌, map, refl, inl, inr, sym, ap, ◌∙◌, subst}
 use Rattle.std.specs.Prelude.{nat_eq}
-use Rattle.std.proofs.lemmas.Bool.{cases_Bool, eq-eqb, or_cases, false≢true}
+use Rattle.std.proofs.lemmas.Bool.{cases_Bool, eq-eqb, or_cases, false≢true, or_right}
 use Rattle.classifier.specs.Items.{Item}
 use Rattle.net_types.proofs.SetLemmas
 use Rattle.net_types.specs.Answers.{Leaving, is_offered, offered_hole, offered_port, or_default, sent_to, towards}
@@ -134,10 +134,6 @@ all-for-sent best who offers (i ∷ items) there h = elim (or_cases (is_for best
   | inl mine ↦ SetLemmas.Member-append_left (sent_to (is_offered offers) no_hole best i.1) (sent_items best offers items) (To who) (for-sent best who offers i.1 there mine)
   | inr later ↦ SetLemmas.Member-append_right (sent_to (is_offered offers) no_hole best i.1) (sent_items best offers items) (To who) (all-for-sent best who offers items there later)
 ]
-
-or_right : (a b : Bool) → b ≡ true → (a || b) ≡ true
-or_right true b e = refl
-or_right false b e = e
 
 all-sent-for : (best who : Pid) (offers : List Offer) (items : List Item) → Member (To who) (sent_items best offers items) → has_one_for best who items ≡ true
 all-sent-for best who offers [] h = elim h [ ]

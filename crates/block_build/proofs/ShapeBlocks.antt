@@ -1,6 +1,6 @@
 -- The cubes of the rules that are built are meets of those that count.
 use Rattle.std.proofs.Common.{◌≡◌, Bool, true, false, cond, List, [], ◌∷◌, ◌++◌, map, refl, inl, inr, sym, ap, ◌∙◌, subst}
-use Rattle.classifier.proofs.LineLemmas.{EachLine, each-add_lines, each-product}
+use Rattle.classifier.proofs.LineLemmas.{each-add_lines, each-product}
 use Rattle.classifier.specs.Items.{Item}
 use Rattle.classifier.specs.Lines.{line, add_lines, product}
 use Rattle.classifier.specs.Meaning.{cubes_of}
@@ -22,6 +22,7 @@ use Rattle.block_build.specs.Outcomes.{atoms_from}
 use Rattle.block_build.specs.Receivers.{discarding, received_lines, receiver, receivers}
 use Rattle.block_build.specs.Spreads.{restricted, beside, spread}
 use Rattle.block_build.specs.declared.receive.Receiver.{Receiver}
+use Rattle.classifier.proofs.ResultLemmas.{cube-stands}
 
 -- ---- the cubes of the sender's and of the receivers' rules
 
@@ -36,13 +37,6 @@ cubes-restricted port (x ∷ xs) = cubes-lines x.results (freed port x.cube) (re
 pub cubes-received : (hop : PortNo) (xs : List Line) → cubes_of (received_lines hop xs) ≡ cubes_of xs
 cubes-received hop [] = refl
 cubes-received hop (x ∷ xs) = ap (λ cs. x.cube ∷ cs) (cubes-received hop xs)
-
-cube-stands : (xs : List Line) (x : Line) → Member x xs → Member x.cube (cubes_of xs)
-cube-stands xs x h = SetLemmas.Member-map (λ (z : Line). z.cube) xs x h
-
--- what holds of each line of two lists
-each-both : (P : Line → Type 0) (xs ys : List Line) → EachLine P xs → EachLine P ys → EachLine P (xs ++ ys)
-each-both P xs ys f g = λ z h. elim (SetLemmas.Member-append_cases xs ys z h) [ inl k ↦ f z k | inr k ↦ g z k ]
 
 -- ---- the rules that are built
 

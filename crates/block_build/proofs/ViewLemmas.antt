@@ -1,5 +1,5 @@
 -- A view with one more receiver, and the view of a part.
-use Rattle.std.proofs.Common.{◌≡◌, ◌≤◌, ◌<◌, ℕ, zero, suc, get_or, take, length, arith, true, ◌&&◌, cond, List, [], ◌∷◌, ◌++◌, map, refl, sym, ap, ◌∙◌, subst, inl, inr}
+use Rattle.std.proofs.Common.{◌≡◌, ◌≤◌, ℕ, take, length, true, ◌&&◌, cond, List, [], ◌∷◌, ◌++◌, map, refl, sym, ap, ◌∙◌, subst, inl, inr}
 use Rattle.std.specs.Prelude.{Some, is_some, nat_eq}
 use Rattle.std.specs.List.{list_all}
 use Rattle.std.specs.Option.{option_map_or}
@@ -66,9 +66,3 @@ module _ (rules : Pid → List Line) where
 
     pub view_receives : (o : Offer) → Member o offers → inbound_of v o.exporter ≡ rules o.exporter
     view_receives o h = ap (λ es. rules_in es o.exporter) whole ∙ rules_offered offers o h
-
--- what a place of the offers holds is one of them
-pub Member-at : (offers : List Offer) (i : ℕ) (d : Offer) → i < length offers → Member (get_or offers i d) offers
-Member-at [] i d lt = absurd (omega (arith, lt))
-Member-at (x ∷ xs) zero d lt = inl refl
-Member-at (x ∷ xs) (suc i) d lt = inr (Member-at xs i d (omega (arith, lt)))

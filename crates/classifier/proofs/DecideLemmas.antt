@@ -9,6 +9,7 @@ use Rattle.net_types.specs.Headers.{apply}
 use Rattle.net_types.specs.Cubes.{has, everything, meet_cubes, pull_cube, lies_within_cube}
 use Rattle.net_types.specs.Sets.{Member, SameMembers, union_over}
 use Rattle.net_types.proofs.CubeLemmas.{has_option, has-meet, has-pull, has-within, has-everything}
+use Rattle.net_types.proofs.FindLemmas.{cond_same}
 use Rattle.net_types.proofs.SetLemmas
 use Rattle.classifier.specs.declared.line.Line.{Line}
 use Rattle.classifier.specs.declared.join.Join.{Join}
@@ -84,10 +85,6 @@ row_step true true f items rest = refl
 row_step true false f items rest = refl
 row_step false in_y f items rest = refl
 
-cond_same : {A : Type 0} (b : Bool) (x : A) → cond b x x ≡ x
-cond_same true x = refl
-cond_same false x = refl
-
 pub decide-row : (join : Join) (x : Line) (ys : List Line) (h : Headers) → decide (row join x ys) h ≡ cond (has x.cube h) (option_map (joined join x.results) (decide ys h)) None
 decide-row join x [] h = sym (cond_same (has x.cube h) None)
 decide-row join x (y ∷ ys) h =
@@ -135,7 +132,7 @@ abbrev pub gathered : List Line → Headers → List Item → List Item → List
 gathered ys h items [] = items
 gathered ys h items (first ∷ rest) = gathered ys h (add_all items (after_all first (given ys (apply first.0 h)))) rest
 
-map_twice : {A B C : Type 0} (f : B → C) (g : A → B) (o : Option A) → option_map f (option_map g o) ≡ option_map (λ x. f (g x)) o
+pub map_twice : {A B C : Type 0} (f : B → C) (g : A → B) (o : Option A) → option_map f (option_map g o) ≡ option_map (λ x. f (g x)) o
 map_twice f g (Some x) = refl
 map_twice f g None = refl
 

@@ -3,14 +3,13 @@ use Rattle.std.proofs.Common.{◌≡◌, ℕ, Bool, true, false, ◌&&◌, Optio
 use Rattle.std.specs.Prelude.{nat_eq}
 use Rattle.std.specs.Cmp.Derive.{both_true}
 use Rattle.std.proofs.lemmas.Bool.{cases_Bool, and_parts, eqb-true, false≢true}
-use Rattle.net_types.specs.Bits.{same_bits}
 use Rattle.net_types.specs.Cubes.{agrees, everything, has, lies_within_cube, meet_cubes, port_is, same_port}
-use Rattle.net_types.specs.Prefixes.{any_prefix, covers, lies_within}
+use Rattle.net_types.specs.Prefixes.{covers, lies_within}
 use Rattle.net_types.specs.declared.address.Ip.{Ip}
 use Rattle.net_types.specs.declared.cube.Cube.{Cube}
 use Rattle.net_types.specs.declared.headers.Headers.{Headers}
 use Rattle.net_types.specs.declared.prefix.Prefix.{Prefix}
-use Rattle.net_types.proofs.CubeLemmas.{IsIn, fields-from_has, has-everything, has-from_fields, has-meet, has-within, has_option, option_ext, ports_exact, within-from_has, within_refl, within_trans}
+use Rattle.net_types.proofs.CubeLemmas.{any_prefix-covers, IsIn, fields-from_has, has-everything, has-from_fields, has-meet, has-within, has_option, option_ext, ports_exact, within-from_has, within_refl, within_trans}
 use Rattle.net_types.proofs.PrefixLemmas.{within-covers}
 use Rattle.classifier.specs.declared.line.Line.{Line}
 use Rattle.classifier.specs.Hulls.{common_value, common_prefix, hull_cube, hull_with, holds_each}
@@ -34,16 +33,12 @@ module _ {A X : Type 0} (same : A → A → Bool) (tie : (x y : A) → same x y 
     | inr apart ↦ rw apart refl
   ]
 
-covers_any : (ip : Ip) → covers any_prefix ip ≡ true
-unfolding same_bits
-covers_any ip = refl
-
 prefix_left : (p q : Prefix) (ip : Ip) → covers p ip ≡ true → covers (common_prefix p q) ip ≡ true
 prefix_left p q ip h = elim (cases_Bool (lies_within p q)) [
   | inl inside ↦ rw inside (within-covers p q ip inside h)
   | inr outside ↦ rw outside (elim (cases_Bool (lies_within q p)) [
     | inl around ↦ rw around h
-    | inr apart ↦ rw apart (covers_any ip)
+    | inr apart ↦ rw apart (any_prefix-covers ip)
   ])
 ]
 
@@ -52,7 +47,7 @@ prefix_right p q ip h = elim (cases_Bool (lies_within p q)) [
   | inl inside ↦ rw inside h
   | inr outside ↦ rw outside (elim (cases_Bool (lies_within q p)) [
     | inl around ↦ rw around (within-covers q p ip around h)
-    | inr apart ↦ rw apart (covers_any ip)
+    | inr apart ↦ rw apart (any_prefix-covers ip)
   ])
 ]
 

@@ -62,7 +62,7 @@ abbrev pub EachLine : (Line → Type 0) → List Line → Type 0
 EachLine P xs = (z : Line) → Member z xs → P z
 
 module _ (P : Line → Type 0) where
-  each-append : (xs ys : List Line) → EachLine P xs → EachLine P ys → EachLine P (xs ++ ys)
+  pub each-append : (xs ys : List Line) → EachLine P xs → EachLine P ys → EachLine P (xs ++ ys)
   each-append xs ys f g = λ z h. elim (SetLemmas.Member-append_cases xs ys z h) [ inl k ↦ f z k | inr k ↦ g z k ]
 
   each-one : (y : Line) → P y → EachLine P (y ∷ [])

@@ -19,7 +19,7 @@ use Rattle.classifier.specs.declared.join.Join.TheVariants.{Union, Otherwise}
 use Rattle.classifier.specs.Items.{Item}
 use Rattle.classifier.specs.Lines.{tested, turned, negated, add_lines, joined, line, product, after, composed}
 use Rattle.classifier.specs.Meaning.{only_where_none, otherwise, Follows, given, carried, meaning, cubes_of, assigns_of, decide}
-use Rattle.classifier.proofs.DecideLemmas.{Given, given_is, decide-add_lines, decide-product, decide-composed, gathered, same_add_all, same_gathered}
+use Rattle.classifier.proofs.DecideLemmas.{or_assoc, Given, given_is, decide-add_lines, decide-product, decide-composed, gathered, same_add_all, same_gathered}
 use Rattle.std.proofs.lemmas.Bool.{cases_Bool}
 use Rattle.net_types.proofs.CubeLemmas.{has-everything}
 use Rattle.net_types.specs.Policies.{Packet}
@@ -56,10 +56,6 @@ unwrap-twice : {A : Type 0} (n m : Option A) (x : A) → unwrap_or (option_or n 
 unwrap-twice (Some v) m x = refl
 unwrap-twice None m x = refl
 
-or-twice : {A : Type 0} (n m x : Option A) → option_or (option_or n m) x ≡ option_or n (option_or m x)
-or-twice (Some v) m x = refl
-or-twice None m x = refl
-
 arrived-twice : (l m n : Loc) → arrived l (arrived m n) ≡ arrived (arrived l m) n
 arrived-twice l m Stay = refl
 arrived-twice l m (To who) = refl
@@ -73,8 +69,8 @@ pub apply-followed_by : (m n : Assign) (h : Headers) → apply (followed_by m n)
 apply-followed_by m n h =
     ap (λ x. headers h x (unwrap_or (option_or n.dst m.dst) h.dst) (option_or (option_or n.sport m.sport) h.sport) (option_or (option_or n.dport m.dport) h.dport)) (unwrap-twice n.src m.src h.src)
     ∙ ap (λ x. headers h (unwrap_or n.src (unwrap_or m.src h.src)) x (option_or (option_or n.sport m.sport) h.sport) (option_or (option_or n.dport m.dport) h.dport)) (unwrap-twice n.dst m.dst h.dst)
-    ∙ ap (λ x. headers h (unwrap_or n.src (unwrap_or m.src h.src)) (unwrap_or n.dst (unwrap_or m.dst h.dst)) x (option_or (option_or n.dport m.dport) h.dport)) (or-twice n.sport m.sport h.sport)
-    ∙ ap (λ x. headers h (unwrap_or n.src (unwrap_or m.src h.src)) (unwrap_or n.dst (unwrap_or m.dst h.dst)) (option_or n.sport (option_or m.sport h.sport)) x) (or-twice n.dport m.dport h.dport)
+    ∙ ap (λ x. headers h (unwrap_or n.src (unwrap_or m.src h.src)) (unwrap_or n.dst (unwrap_or m.dst h.dst)) x (option_or (option_or n.dport m.dport) h.dport)) (or_assoc n.sport m.sport h.sport)
+    ∙ ap (λ x. headers h (unwrap_or n.src (unwrap_or m.src h.src)) (unwrap_or n.dst (unwrap_or m.dst h.dst)) (option_or n.sport (option_or m.sport h.sport)) x) (or_assoc n.dport m.dport h.dport)
 
 carried-after : (h : Headers) (l : Loc) (first next : Item) → carried h l (after first next) ≡ carried (apply first.0 h) (arrived l first.1) next
 carried-after h l first next =
@@ -97,7 +93,7 @@ meaning-composed xs ys first_all next_all h l =
 
 -- ---- cubes
 
-cube-stands : (xs : List Line) (x : Line) → Member x xs → Member x.cube (cubes_of xs)
+pub cube-stands : (xs : List Line) (x : Line) → Member x xs → Member x.cube (cubes_of xs)
 cube-stands xs x h = SetLemmas.Member-map (λ z. z.cube) xs x h
 
 each-cube : (P : Cube → Type 0) (xs : List Line) → EachLine (λ z. P z.cube) xs → (c : Cube) → Member c (cubes_of xs) → P c

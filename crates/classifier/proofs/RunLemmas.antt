@@ -1,6 +1,6 @@
 -- Runs of rules: what is made of them one by one is what is made of their rules, and where a run is passed over there was nothing to make.
 use Rattle.std.proofs.Common.{◌≡◌, ℕ, ◌+◌, ◌<◌, Bool, true, false, ◌&&◌, ◌||◌, cond, Option, Some, None, List, [], ◌∷◌, ◌++◌, append_assoc, length, get_or, drop, refl, inl, inr, sym, ap, ◌∙◌}
-use Rattle.std.specs.Option.{is_some, option_map}
+use Rattle.std.specs.Option.{option_map}
 use Rattle.std.specs.Cmp.Derive.{both_true}
 use Rattle.std.proofs.Math.Bool.{and-false, or_assoc, or-false, or-true}
 use Rattle.std.proofs.lemmas.Bool.{and_parts, cases_Bool, false≢true, or_cases}
@@ -26,10 +26,6 @@ use Rattle.classifier.proofs.HullLemmas.{met_by_neither}
 pub lines_in-push : (runs : List Run) (run : Run) → lines_in (runs ++ run ∷ []) ≡ lines_in runs ++ run.lines.now
 lines_in-push [] run = append-nil run.lines.now
 lines_in-push (r ∷ runs) run = ap (λ xs. r.lines.now ++ xs) (lines_in-push runs run) ∙ sym (append_assoc r.lines.now (lines_in runs) run.lines.now)
-
-pub not_some : {A : Type 0} (o : Option A) → is_some o ≡ false → o ≡ None
-not_some None e = refl
-not_some (Some x) e = absurd (false≢true (sym e))
 
 -- ---- a cube behind an assignment
 

@@ -13,6 +13,9 @@ use Rattle.classifier.specs.Lines.{same_cube, is_shadowed, add_line}
 use Rattle.classifier.proofs.ItemLemmas.{option_eq_exact, option_eq_refl}
 use Rattle.classifier.specs.Seen.{Cubes, is_there, if_many, prefix_eq, cube_eq, HasAll, Agrees}
 use Rattle.std.proofs.Math.Bool.{or-false}
+use Rattle.net_types.proofs.WidthTests.{any_found}
+use Rattle.std.specs.List.{list_any}
+use Rattle.net_types.specs.Sets.{Member}
 
 -- ---- the set's equality
 
@@ -43,7 +46,7 @@ cube_eq_exact a b h =
 same_cube_refl : (a : Cube) → same_cube a a ≡ true
 same_cube_refl a = and_from _ _ (within_refl a) (within_refl a)
 
-same_cube_exact : (a b : Cube) → same_cube a b ≡ true → a ≡ b
+pub same_cube_exact : (a b : Cube) → same_cube a b ≡ true → a ≡ b
 same_cube_exact a b h = let p = and_parts (lies_within_cube a b) (lies_within_cube b a) h in cubes_antisym a b p.0 p.1
 
 pub cube_eq_is : (a b : Cube) → cube_eq a b ≡ same_cube a b
@@ -51,6 +54,10 @@ cube_eq_is a b = elim (cases_Bool (same_cube a b)) [
   | inl same ↦ ap (cube_eq a) (sym (same_cube_exact a b same)) ∙ cube_eq_refl a ∙ sym same
   | inr apart ↦ false_from_ne_true _ (λ h. false≢true (sym apart ∙ ap (same_cube a) (sym (cube_eq_exact a b h)) ∙ same_cube_refl a)) ∙ sym apart
 ]
+
+-- a cube that a test finds stands in the list
+pub any_there : (cs : List Cube) (c : Cube) → list_any (λ d. cube_eq d c) cs ≡ true → Member c cs
+any_there cs c e = let found = any_found (λ d. cube_eq d c) cs e in subst (λ d. Member d cs) (cube_eq_exact found.0 c found.1.passes) found.1.stands
 
 -- ---- the list
 

@@ -1,5 +1,5 @@
 -- Sums of classifiers, made of the sums of their halves.
-use Rattle.std.proofs.Common.{◌≡◌, ℕ, arith, length, take, drop, List, [], ◌∷◌, ◌++◌, refl, inl, inr, sym, ap, ◌∙◌, subst}
+use Rattle.std.proofs.Common.{◌≡◌, ℕ, take, drop, List, [], ◌∷◌, ◌++◌, refl, inl, inr, sym, ap, ◌∙◌, subst}
 use Rattle.std.proofs.lemmas.List.{append-nil, take-append-drop}
 use Rattle.net_types.specs.declared.cube.Cube.{Cube}
 use Rattle.net_types.specs.declared.headers.Headers.{Headers}
@@ -55,10 +55,6 @@ sum-both xs ys a b c f g means cubes assigns = record {
     | inr new ↦ SetLemmas.Member-append_right (union_over assigns_of xs) (union_over assigns_of ys) m (g.assigns m new)
   ]);
 }
-
-pub no_parts : {A : Type 0} (xs : List A) → length xs ≡ 0 → xs ≡ []
-no_parts [] none = refl
-no_parts (x ∷ xs) none = let no : ⊥ = omega (arith, none) in absurd no
 
 -- of the parts of two halves
 pub sum-halves : (n : ℕ) (parts xs ys : List Classifier) (a b c : Classifier) → xs ≡ take n parts → ys ≡ drop n parts → IsSum xs a → IsSum ys b

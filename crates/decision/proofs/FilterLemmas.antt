@@ -37,14 +37,6 @@ any_weaker p q h (x ∷ xs) any = elim (or_cases (p x) (list_any p xs) any) [
   | inr e ↦ or_right (q x) _ (any_weaker p q h xs e)
 ]
 
-filter_step : {X : Type 0} (t : X → Bool) (b : Bool) (x : X) (xs ys : List X) → filter t xs ≡ ys → filter t (cond b (x ∷ xs) xs) ≡ cond (b && t x) (x ∷ ys) ys
-filter_step t true x xs ys h = same_cond (t x) (t x) x (filter t xs) ys refl h
-filter_step t false x xs ys h = h
-
-pub filter_twice : {X : Type 0} (t u : X → Bool) (xs : List X) → filter t (filter u xs) ≡ filter (λ x. u x && t x) xs
-filter_twice t u [] = refl
-filter_twice t u (x ∷ xs) = filter_step t (u x) x (filter u xs) (filter (λ y. u y && t y) xs) (filter_twice t u xs)
-
 any_step : {X : Type 0} (t : X → Bool) (b : Bool) (x : X) (xs : List X) (any : Bool) → list_any t xs ≡ any → list_any t (cond b (x ∷ xs) xs) ≡ ((b && t x) || any)
 any_step t true x xs any h = ap (λ b. t x || b) h
 any_step t false x xs any h = h
@@ -84,8 +76,3 @@ filter_false (x ∷ xs) = filter_false xs
 
 pub filter_none : {X : Type 0} (t : X → Bool) (xs : List X) → list_all (λ x. not (t x)) xs ≡ true → filter t xs ≡ []
 filter_none t xs all = filter_same t (λ x. false) (λ x. not (t x)) (λ x h. not-true (t x) h) xs all ∙ filter_false xs
-
--- tests that agree keep the same
-pub same_filter : {X : Type 0} (t u : X → Bool) → ((x : X) → t x ≡ u x) → (xs : List X) → filter t xs ≡ filter u xs
-same_filter t u h [] = refl
-same_filter t u h (x ∷ xs) = ap (λ b. cond b (x ∷ filter t xs) (filter t xs)) (h x) ∙ ap (λ ys. cond (u x) (x ∷ ys) ys) (same_filter t u h xs)

@@ -5,7 +5,6 @@ use Rattle.std.specs.Option.{option_and_then, option_map}
 use Rattle.decision.specs.Passes.{best_by, best_place, numbered}
 use Rattle.decision.specs.declared.candidate.Candidate.{Candidate}
 use Rattle.decision.specs.Passes.{would_lead, lead_of, is_kept}
-use Rattle.decision.proofs.FilterLemmas.{same_filter}
 use Rattle.decision.proofs.WinnerLemmas.{pick, picked_best, numbered-map}
 use Rattle.std.specs.Prelude.{unwrap_or}
 use Rattle.std.specs.List.{list_any, list_all}
@@ -15,6 +14,7 @@ use Rattle.net_types.specs.Routes as routes
 use Rattle.net_types.specs.Routes.{first_of_list}
 use Rattle.decision.specs.Passes.{beats, unbeaten, least_by}
 use Rattle.decision.specs.Seen.{seen}
+use Rattle.std.proofs.lemmas.List.Elements.{filter_agree}
 
 -- a choice from the list and one from the numbered list
 record Tied {X : Type 0} (seen : X → Candidate) (all : List X) (w : Option X) (v : Option (ℕ × Candidate)) : Type 0 where
@@ -73,7 +73,7 @@ unbeaten_one c (d ∷ ds) =
     ∙ ap (λ b. (not (eqb c.asn d.asn) || leb (unwrap_or c.attrs.med 0) (unwrap_or d.attrs.med 0)) && b) (unbeaten_one c ds)
 
 unbeaten_is : (cs : List routes.Candidate) → unbeaten seen cs ≡ routes.least_med cs
-unbeaten_is cs = same_filter _ _ (λ c. unbeaten_one c cs) cs
+unbeaten_is cs = filter_agree _ _ (λ c. unbeaten_one c cs) cs
 
 -- the five filters of routes to choose from are those of what the choice sees of them
 pub best_is : (cs : List routes.Candidate) → routes.best_of cs ≡ best_by seen cs

@@ -5,15 +5,18 @@ use Rattle.std.specs.Option.{option_and_then, option_map}
 use Rattle.std.proofs.lemmas.Option.{slice_get-get_or}
 use Rattle.std.proofs.Math.ListN.{drop_of_length-le}
 use Rattle.std.specs.List.{filter, list_any, list_all}
-use Rattle.std.proofs.lemmas.Bool.{and_parts, and_from, and_right, eqb-true, leb-true, le-leb, le-ltb, eq-eqb, or_cases, or_from, false≢true, not-true, not_from_false, or_left, or_right}
+use Rattle.std.proofs.lemmas.Bool.{and_parts, and_from, and_right, eqb-true, leb-true, le-leb, le-ltb, or_cases, or_from, false≢true, not-true, not_from_false, or_left, or_right}
 use Rattle.std.proofs.lemmas.Bool.Decides.{nat_tests}
-use Rattle.std.proofs.lemmas.List.Elements.{filter-append}
+use Rattle.std.proofs.lemmas.List.Elements.{filter-append, filter_agree}
 use Rattle.std.proofs.lemmas.List.Folds.{list_all-append}
 use Rattle.decision.specs.Passes.{least_by, unbeaten, best_by, best_place, numbered, beats, med_of}
 use Rattle.net_types.specs.Routes.{first_of_list}
 use Rattle.decision.specs.declared.candidate.Candidate.{Candidate}
 use Rattle.decision.specs.Passes.{is_ahead, is_even, precedes, lead_of, would_lead, is_kept}
-use Rattle.decision.proofs.FilterLemmas.{all_weaker, filter_twice, any-filter, all-filter, any_weaker, least_by_is, filter_none, same_filter}
+use Rattle.decision.proofs.FilterLemmas.{all_weaker, any-filter, all-filter, any_weaker, least_by_is, filter_none}
+use Rattle.net_types.proofs.PassLemmas.{filter_twice}
+use Rattle.net_types.proofs.FindLemmas.{is_some-map}
+use Rattle.net_types.proofs.SameLemmas.{nat_itself}
 
 -- the first pair is before the second
 abbrev lex : ℕ → ℕ → ℕ → ℕ → Bool
@@ -39,9 +42,6 @@ lex_low_second a b c d g = grind (arith, nat_tests)
 
 lex_apart : (a b c d : ℕ) → lex a b c d ≡ true → not (eqb c a && eqb d b) ≡ true
 lex_apart a b c d g = grind (arith, nat_tests)
-
-eqb_self : (a : ℕ) → eqb a a ≡ true
-eqb_self a = eq-eqb a a refl
 
 lex_behind : (a b c d e f : ℕ) → lex a b c d ≡ true → lex a b e f ≡ false → lex c d e f ≡ false
 lex_behind a b c d e f g h = grind (arith, nat_tests)
@@ -69,7 +69,7 @@ lead_all (d ∷ xs) w = lead_step xs w d (is_ahead d w) refl (lead_all xs d) (le
 
 -- the lead is one of the routes
 lead_any : (xs : List Candidate) (w : Candidate) → list_any (λ d. is_even d (lead_of w xs)) (w ∷ xs) ≡ true
-lead_any [] w = or_left (is_even w w) false (and_from _ _ (eqb_self w.hops) (eqb_self w.origin))
+lead_any [] w = or_left (is_even w w) false (and_from _ _ (nat_itself w.hops) (nat_itself w.origin))
 lead_any (d ∷ xs) w = any_step xs w d (is_ahead d w) (lead_any xs d) (lead_any xs w)
   where
     any_step : (xs : List Candidate) (w d : Candidate) (b : Bool)
@@ -138,14 +138,14 @@ leads_first {X} seen w xs l =
     let B : X → Bool = λ d. eqb (seen d).peer.0 (seen w).peer.0 in
     let one : least_by (λ c. (seen c).id.0) xs ≡ filter A xs = least_by_is (λ c. (seen c).id.0) (seen w).id.0 xs
     (leads_all seen w xs (λ d. leb (seen w).id.0 (seen d).id.0) (λ d g. lex_low (seen d).id.0 (seen d).peer.0 (seen w).id.0 (seen w).peer.0 g) l)
-    (leads_any seen w xs A (eqb_self (seen w).id.0) l) in
+    (leads_any seen w xs A (nat_itself (seen w).id.0) l) in
     let two : least_by (λ c. (seen c).peer.0) (filter A xs) ≡ filter B (filter A xs) = least_by_is (λ c. (seen c).peer.0) (seen w).peer.0 (filter A xs)
     (all-filter (λ d. leb (seen w).peer.0 (seen d).peer.0) A xs ∙ leads_all seen w xs (λ d. not (A d) || leb (seen w).peer.0 (seen d).peer.0) (λ d g. lex_low_second (seen d).id.0 (seen d).peer.0 (seen w).id.0 (seen w).peer.0 g) l)
-    (any-filter B A xs ∙ leads_any seen w xs (λ d. A d && B d) (and_from (A w) (B w) (eqb_self (seen w).id.0) (eqb_self (seen w).peer.0)) l) in
+    (any-filter B A xs ∙ leads_any seen w xs (λ d. A d && B d) (and_from (A w) (B w) (nat_itself (seen w).id.0) (nat_itself (seen w).peer.0)) l) in
     ap (λ ys. first_of_list (least_by (λ c. (seen c).peer.0) ys)) one
     ∙ ap first_of_list (two ∙ filter_twice B A xs ∙ ap (filter (λ d. A d && B d)) l.split ∙ filter-append (λ d. A d && B d) l.before (w ∷ l.after)
     ∙ ap (λ ys. ys ++ filter (λ d. A d && B d) (w ∷ l.after)) (filter_none (λ d. A d && B d) l.before (all_weaker (λ d. precedes (seen w) (seen d)) (λ d. not (A d && B d)) (λ d g. lex_apart (seen w).id.0 (seen w).peer.0 (seen d).id.0 (seen d).peer.0 g) l.before l.front)))
-    ∙ first_kept w l.after (λ d. A d && B d) (and_from (A w) (B w) (eqb_self (seen w).id.0) (eqb_self (seen w).peer.0))
+    ∙ first_kept w l.after (λ d. A d && B d) (and_from (A w) (B w) (nat_itself (seen w).id.0) (nat_itself (seen w).peer.0))
 
 any-map : {X : Type 0} (seen : X → Candidate) (t : Candidate → Bool) (xs : List X) → list_any t (map seen xs) ≡ list_any (λ x. t (seen x)) xs
 any-map seen t [] = refl
@@ -173,7 +173,7 @@ kept_is {X} seen l xs every some =
     ap (λ ys. unbeaten seen (least_by (λ c. (seen c).origin) ys)) one
     ∙ ap (unbeaten seen) (two ∙ filter_twice B A xs)
     ∙ filter_twice (λ x. not (list_any (λ y. beats (seen y) (seen x)) (filter E xs))) E xs
-    ∙ same_filter (λ x. E x && not (list_any (λ y. beats (seen y) (seen x)) (filter E xs))) (λ x. is_kept l (map seen xs) (seen x))
+    ∙ filter_agree (λ x. E x && not (list_any (λ y. beats (seen y) (seen x)) (filter E xs))) (λ x. is_kept l (map seen xs) (seen x))
     (λ x. ap (λ b. E x && not b) (any-filter (λ y. beats (seen y) (seen x)) E xs ∙ sym (any-map seen (λ d. is_even d l && beats d (seen x)) xs))) xs
 
 -- the first of those that precede all others
@@ -225,11 +225,11 @@ picked_best seen l c cs xs is lead =
 
 -- a least one of some numbers
 some_least : {X : Type 0} (f : X → ℕ) (xs : List X) (w : X) → (m : ℕ) × (list_all (λ d. leb m (f d)) (w ∷ xs) ≡ true) × (list_any (λ d. eqb (f d) m) (w ∷ xs) ≡ true)
-some_least {X} f [] w = (f w, and_from (leb (f w) (f w)) true (le-leb (f w) (f w) (omega arith)) refl, or_left (eqb (f w) (f w)) false (eqb_self (f w)))
+some_least {X} f [] w = (f w, and_from (leb (f w) (f w)) true (le-leb (f w) (f w) (omega arith)) refl, or_left (eqb (f w) (f w)) false (nat_itself (f w)))
 some_least {X} f (x ∷ xs) w = let k = some_least f xs x in least_step f (x ∷ xs) w k.0 k.1 k.2 (leb (f w) k.0) refl
   where
     least_step : (f : X → ℕ) (ys : List X) (w : X) (m : ℕ) → list_all (λ d. leb m (f d)) ys ≡ true → list_any (λ d. eqb (f d) m) ys ≡ true → (b : Bool) → leb (f w) m ≡ b → (n : ℕ) × (list_all (λ d. leb n (f d)) (w ∷ ys) ≡ true) × (list_any (λ d. eqb (f d) n) (w ∷ ys) ≡ true)
-    least_step f ys w m all any true e = (f w, and_from (leb (f w) (f w)) _ (le-leb (f w) (f w) (omega arith)) (all_weaker (λ d. leb m (f d)) (λ d. leb (f w) (f d)) (λ d g. at_least (f w) m (f d) e g) ys all), or_left (eqb (f w) (f w)) _ (eqb_self (f w)))
+    least_step f ys w m all any true e = (f w, and_from (leb (f w) (f w)) _ (le-leb (f w) (f w) (omega arith)) (all_weaker (λ d. leb m (f d)) (λ d. leb (f w) (f d)) (λ d g. at_least (f w) m (f d) e g) ys all), or_left (eqb (f w) (f w)) _ (nat_itself (f w)))
     least_step f ys w m all any false e = (m, and_from (leb m (f w)) _ (more (f w) m e) all, or_right (eqb (f w) m) _ any)
 
 not_beaten : {X : Type 0} (seen : X → Candidate) (n : ℕ) (x : X) → med_of (seen x) ≡ n → (xs : List X) → list_all (λ d. leb n (med_of (seen d))) xs ≡ true → list_any (λ y. beats (seen y) (seen x)) xs ≡ false
@@ -328,14 +328,10 @@ passes_best c (x ∷ xs) v i l first lead past within h =
     ∙ ap (option_map (λ (p : ℕ × Candidate). p.0)) (sym (rest_end l (x ∷ xs) v i past) ∙ h
     ∙ picked_best (λ (p : ℕ × Candidate). p.1) l x xs (numbered 0 (x ∷ xs)) (numbered-map 0 (x ∷ xs)) (lead ∙ ap (λ d. lead_of d (x ∷ xs)) same))
 
-mapped_some : {X Y : Type 0} (f : X → Y) (o : Option X) → is_some (option_map f o) ≡ is_some o
-mapped_some f None = refl
-mapped_some f (Some x) = refl
-
 -- no winner, no routes
 pub no_winner : (xs : List Candidate) → best_place xs ≡ None → xs ≡ []
 no_winner [] e = refl
-no_winner (x ∷ xs) e = absurd (false≢true (ap is_some (sym e) ∙ mapped_some (λ (p : ℕ × Candidate). p.0) (best_by (λ p. p.1) (numbered 0 (x ∷ xs))) ∙ best_some (λ (p : ℕ × Candidate). p.1) (0, x) (numbered 1 xs)))
+no_winner (x ∷ xs) e = absurd (false≢true (ap is_some (sym e) ∙ is_some-map (λ (p : ℕ × Candidate). p.0) (best_by (λ p. p.1) (numbered 0 (x ∷ xs))) ∙ best_some (λ (p : ℕ × Candidate). p.1) (0, x) (numbered 1 xs)))
 
 pub no_routes : (xs : List Candidate) → xs ≡ [] → best_place xs ≡ None
 no_routes xs e = ap best_place e

@@ -1,11 +1,12 @@
 -- A drained sender was told of exactly the prefixes for which it has a best route, so the longest told prefix is the
 -- longest exported one.
-use Rattle.std.proofs.Common.{◌≡◌, ℕ, zero, suc, ◌+◌, ◌<◌, Bool, true, false, cond, ◌&&◌, ◌||◌, List, [], ◌∷◌, length, map, filter, sym, ap, subst, ◌∙◌, refl, arith}
+use Rattle.std.proofs.Common.{◌≡◌, ℕ, zero, suc, ◌+◌, ◌<◌, Bool, true, false, cond, ◌&&◌, ◌||◌, List, length, filter, sym, ap, subst, ◌∙◌, refl, arith}
 use Rattle.std.specs.Prelude.{Option, Some, None, is_some, MatchOption}
 use Rattle.std.specs.FinMap.{get, keys, contains_key-keys}
 use Rattle.std.specs.List.{list_any}
 use Rattle.std.specs.Option.{option_map, option_and_then}
 use Rattle.std.specs.Ordering.{eq_by_cmp}
+use Rattle.std.proofs.lemmas.Bool.{or_right}
 use Rattle.std.proofs.lemmas.Map.Views.{any-filter_same}
 use Rattle.events.proofs.Reached.{owner_declared, runs_declared, runs_sound}
 use Rattle.events.specs.Fits.{FitsBy, IsAccepted, IsSent, IsForwarded, IsTagged, ReachesExporters, bare, tagged_frame}
@@ -22,6 +23,7 @@ use Rattle.events.specs.declared.Reply.{Reply}
 use Rattle.net_types.proofs.LongestLemmas.{same_longest_by_tests}
 use Rattle.net_types.proofs.MapLemmas.{get-tabulate}
 use Rattle.net_types.proofs.OrderLemmas.{prefixes_total, prefix_tie}
+use Rattle.net_types.proofs.PassLemmas.{any_map}
 use Rattle.net_types.specs.Answers.{Policies, answer}
 use Rattle.net_types.specs.Exports.{Routing}
 use Rattle.net_types.specs.Frames.{destination, headers_of}
@@ -41,15 +43,7 @@ any_number f low zero k below is = absurd (omega arith)
 any_number f low (suc count) zero below is = let here : low + 0 ≡ low = omega arith in ap (λ b. b || list_any f (numbers (low + 1) count)) (ap f (sym here) ∙ is)
 any_number f low (suc count) (suc k) below is =
     let there : low + suc k ≡ low + 1 + k = omega arith in
-    or_true (f low) _ (any_number f (low + 1) count k (omega arith) (ap f (sym there) ∙ is))
-  where
-    or_true : (a b : Bool) → b ≡ true → (a || b) ≡ true
-    or_true true b is = refl
-    or_true false b is = is
-
-any_map : {A B : Type 0} (f : B → Bool) (g : A → B) (xs : List A) → list_any f (map g xs) ≡ list_any (λ x. f (g x)) xs
-any_map f g [] = refl
-any_map f g (x ∷ xs) = ap (λ b. f (g x) || b) (any_map f g xs)
+    or_right (f low) _ (any_number f (low + 1) count k (omega arith) (ap f (sym there) ∙ is))
 
 carried_by : (r : Routing) (who : Pid) (p : Prefix) → who.0 < length r.participants → is_some (best r who p) ≡ true → is_carried r p ≡ true
 carried_by r who p within has =

@@ -6,3 +6,4 @@ pub mod Candidates
 pub mod Routed
 pub mod Accepted
 pub mod SameEntries
+pub mod NewsLemmas

@@ -9,6 +9,7 @@ use Rattle.std.specs.Option.{option_map, option_map_or, option_and_then}
 use Rattle.std.specs.Ordering.{eq_by_cmp, nat_cmp}
 use Rattle.std.proofs.lemmas.Bool.{eq-eqb, eqb-true, or_left, or_right}
 use Rattle.std.proofs.lemmas.Cmp.{on_total}
+use Rattle.std.proofs.lemmas.Map.Views.{any-filter_same}
 use Rattle.std.proofs.lemmas.Option.{cond_some}
 use Rattle.net_types.specs.Answers.{Policies, Leaving, answer, answer_for, answer_by, has_hole, is_offered, next_port, offered_hole, offered_port, or_default, part_answer, policy_of, received, received_at, sent, sent_to, towards}
 use Rattle.net_types.specs.Exports.{Routing, exports, is_given, named_by, pid_of, route}
@@ -47,10 +48,10 @@ use Rattle.net_types.specs.Keys.{pid_cmp}
 use Rattle.net_types.specs.Naming.{forwards, named_in}
 use Rattle.net_types.specs.declared.headers.Loc.{Loc}
 use Rattle.net_types.specs.declared.route.Offer.{Offer}
-use Rattle.net_types.proofs.FindLemmas.{any_at}
+use Rattle.net_types.proofs.FindLemmas.{any_at, some_same}
 use Rattle.net_types.proofs.MemberLemmas.{Member-filter_map}
 use Rattle.net_types.proofs.OrderedLemmas.{ordered_same}
-use Rattle.net_types.proofs.PassLemmas.{any_filter, any_map, is_some-any, place_member}
+use Rattle.net_types.proofs.PassLemmas.{any_map, is_some-any, place_member}
 use Rattle.net_types.proofs.SetLemmas.{map-Member, union-Member}
 use Rattle.events.proofs.Reached.{declared_pid}
 use Rattle.exchange_laws.proofs.OwnPorts.{leaves_by_own}
@@ -62,7 +63,7 @@ use Rattle.net_types.proofs.WidthTests.{any_found}
 
 -- ---- by the offers and by the routes
 
-same_tests : (a b : Bool) → (a ≡ true → b ≡ true) → (b ≡ true → a ≡ true) → a ≡ b
+pub same_tests : (a b : Bool) → (a ≡ true → b ≡ true) → (b ≡ true → a ≡ true) → a ≡ b
 same_tests true b onto back = sym (onto refl)
 same_tests false true onto back = back refl
 same_tests false false onto back = refl
@@ -141,7 +142,7 @@ candidate_exports r to p who declared = same_tests (list_any mine (candidates r 
 offered_exports : (r : Routing) (to : Pid) (p : Prefix) (chosen who : Pid) → who.0 < length r.participants → Member who (named_by r to) → is_offered (offers r p to chosen) who ≡ exports r who to p
 offered_exports r to p chosen who declared named =
     any_map (λ (o : Offer). nat_eq o.exporter.0 who.0) (offer r) (filter test (candidates r to p))
-    ∙ any_filter (λ (c : Candidate). nat_eq c.from.0 who.0) test true (candidates r to p) counted
+    ∙ any-filter_same (λ (c : Candidate). nat_eq c.from.0 who.0) test true counted (candidates r to p)
     ∙ candidate_exports r to p who declared
   where
     test : Candidate → Bool
@@ -202,9 +203,6 @@ owned (Some x) who test e t = let same : x.owner ≡ who = cc in ap test same �
 
 pub inport_of : (port : PortNo) (frame : List ℕ) (h : Headers) → headers_of port frame ≡ Some h → h.inport ≡ port
 inport_of port frame h e = let parts = cond_some (has_headers frame) _ h e in ap (λ (x : Headers). x.inport) (sym parts.1)
-
-pub some_same : {A : Type 0} (o : Option A) (x y : A) → o ≡ Some x → o ≡ Some y → x ≡ y
-some_same o x y e f = cc
 
 -- what policies that passed isolation give of a prefix reaches exporters alone
 pub reaches_exporters : (s : State) (ps : Policies) → HopsAreOwn s → ((who : Pid) → in_faults (owner_of s) who (policy_of ps.inbound who) ≡ []) → (sender : Pid) (p : Prefix) (c : Candidate) → best s.routing sender p ≡ Some c

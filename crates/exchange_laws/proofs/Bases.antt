@@ -1,6 +1,6 @@
 -- Lines build on a steady state, and on one with another policy of a participant.
 use Rattle.events.proofs.Reached.{set_length}
-use Rattle.std.proofs.Common.{◌≡◌, ℕ, zero, suc, Bool, true, false, cond, nat_eq, List, [], ◌∷◌, filter, length, sym, ap, subst, ◌∙◌, refl}
+use Rattle.std.proofs.Common.{◌≡◌, ℕ, Bool, true, false, cond, nat_eq, List, [], ◌∷◌, filter, length, sym, ap, subst, ◌∙◌, refl}
 use Rattle.std.specs.Prelude.{Option, Some, None, is_some, slice_set, unwrap_or}
 use Rattle.std.specs.FinMap.{get, keys}
 use Rattle.std.specs.Option.{option_and_then, option_map, option_map_or}
@@ -8,18 +8,18 @@ use Rattle.std.proofs.lemmas.Bool.{eq-eqb, eqb-true}
 use Rattle.events.specs.After.{trimmed_kept}
 use Rattle.events.specs.Fits.{is_receivers, is_senders, none_rebuilt}
 use Rattle.events.specs.Sound.{owners_part, part_of}
-use Rattle.events.specs.State.{State, ArePolicies, AreRead, IsRead, port_of}
+use Rattle.events.specs.State.{State, ArePolicies, IsRead, port_of}
 use Rattle.exchange_laws.proofs.Lists.{clash, get_tabulated, key_Member}
 use Rattle.exchange_laws.proofs.OwnHops.{none_passes}
 use Rattle.exchange_laws.proofs.Parts.{right_alike, trimmed_whole}
 use Rattle.exchange_laws.proofs.RulesAfter.{sound_tagged}
 use Rattle.exchange_laws.proofs.Trimmed.{other_place, trimmed_signature}
-use Rattle.exchange_laws.proofs.Untouched.{is_some-map}
+use Rattle.exchange_laws.proofs.PassedSteps.{set_read}
 use Rattle.exchange_laws.specs.Editing.{InboundBases, IsBase, OutboundBases, SteadyAreBases, inbound_base, outbound_base}
 use Rattle.exchange_laws.specs.Rules.{IsRightAt, IsTagged}
 use Rattle.exchange_laws.specs.Steady.{IsSteady}
 use Rattle.exchange_laws.specs.Whole.{IsWhole, KeptAreWhole}
-use Rattle.net_types.proofs.FindLemmas.{find-IsFound}
+use Rattle.net_types.proofs.FindLemmas.{find-IsFound, is_some-map}
 use Rattle.net_types.proofs.OrderLemmas.{tags_total}
 use Rattle.net_types.proofs.SetLemmas.{map-Member}
 use Rattle.net_types.proofs.TieLemmas.{tag_tie}
@@ -62,13 +62,6 @@ owners_from s pair part e = by (port_of s pair.port) (get s.kept pair.tag) refl 
         record { port = q; kept = sig; at = at; keeps = keeps; stands = found.stands; owner = eqb-true part.sender.0 q.owner.0 found.passes }
 
 -- ---- another text of one participant
-
-read_set : (texts : List (List ℕ)) (policies : List Policy) (k : ℕ) (text : List ℕ) (p : Policy) → AreRead texts policies → IsRead text p → AreRead (slice_set texts k text) (slice_set policies k p)
-read_set [] [] k text p read is = tt
-read_set [] (q ∷ qs) k text p read is = absurd read
-read_set (t ∷ ts) [] k text p read is = absurd read
-read_set (t ∷ ts) (q ∷ qs) zero text p read is = (is, read.1)
-read_set (t ∷ ts) (q ∷ qs) (suc k) text p read is = (read.0, read_set ts qs k text p read.1 is)
 
 -- the policies of others stay
 other_policy : (policies : List Policy) (who other : Pid) (p : Policy) → nat_eq other.0 who.0 ≡ false → policy_of policies other ≡ policy_of (slice_set policies who.0 p) other
@@ -122,7 +115,7 @@ module _ (s : State) (steady : IsSteady s) where
     are_receiving = record {
       names = steady.sound.right.1.names;
       outbound = steady.sound.right.1.outbound;
-      inbound = read_set s.inbound ps.inbound who.0 text p steady.sound.right.1.inbound is;
+      inbound = set_read s.inbound ps.inbound who.0 text p steady.sound.right.1.inbound is;
     }
 
     -- rules stay right whose part the receiver doesn't offer
@@ -161,7 +154,7 @@ module _ (s : State) (steady : IsSteady s) where
 -- ---- kept signatures that are trimmed
 
 -- a part has the sender that it had
-trimmed_sender : (who : Pid) (named : List Pid) (part : Part) → (trimmed_part who named part).sender ≡ part.sender
+pub trimmed_sender : (who : Pid) (named : List Pid) (part : Part) → (trimmed_part who named part).sender ≡ part.sender
 trimmed_sender who named part = by (nat_eq part.sender.0 who.0)
   where
     by : (b : Bool) → (cond b (record part { offers = filter (λ (o : Offer). counts named part.best o.exporter) part.offers }) part).sender ≡ part.sender
@@ -172,7 +165,7 @@ trimmed_sender who named part = by (nat_eq part.sender.0 who.0)
 not_trimmed : (who : Pid) (named : List Pid) (part : Part) → nat_eq part.sender.0 who.0 ≡ false → trimmed_part who named part ≡ part
 not_trimmed who named part other = ap (λ b. cond b (record part { offers = filter (λ (o : Offer). counts named part.best o.exporter) part.offers }) part) other
 
-trimmed_found : (who : Pid) (named : List Pid) (sig : List Part) (to : Pid) → part_of (trimmed who named sig) to ≡ option_map (trimmed_part who named) (part_of sig to)
+pub trimmed_found : (who : Pid) (named : List Pid) (sig : List Part) (to : Pid) → part_of (trimmed who named sig) to ≡ option_map (trimmed_part who named) (part_of sig to)
 trimmed_found who named [] to = refl
 trimmed_found who named (x ∷ xs) to =
     ap (λ (from : Pid). cond (nat_eq from.0 to.0) (Some (trimmed_part who named x)) (part_of (trimmed who named xs) to)) (trimmed_sender who named x)
@@ -236,7 +229,7 @@ module _ (s : State) (steady : IsSteady s) (who : Pid) (text : List ℕ) (p : Po
   are_sending : ArePolicies (sent s who text named) sending
   are_sending = record {
     names = steady.sound.right.1.names;
-    outbound = read_set s.outbound old.outbound who.0 text p steady.sound.right.1.outbound is;
+    outbound = set_read s.outbound old.outbound who.0 text p steady.sound.right.1.outbound is;
     inbound = steady.sound.right.1.inbound;
   }
 

@@ -1,5 +1,5 @@
 -- How many tags are free, and how many rules the table has.
-use Rattle.std.proofs.Common.{◌≡◌, ℕ, zero, suc, ◌+◌, ◌≤◌, Bool, true, false, cond, ◌&&◌, ◌||◌, nat_eq, nat_lt, not, T, List, [], ◌∷◌, filter, length, map, sum_by, sym, ap, subst, ◌∙◌, refl, arith, inl, inr}
+use Rattle.std.proofs.Common.{◌≡◌, ℕ, zero, suc, ◌+◌, ◌≤◌, Bool, true, false, cond, ◌||◌, nat_eq, nat_lt, not, T, List, [], ◌∷◌, filter, length, map, sum_by, sym, ap, subst, ◌∙◌, refl, arith, inl, inr}
 use Rattle.std.specs.Prelude.{Option, Some, None, is_none, unwrap_or}
 use Rattle.std.specs.Cmp.{IsTotalOrder}
 use Rattle.std.specs.FinMap.{FinMap, contains_key-keys, entries, entries_sorted, find, get, get-entries, is_sorted, keys}
@@ -27,6 +27,7 @@ use Rattle.exchange_laws.specs.Retagging.{KeptAreLive, LiveAreKept, TagsArePoole
 use Rattle.net_types.proofs.OrderLemmas.{pairs_total, tags_total}
 use Rattle.net_types.proofs.RisingLemmas.{Member-filter, before, before_itself, before_trans, filter-IsRising, filter-Member, keys-IsRising}
 use Rattle.net_types.proofs.SetLemmas.{rising_unique}
+use Rattle.net_types.proofs.TestLemmas.{both_hold}
 use Rattle.net_types.proofs.TieLemmas.{pair_cmp-IsAntisymmetric, pair_tie, tag_tie, ties_itself}
 use Rattle.net_types.proofs.ValueLemmas.{later_apart}
 use Rattle.net_types.specs.Keys.{pair_cmp, tag_cmp}
@@ -81,16 +82,12 @@ free_tags_are_counted s pooled kept live =
 
 -- ---- entries of a map
 
-both : (a b : Bool) → T (a && b) → T a × T b
-both true b h = (tt, h)
-both false b h = absurd h
-
 -- an entry of a map is what the map has at its key
 entry_found : {K X : Type 0} (R : K → K → Ordering) → IsTotalOrder R → (es : List (K × X)) → T (is_sorted R es) → (e : K × X) → Member e es → find R e.0 es ≡ Some e.1
 entry_found R o [] sorted e m = elim m [ ]
 entry_found R o (d ∷ es) sorted e (inl same) = subst (λ x. cond (eq_by_cmp R x.0 d.0) (Some d.1) (find R x.0 es) ≡ Some x.1) (sym same) (ap (λ b. cond b (Some d.1) (find R d.0 es)) (ties_itself o d.0))
 entry_found R o (d ∷ es) sorted e (inr m) =
-    let sorts = both (below_all R d.0 es) (is_sorted R es) sorted in
+    let sorts = both_hold (below_all R d.0 es) (is_sorted R es) sorted in
     let later = entry_found R o es sorts.1 e m in
     ap (λ b. cond b (Some d.1) (find R e.0 es)) (later_apart R o d.0 e.0 e.1 es sorts.0 later) ∙ later
 

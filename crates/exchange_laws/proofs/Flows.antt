@@ -7,6 +7,7 @@ use Rattle.std.specs.List.{list_any}
 use Rattle.std.specs.Option.{option_map_or}
 use Rattle.std.specs.Ordering.{eq_by_cmp}
 use Rattle.std.proofs.lemmas.Bool.{or_right}
+use Rattle.std.proofs.lemmas.Map.Views.{any-filter_same}
 use Rattle.std.proofs.Common.{T}
 use Rattle.events.specs.After.{put_flow, put_flows, without_pairs}
 use Rattle.events.specs.Fits.{added, dropped, flows_of}
@@ -16,8 +17,8 @@ use Rattle.exchange_laws.proofs.Lists.{TableOf, clash}
 use Rattle.exchange_laws.specs.Replies.{IsBuiltOn, RepliesBuildTables}
 use Rattle.net_types.proofs.FindLemmas.{cond_same}
 use Rattle.net_types.proofs.OrderLemmas.{pairs_total}
-use Rattle.net_types.proofs.PassLemmas.{any_filter}
-use Rattle.net_types.proofs.TieLemmas.{pair_cmp-IsAntisymmetric, same_from_tie, ties_itself}
+use Rattle.net_types.proofs.TestLemmas.{both_hold}
+use Rattle.net_types.proofs.TieLemmas.{pair_cmp-IsAntisymmetric, pair_tie, ties_itself}
 use Rattle.net_types.proofs.ValueLemmas.{later_apart}
 use Rattle.net_types.specs.Keys.{pair_cmp}
 use Rattle.net_types.specs.Sets.{union_over}
@@ -51,7 +52,7 @@ get_undropped s s1 is_rebuilt q =
     let goes : Pair → Bool = λ k. is_none (get s1.table k) || is_rebuilt k in
     get_without s.table (dropped s s1 is_rebuilt) q
     ∙ ap (λ b. cond b None (get s.table q))
-    (any_filter (is_at q) goes (goes q) (keys s.table) (λ x e. ap goes (sym (same_from_tie pair_cmp pair_cmp-IsAntisymmetric q x e)))
+    (any-filter_same (is_at q) goes (goes q) (λ x e. ap goes (sym (pair_tie q x e))) (keys s.table)
     ∙ ap (λ b. goes q && b) (sym (contains_key-keys s.table q)))
 
 -- ---- rules that are put in
@@ -88,16 +89,12 @@ new_block : (t : TableOf) (k : Pair) (rules : List Rule) → get t k ≡ None �
 new_block t k [] none some q = absurd (some refl)
 new_block t k (rule ∷ rules) none some q = get_block t k rule rules q ∙ ap (λ o. cond (is_at q k) (Some (unwrap_or o [] ++ rule ∷ rules)) (get t q)) none
 
-parts : (a b : Bool) → T (a && b) → T a × T b
-parts true b h = (tt, h)
-parts false b h = absurd h
-
 -- what entries put in: pairs that had no rules get those of their entries, and the others keep theirs
 get_blocks : (es : List (Pair × List Rule)) → T (is_sorted pair_cmp es) → (t : TableOf) → ((k : Pair) (rules : List Rule) → find pair_cmp k es ≡ Some rules → (get t k ≡ None) × (rules ≡ [] → ⊥)) → (q : Pair)
     → get (put_flows t (union_over flows_of es)) q ≡ option_map_or (λ x. Some x) (find pair_cmp q es) (get t q)
 get_blocks [] sorted t new q = refl
 get_blocks (e ∷ es) sorted t new q =
-    let sorts = parts (below_all pair_cmp e.0 es) (is_sorted pair_cmp es) sorted in
+    let sorts = both_hold (below_all pair_cmp e.0 es) (is_sorted pair_cmp es) sorted in
     let t1 : TableOf = put_flows t (block e.0 e.1) in
     let first = new e.0 e.1 (ap (λ b. cond b (Some e.1) (find pair_cmp e.0 es)) (ties_itself pairs_total e.0)) in
     let here : (k : Pair) → get t1 k ≡ cond (is_at k e.0) (Some e.1) (get t k) = new_block t e.0 e.1 first.0 first.1 in

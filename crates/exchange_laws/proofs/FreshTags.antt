@@ -10,15 +10,15 @@ use Rattle.net_types.proofs.OrderedLemmas.{ordered_same}
 use Rattle.events.proofs.Candidates.{best_Member, candidate_exported}
 use Rattle.events.specs.State.{State}
 use Rattle.events.specs.Tags.{Group, carried, free_tags, fresh_tag, group_of, groups, is_carried, is_changed, is_live, same_group, tags}
-use Rattle.exchange_laws.proofs.Lists.{is_some_of, key_Member, numbers_range, once_Member, once_apart, one_place, place_of, position_at}
+use Rattle.exchange_laws.proofs.Lists.{is_some_of, key_Member, numbers_range, once_apart, one_place, place_of, position_at}
 use Rattle.exchange_laws.proofs.Sames.{group_itself, group_same}
 use Rattle.exchange_laws.specs.Fresh.{ChangedAreGrouped, FreeTagsRise, FreshTagsByPlace, FreshTagsDiffer, GroupsHaveFreshTags, HasEnoughTags, IsFree}
 use Rattle.net_types.proofs.FindLemmas.{slice_get-Member, slice_get_some}
 use Rattle.net_types.proofs.OrderLemmas.{prefix_tie, prefixes_total, routes_total}
 use Rattle.net_types.proofs.PassLemmas.{some_there}
-use Rattle.net_types.proofs.RisingLemmas.{Member-filter, filter-IsRising, filter-Member}
+use Rattle.net_types.proofs.RisingLemmas.{Member-filter, Member-once, filter-IsRising, filter-Member}
 use Rattle.net_types.proofs.SetLemmas.{Member-map}
-use Rattle.net_types.proofs.TieLemmas.{route_cmp-IsAntisymmetric, same_from_tie}
+use Rattle.net_types.proofs.TieLemmas.{route_tie}
 use Rattle.net_types.proofs.WidthTests.{any_found}
 use Rattle.net_types.specs.Exports.{Routing}
 use Rattle.net_types.specs.Keys.{RouteKey, prefix_cmp, route_cmp}
@@ -37,7 +37,7 @@ best_announced r to p has =
     let from = candidate_exported r to p chosen.0 (best_Member r to p chosen.0 chosen.1) in
     let key : RouteKey = record { from = chosen.0.from; prefix = p } in
     Member-map (λ (k : RouteKey). k.prefix) (keys r.routes) key
-    (key_Member route_cmp routes_total (same_from_tie route_cmp route_cmp-IsAntisymmetric) r.routes key (is_some_of (get r.routes key) chosen.0.attrs from.routed))
+    (key_Member route_cmp routes_total route_tie r.routes key (is_some_of (get r.routes key) chosen.0.attrs from.routed))
 
 pub carried_announced : (r : Routing) (p : Prefix) → is_carried r p ≡ true → Member p (announced r)
 carried_announced r p is = let to = any_found (λ who. is_some (best r who p)) (pids r) is in best_announced r to.0 p to.1.passes
@@ -48,7 +48,7 @@ carried_listed r p is = Member-filter (is_carried r) _ p ((ordered_same prefix_c
 -- the group of a changed prefix is one of the groups
 pub group_listed : ChangedAreGrouped
 group_listed s r p is changed =
-    once_Member same_group group_same group_itself _ (group_of s r p)
+    Member-once same_group group_same _ (group_of s r p)
     (Member-map (group_of s r) _ p (Member-filter (is_changed s r) (carried r) p (carried_listed r p is) changed))
 
 -- ---- fresh tags

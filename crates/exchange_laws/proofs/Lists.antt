@@ -1,5 +1,5 @@
 -- Places in lists, the different members of a list, and maps that are given by a function.
-use Rattle.std.proofs.Common.{◌≡◌, ℕ, zero, suc, ◌+◌, ◌≤◌, ◌<◌, Bool, true, false, cond, not, List, [], ◌∷◌, filter, map, sym, ap, subst, ◌∙◌, refl, arith, inl, inr}
+use Rattle.std.proofs.Common.{◌≡◌, ℕ, zero, suc, ◌+◌, ◌≤◌, ◌<◌, Bool, true, false, cond, not, List, [], ◌∷◌, ◌++◌, map, sym, ap, subst, ◌∙◌, refl, arith, inl, inr}
 use Rattle.std.specs.Prelude.{Option, Some, None, is_some, slice_get}
 use Rattle.std.specs.Cmp.{IsTotalOrder}
 use Rattle.std.specs.FinMap.{FinMap, get, keys, contains_key-keys}
@@ -11,6 +11,7 @@ use Rattle.net_types.proofs.OrderedLemmas.{any_member, member_any}
 use Rattle.net_types.proofs.FindLemmas.{slice_get-Member}
 use Rattle.net_types.proofs.MapLemmas.{get-tabulate}
 use Rattle.net_types.proofs.RisingLemmas.{filter-IsRising, filter-Member}
+use Rattle.net_types.proofs.SetLemmas.{Member-append_left, Member-append_right}
 use Rattle.net_types.specs.Keys.{pair_cmp}
 use Rattle.net_types.specs.Maps.{each_once, tabulate}
 use Rattle.net_types.specs.Routes.{numbers}
@@ -64,21 +65,6 @@ module _ {A : Type 0} (same : A → A → Bool) (decides : (x y : A) → same x 
     filter-IsRising (λ y z. not (same y z)) (λ y. not (same x y)) (each_once same xs) (once_apart xs),
   )
 
-  kept_or_first : (x y : A) (ys : List A) → Member y ys → (b : Bool) → same x y ≡ b → Member y (x ∷ filter (λ z. not (same x z)) ys)
-  kept_or_first x y ys m true e = inl (sym (decides x y e))
-  kept_or_first x y ys m false e = inr (stays ys m)
-    where
-      stays : (zs : List A) → Member y zs → Member y (filter (λ z. not (same x z)) zs)
-      stays [] m = elim m [ ]
-      stays (z ∷ zs) (inl at) = subst (λ b. Member y (cond b (z ∷ filter (λ w. not (same x w)) zs) (filter (λ w. not (same x w)) zs))) (sym (ap (λ w. not (same x w)) (sym at) ∙ ap not e)) (inl at)
-      stays (z ∷ zs) (inr m) = elim (not (same x z)) as (λ b. Member y (cond b (z ∷ filter (λ w. not (same x w)) zs) (filter (λ w. not (same x w)) zs))) [ true ↦ inr (stays zs m) | false ↦ stays zs m ]
-
-  -- each member is among the different ones
-  pub once_Member : (xs : List A) (y : A) → Member y xs → Member y (each_once same xs)
-  once_Member [] y m = elim m [ ]
-  once_Member (x ∷ xs) y (inl e) = inl e
-  once_Member (x ∷ xs) y (inr m) = kept_or_first x y (each_once same xs) (once_Member xs y m) (same x y) refl
-
   -- the first place of what stands at a place
   pub position_at : (xs : List A) → IsRising (λ x y. not (same x y)) xs → (n k : ℕ) (x : A) → slice_get xs k ≡ Some x → position_from (same x) n xs ≡ Some (n + k)
   position_at [] rises n k x e = absurd (cc)
@@ -115,3 +101,12 @@ module _ {K : Type 0} (R : K → K → Ordering) (o : IsTotalOrder R) (tie : (x 
   -- a key that has something is one of the map's
   pub key_Member : {X : Type 0} (m : FinMap R X) (q : K) → is_some (get m q) ≡ true → Member q (keys m)
   key_Member m q there = any_member R o tie q (keys m) (sym (contains_key-keys m q) ∙ there)
+
+  -- a key at which two maps differ is one of either
+  pub differing_key : {X : Type 0} (m n : FinMap R X) (q : K) → ¬ (get m q ≡ get n q) → Member q (keys m ++ keys n)
+  differing_key m n q apart = by (get m q) (get n q) refl refl
+    where
+      by : (a b : Option _) → get m q ≡ a → get n q ≡ b → Member q (keys m ++ keys n)
+      by None None e f = absurd (apart (e ∙ sym f))
+      by None (Some x) e f = Member-append_right (keys m) (keys n) q (key_Member n q (is_some_of (get n q) x f))
+      by (Some x) b e f = Member-append_left (keys m) (keys n) q (key_Member m q (is_some_of (get m q) x e))

@@ -1,6 +1,6 @@
 -- A state without routes and tags, in which nobody was told anything, has no live tags and is sound.
 use Rattle.std.proofs.Common.{◌≡◌, ℕ, zero, suc, false, List, [], ◌∷◌, length, map, sum_by, sym, ap, subst, ◌∙◌, refl, arith}
-use Rattle.std.specs.Prelude.{Option, Some, None, codes, is_some, slice_get, unwrap_or}
+use Rattle.std.specs.Prelude.{Some, None, codes, is_some, slice_get, unwrap_or}
 use Rattle.std.specs.FinMap.{FinMap, empty, get, get-empty, keys, same_map, values}
 use Rattle.std.specs.List.{list_any}
 use Rattle.std.proofs.lemmas.Bool.{false_from_ne_true, or_from}
@@ -14,7 +14,7 @@ use Rattle.exchange_laws.proofs.FreshTags.{carried_announced}
 use Rattle.exchange_laws.proofs.LivePairs.{live_tag}
 use Rattle.exchange_laws.proofs.Lists.{TableOf, clash}
 use Rattle.exchange_laws.specs.Steady.{AllDrop, HavePassed, IsNew}
-use Rattle.net_types.proofs.FindLemmas.{not_there}
+use Rattle.net_types.proofs.FindLemmas.{none_there, not_there}
 use Rattle.net_types.proofs.OrderLemmas.{pairs_total}
 use Rattle.net_types.proofs.TieLemmas.{pair_cmp-IsAntisymmetric}
 use Rattle.net_types.proofs.ValueLemmas.{no_entries}
@@ -40,10 +40,6 @@ nothing_told t = ap (λ es. list_any (λ (x : Entry). same_tag x.tag t) (map (λ
 
 no_tag : (t : Tag) → list_any (same_tag t) (values (empty {K = Prefix} {X = Tag} {R = prefix_cmp})) ≡ false
 no_tag t = ap (λ es. list_any (same_tag t) (map (λ (d : Prefix × Tag). d.1) es)) (no_entries Prefix Tag prefix_cmp)
-
-none_there : {A : Type 0} (o : Option A) → is_some o ≡ false → o ≡ None
-none_there None e = refl
-none_there (Some x) e = cc
 
 module _ (s : State) (new : IsNew s) where
   -- no tag is live
@@ -104,7 +100,7 @@ names_nobody [] (suc k) = refl
 names_nobody (m ∷ ms) zero = refl
 names_nobody (m ∷ ms) (suc k) = names_nobody ms k
 
-none_in_order : ordered pid_cmp [] ≡ []
+pub none_in_order : ordered pid_cmp [] ≡ []
 none_in_order = ap (map (λ (e : Pid × Pid). e.0)) (no_entries Pid Pid pid_cmp)
 
 -- policies that drop passed isolation

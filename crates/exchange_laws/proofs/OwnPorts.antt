@@ -17,7 +17,7 @@ use Rattle.net_types.proofs.SetLemmas.{union-Member}
 use Rattle.exchange_laws.proofs.Sending.{SendsTo, goes}
 
 -- lists that have no member together have none
-empty_parts : {A : Type 0} (xs ys : List A) → xs ++ ys ≡ [] → (xs ≡ []) × (ys ≡ [])
+pub empty_parts : {A : Type 0} (xs ys : List A) → xs ++ ys ≡ [] → (xs ≡ []) × (ys ≡ [])
 empty_parts [] ys e = (refl, e)
 empty_parts (x ∷ xs) ys e = absurd (cc)
 

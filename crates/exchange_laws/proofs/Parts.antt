@@ -26,7 +26,7 @@ use Rattle.net_types.specs.declared.rule.Rule.{Rule}
 use Rattle.net_types.proofs.FindLemmas.{any_at}
 use Rattle.net_types.proofs.PassLemmas.{is_some-any}
 use Rattle.net_types.proofs.RisingLemmas.{filter-Member, Member-filter}
-use Rattle.net_types.proofs.SetLemmas.{Member-map, map-Member, map-map, union-Member}
+use Rattle.net_types.proofs.SetLemmas.{Member-map, given_by, map-Member, map-map, union-Member}
 use Rattle.events.specs.Sound.{IsRight, IsRightBy}
 use Rattle.events.proofs.Candidates.{IsOfferedBy}
 use Rattle.events.proofs.Routed.{best_offered, part_with}
@@ -124,21 +124,6 @@ right_alike ps qs part port rules named outbound inbound offered right =
 
 -- ---- parts are whole
 
--- a member of what a function gives of some, with what it comes from
-record IsGivenOf {A B : Type 0} (f : A → Option B) (xs : List A) (y : B) : Type 0 where
-  source : A
-  stands : Member source xs
-  is : f source ≡ Some y
-
-given_case : {A B : Type 0} (f : A → Option B) (x : A) (xs : List A) (y : B) (o : Option B) → f x ≡ o → Member y (cons_option o (filter_map f xs)) → (Member y (filter_map f xs) → IsGivenOf f xs y) → IsGivenOf f (x ∷ xs) y
-given_case f x xs y None e m later = let l = later m in record { source = l.source; stands = inr l.stands; is = l.is }
-given_case f x xs y (Some z) e (inl same) later = record { source = x; stands = inl refl; is = e ∙ ap Some (sym same) }
-given_case f x xs y (Some z) e (inr m) later = let l = later m in record { source = l.source; stands = inr l.stands; is = l.is }
-
-given_of : {A B : Type 0} (f : A → Option B) (xs : List A) (y : B) → Member y (filter_map f xs) → IsGivenOf f xs y
-given_of f [] y m = absurd m
-given_of f (x ∷ xs) y m = given_case f x xs y (f x) refl m (given_of f xs y)
-
 -- a filter leaves no repeats where there were none
 filter_once : {A : Type 0} (key : A → ℕ) (test : A → Bool) (xs : List A) → HasNoRepeats (map key xs) → HasNoRepeats (map key (filter test xs))
 filter_once key test [] once = tt
@@ -158,7 +143,7 @@ module _ {A : Type 0} (f : Pid → Option A) (key : A → ℕ) (own : (k : Pid) 
   given_range : (low count : ℕ) (x : A) → Member x (filter_map f (map (λ n. let who : Pid = record { 0 = n } in who) (numbers low count))) → (low ≤ key x) × (key x < low + count)
   given_range low count x m =
       let all : List Pid = map (λ n. let who : Pid = record { 0 = n } in who) (numbers low count) in
-      let g = given_of f all x m in
+      let g = given_by f all x m in
       let range = numbers_range (λ n. let who : Pid = record { 0 = n } in who) (λ (k : Pid). k.0) (λ n. refl) low count g.source g.stands in
       let same : key x ≡ g.source.0 = own g.source x g.is in
       (omega arith, omega arith)
@@ -220,7 +205,7 @@ part_whole r p to c declared chosen = record {
 -- each part of a signature is whole
 pub signature_whole : (r : Routing) (p : Prefix) (x : Part) → Member x (signature r p) → IsWhole (length r.participants) x
 signature_whole r p x m =
-    let g = given_of (part r p) (pids r) x m in
+    let g = given_by (part r p) (pids r) x m in
     let range = numbers_range (λ n. let who : Pid = record { 0 = n } in who) (λ (k : Pid). k.0) (λ n. refl) 0 (length r.participants) g.source g.stands in
     let made = part_case r p g.source x (best r g.source p) refl g.is in
     subst (IsWhole (length r.participants)) made.2 (part_whole r p g.source made.0 (omega arith) made.1)

@@ -25,7 +25,7 @@ use Rattle.net_types.specs.declared.route.PortInfo.{PortInfo}
 -- ---- lists
 
 -- the member at a place, or what stands for none
-abbrev at : {A : Type 0} → List A → ℕ → A → A
+abbrev pub at : {A : Type 0} → List A → ℕ → A → A
 at xs k none = unwrap_or (slice_get xs k) none
 
 -- lists that are alike in length, with other members at a place: there stand these, and elsewhere what stood there
@@ -58,14 +58,14 @@ set_read (t ∷ texts) (q ∷ ps) (suc k) text p read is = (read.0, set_read tex
 -- ---- states
 
 -- what isolation speaks of
-record Said : Type 0 where
-  outbound : List (List ℕ)
-  inbound : List (List ℕ)
-  participants : List Participant
-  ports : List PortInfo
-  named : List (List Pid)
+pub record Said : Type 0 where
+  pub outbound : List (List ℕ)
+  pub inbound : List (List ℕ)
+  pub participants : List Participant
+  pub ports : List PortInfo
+  pub named : List (List Pid)
 
-abbrev said : State → Said
+abbrev pub said : State → Said
 said s = record { outbound = s.outbound; inbound = s.inbound; participants = s.routing.participants; ports = s.routing.ports; named = s.routing.named }
 
 -- where all that isolation speaks of is the same
@@ -93,7 +93,7 @@ kept_passed s s1 same is =
 
 -- ---- policies
 
-same_pid : (w who : Pid) → w.0 ≡ who.0 → who ≡ w
+pub same_pid : (w who : Pid) → w.0 ≡ who.0 → who ≡ w
 same_pid w who same = λ i. record { 0 = sym same i }
 
 sends_passed : (s : State) (who : Pid) (text : List ℕ) (p : Policy) → policy_of_text text ≡ Ok p → out_faults (pid_of s.routing) (owner_of s) who p ≡ [] → HavePassed s → HavePassed (sending s who text (named_in (pid_of s.routing) p))
@@ -142,17 +142,14 @@ receives_passed s who text p read clear is =
 
 -- ---- each line
 
+pub not_declaring : (phase : Phase) → phase ≡ Declaring → phase ≡ Running → ⊥
+not_declaring phase e f = cc
+
 -- before the exchange runs all policies drop
 quiet_passed : (s : State) {s1 : State} → QuietStep s s1 → ((s1.phase ≡ Running → ⊥) → IsNew s1) → HavePassed s → HavePassed s1
 quiet_passed s {s1} (pool base size capacity start formed) new is = kept_passed s s1 refl is
-quiet_passed s {s1} (participant m declaring few) new is = new_passed s1 (new (still s.phase declaring)).drop
-  where
-    still : (phase : Phase) → phase ≡ Declaring → phase ≡ Running → ⊥
-    still phase e f = cc
-quiet_passed s {s1} (port q declaring declared free number) new is = new_passed s1 (new (still s.phase declaring)).drop
-  where
-    still : (phase : Phase) → phase ≡ Declaring → phase ≡ Running → ⊥
-    still phase e f = cc
+quiet_passed s {s1} (participant m declaring few) new is = new_passed s1 (new (not_declaring s.phase declaring)).drop
+quiet_passed s {s1} (port q declaring declared free number) new is = new_passed s1 (new (not_declaring s.phase declaring)).drop
 quiet_passed s {s1} (resolved lists later long rising) new is = kept_passed s s1 refl is
 
 rerouted_passed : (s : State) (e : Event) (after : Rerouted s e) → HavePassed s → HavePassed (retagged s after.routing)

@@ -1,5 +1,5 @@
 -- Lines of policies that no refusal stops build rules on a steady state with the new policy.
-use Rattle.std.proofs.Common.{◌≡◌, ℕ, ◌≤◌, Bool, true, false, cond, List, [], length, nat_lt, sym, ap, subst, ◌∙◌, refl, arith}
+use Rattle.std.proofs.Common.{◌≡◌, ℕ, ◌≤◌, List, [], length, nat_lt, sym, ap, subst, ◌∙◌, refl, arith}
 use Rattle.std.specs.Prelude.{Option, None, Some, MatchOption, Ok}
 use Rattle.std.specs.Option.{option_map}
 use Rattle.events.specs.After.{after, restarted, received_by, running, sent_by, with_known, with_named, with_outbound}
@@ -9,10 +9,9 @@ use Rattle.events.specs.Refusals.{if_known, if_short, outbound_refusal, policy_r
 use Rattle.events.specs.State.{State, owner_of}
 use Rattle.events.specs.Tags.{Group, free_tags, groups, retagged}
 use Rattle.events.specs.declared.Event.TheVariants.{Outbound, Inbound}
-use Rattle.events.specs.declared.Refusal.{Refusal}
-use Rattle.events.specs.declared.Refusal.TheVariants.{TextLong}
 use Rattle.events.specs.declared.Reply.{Reply}
 use Rattle.exchange_laws.proofs.Bases.{outbound_bases, received_base}
+use Rattle.exchange_laws.proofs.LineSteps.{short}
 use Rattle.exchange_laws.proofs.Lists.{TableOf}
 use Rattle.exchange_laws.proofs.Rerouted.{enough_tags, neither, passes}
 use Rattle.exchange_laws.proofs.SameRoutes.{no_groups, routes_stay}
@@ -73,17 +72,13 @@ outbounds_are_edits s name text who p steady declared read none = record {
 }
 
 -- where no refusal stops it there are enough tags
-short_passes : (b : Bool) (o : Option Refusal) → cond b (Some TextLong) o ≡ None → o ≡ None
-short_passes true o none = absurd (cc)
-short_passes false o none = none
-
 pub outbounds_are_changes : OutboundsAreChanges
 outbounds_are_changes s name text who p steady declared read none =
     let base = outbound_bases s who text p steady (declared_pid s.routing name who declared) read in
     let r1 : Routing = with_named s.routing who (named_in (pid_of s.routing) p) in
     let first : if_short text (outbound_refusal s who text (policy_of_text text)) ≡ None =
     sym (ap (λ o. if_known o (λ w. if_short text (outbound_refusal s w text (policy_of_text text)))) declared) ∙ (passes s (Outbound name text) none).1 in
-    let second : outbound_refusal s who text (Ok p) ≡ None = ap (outbound_refusal s who text) (sym read) ∙ short_passes (nat_lt 8192 (length text)) (outbound_refusal s who text (policy_of_text text)) first in
+    let second : outbound_refusal s who text (Ok p) ≡ None = ap (outbound_refusal s who text) (sym read) ∙ short (nat_lt 8192 (length text)) (outbound_refusal s who text (policy_of_text text)) first in
     let before : State = with_outbound s who text (named_in (pid_of s.routing) p) in record {
       tagged = base.tagged;
       pooled = base.pooled;

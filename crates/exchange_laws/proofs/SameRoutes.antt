@@ -23,7 +23,7 @@ use Rattle.exchange_laws.specs.Unchanged.{NoGroups, NothingIsSaid, OwesFew, Rout
 use Rattle.net_types.proofs.OrderLemmas.{pairs_total, prefixes_total, tags_total}
 use Rattle.net_types.proofs.PassLemmas.{filter_nothing, filter_twice}
 use Rattle.net_types.proofs.SameLemmas.{option_itself}
-use Rattle.net_types.proofs.TieLemmas.{pair_cmp-IsAntisymmetric, prefix_cmp-IsAntisymmetric, same_from_tie, tag_cmp-IsAntisymmetric}
+use Rattle.net_types.proofs.TieLemmas.{pair_cmp-IsAntisymmetric, pair_tie, prefix_cmp-IsAntisymmetric, tag_cmp-IsAntisymmetric}
 use Rattle.net_types.specs.Attributes.{same_option}
 use Rattle.net_types.specs.Keys.{pair_cmp, prefix_cmp}
 use Rattle.net_types.specs.Maps.{each_once, ordered}
@@ -97,7 +97,7 @@ there_or_new (Some x) e = refl
 
 nothing_dropped : (t : FinMap pair_cmp (List Rule)) → filter (λ q. is_none (get t q) || none_rebuilt q) (keys t) ≡ []
 nothing_dropped t = filter_none (λ q. is_none (get t q) || none_rebuilt q) (keys t) (λ q m.
-    there_or_new (get t q) (contains_key-keys t q ∙ member_any pair_cmp pairs_total (same_from_tie pair_cmp pair_cmp-IsAntisymmetric) q (keys t) m))
+    there_or_new (get t q) (contains_key-keys t q ∙ member_any pair_cmp pairs_total pair_tie q (keys t) m))
 
 nothing_added : (t : FinMap pair_cmp (List Rule)) → where_key pair_cmp (λ q. is_none (get t q) || none_rebuilt q) (entries t) ≡ []
 nothing_added t =

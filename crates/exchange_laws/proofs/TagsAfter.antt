@@ -15,7 +15,7 @@ use Rattle.exchange_laws.specs.Retagging.{CarriedHaveTags, KeptStayLive, LiveSta
 use Rattle.net_types.proofs.FindLemmas.{any_at, find-IsFound, find_none}
 use Rattle.net_types.proofs.OrderLemmas.{prefix_tie, prefixes_total, tags_total}
 use Rattle.net_types.proofs.PassLemmas.{is_some-any, some_there}
-use Rattle.net_types.proofs.TieLemmas.{same_from_tie, tag_cmp-IsAntisymmetric}
+use Rattle.net_types.proofs.TieLemmas.{tag_tie}
 use Rattle.net_types.proofs.ValueLemmas.{any_value, value_at}
 use Rattle.net_types.specs.Attributes.{same_option}
 use Rattle.net_types.specs.Exports.{Routing}
@@ -106,7 +106,7 @@ tags_stay_pooled s r pooled t live = elim (live_cases (retagged s r) t live) [
 
 -- a live tag's signature is kept, and no other's
 pub kept_is : (s : State) (r : Routing) → TagsArePooled s → (t : Tag) → get (retagged s r).kept t ≡ cond (is_live (retagged s r) t) (kept_signature s r t) None
-kept_is s r pooled t = get_tabulated tag_cmp tags_total (same_from_tie tag_cmp tag_cmp-IsAntisymmetric) (λ u. cond (is_live (retagged s r) u) (kept_signature s r u) None) (tags s) (λ u there.
+kept_is s r pooled t = get_tabulated tag_cmp tags_total tag_tie (λ u. cond (is_live (retagged s r) u) (kept_signature s r u) None) (tags s) (λ u there.
     tags_stay_pooled s r pooled u (cond_there (is_live (retagged s r) u) (kept_signature s r u) there)) t
 
 pub kept_stay_live : KeptStayLive

@@ -16,9 +16,10 @@ use Rattle.exchange_laws.proofs.Lists.{clash, is_some_of, key_Member}
 use Rattle.exchange_laws.proofs.LivePairs.{live_at, live_from, port_Member, present_from, present_is, present_tag}
 use Rattle.exchange_laws.proofs.Sames.{signature_itself, tag_itself}
 use Rattle.exchange_laws.proofs.TagsAfter.{tags_are}
-use Rattle.exchange_laws.proofs.Untouched.{is_some-map, keeps_tag, unchanged}
+use Rattle.exchange_laws.proofs.Untouched.{keeps_tag, unchanged}
 use Rattle.exchange_laws.specs.Touched.{GonePairsAreTouched, IsLiveBy, IsTouching, NewPairsAreTouched, OthersKeepTags, OthersStayPresent, TouchedHaveChanges, TouchedHaveGroups}
 use Rattle.net_types.proofs.EqualLemmas.{optional_test, signature_test}
+use Rattle.net_types.proofs.FindLemmas.{is_some-map}
 use Rattle.net_types.proofs.OrderLemmas.{prefix_tie, prefixes_total}
 use Rattle.net_types.proofs.PassLemmas.{place_member}
 use Rattle.net_types.proofs.RisingLemmas.{Member-filter, before, before_itself, before_trans, filter-IsRising, filter-Member}

@@ -1,15 +1,15 @@
 -- A signature that is trimmed by whom a policy names is that of the routing in which its participant names of those that it
 -- named before the ones that still are.
-use Rattle.std.proofs.Common.{◌≡◌, ℕ, zero, suc, Bool, true, false, cond, ◌&&◌, ◌||◌, nat_eq, List, [], ◌∷◌, filter, map, sym, ap, ◌∙◌, refl}
+use Rattle.std.proofs.Common.{◌≡◌, ℕ, zero, suc, Bool, true, false, cond, nat_eq, List, [], ◌∷◌, filter, map, sym, ap, ◌∙◌, refl}
 use Rattle.std.specs.Prelude.{Option, Some, None, slice_get, slice_set, unwrap_or}
-use Rattle.std.specs.List.{cons_option, filter_map, list_any}
+use Rattle.std.specs.List.{cons_option, filter_map}
 use Rattle.std.specs.Option.{option_map}
 use Rattle.std.proofs.lemmas.Bool.{eq-eqb, eqb-true}
 use Rattle.events.proofs.Routed.{part_with}
 use Rattle.events.specs.After.{with_named}
 use Rattle.exchange_laws.proofs.Lists.{clash}
 use Rattle.exchange_laws.specs.Editing.{both}
-use Rattle.net_types.proofs.PassLemmas.{any_filter, filter_twice}
+use Rattle.net_types.proofs.PassLemmas.{counts_both, filter-map, filter_twice}
 use Rattle.net_types.specs.Exports.{Routing, named_by}
 use Rattle.net_types.specs.Routes.{Candidate, best, candidates, pids}
 use Rattle.net_types.specs.Signatures.{counts, offer, offers, part, signature, trimmed, trimmed_part}
@@ -18,16 +18,6 @@ use Rattle.net_types.specs.declared.prefix.Prefix.{Prefix}
 use Rattle.net_types.specs.declared.route.Offer.{Offer}
 
 -- ---- lists
-
--- of what a function gives, the images of those pass whose images pass
-filter_of : {A B : Type 0} (test : B → Bool) (f : A → B) (xs : List A) → filter test (map f xs) ≡ map f (filter (λ x. test (f x)) xs)
-filter_of test f [] = refl
-filter_of test f (x ∷ xs) = by (test (f x)) (filter_of test f xs)
-  where
-    by : (b : Bool) → filter test (map f xs) ≡ map f (filter (λ y. test (f y)) xs)
-        → cond b (f x ∷ filter test (map f xs)) (filter test (map f xs)) ≡ map f (cond b (x ∷ filter (λ y. test (f y)) xs) (filter (λ y. test (f y)) xs))
-    by true later = ap (λ ys. f x ∷ ys) later
-    by false later = later
 
 map_cons : {B C : Type 0} (g : B → C) (o : Option B) (ys : List B) → map g (cons_option o ys) ≡ cons_option (option_map g o) (map g ys)
 map_cons g None ys = refl
@@ -53,31 +43,6 @@ trimmed_place [] (suc k) named = refl
 trimmed_place (xs ∷ xss) zero named = refl
 trimmed_place (xs ∷ xss) (suc k) named = trimmed_place xss k named
 
--- ---- who counts
-
-both_ways : (a b : Bool) → (a && b) ≡ (b && a)
-both_ways true true = refl
-both_ways true false = refl
-both_ways false true = refl
-both_ways false false = refl
-
--- by those who are named both times an exporter counts that counts by the ones and by the others
-counts_both : (old new : List Pid) (chosen who : Pid) → counts (both old new) chosen who ≡ (counts old chosen who && counts new chosen who)
-counts_both old new chosen who = by (nat_eq who.0 chosen.0)
-  where
-    is_named : Pid → Bool
-    is_named p = nat_eq p.0 who.0
-
-    stays : Pid → Bool
-    stays p = list_any (λ (q : Pid). nat_eq q.0 p.0) new
-
-    among : list_any is_named (filter stays old) ≡ (list_any is_named new && list_any is_named old)
-    among = any_filter is_named stays (list_any is_named new) old (λ p e. ap (λ n. list_any (λ (q : Pid). nat_eq q.0 n) new) (eqb-true p.0 who.0 e))
-
-    by : (b : Bool) → (b || list_any is_named (filter stays old)) ≡ ((b || list_any is_named old) && (b || list_any is_named new))
-    by true = refl
-    by false = among ∙ both_ways (list_any is_named new) (list_any is_named old)
-
 -- ---- the signature
 
 module _ (r : Routing) (who : Pid) (named : List Pid) where
@@ -99,7 +64,7 @@ module _ (r : Routing) (who : Pid) (named : List Pid) where
         let cs : List Candidate = candidates r to p in
         let before : Candidate → Bool = λ c. counts (named_by r to) chosen c.from in
         let after : Candidate → Bool = λ c. counts named chosen c.from in
-        filter_of (λ (o : Offer). counts named chosen o.exporter) (offer r) (filter before cs)
+        filter-map (λ (o : Offer). counts named chosen o.exporter) (offer r) (filter before cs)
         ∙ ap (map (offer r)) (filter_twice after before cs)
         ∙ sym (λ i. map (offer r) (filter (λ (c : Candidate). counts_both (named_by r to) named chosen c.from i) cs))
         ∙ ap (λ names. map (offer r) (filter (λ (c : Candidate). counts names chosen c.from) cs)) (sym (named_own to own))

@@ -3,12 +3,13 @@ use Rattle.std.proofs.Common.{◌≡◌, Bool, true, false, cond, ◌&&◌, ◌|
 use Rattle.std.specs.Prelude.{Option, Some, None, is_some}
 use Rattle.std.specs.FinMap.{get}
 use Rattle.std.specs.List.{cons_option, filter_map, list_any}
-use Rattle.std.specs.Option.{option_and_then, option_map}
+use Rattle.std.specs.Option.{option_and_then}
 use Rattle.std.proofs.lemmas.Bool.{and_left, and_right}
 use Rattle.events.specs.State.{State}
 use Rattle.events.specs.Tags.{fresh_tag, group_of, is_carried, is_changed, new_tag}
 use Rattle.exchange_laws.proofs.Sames.{signature_itself}
 use Rattle.exchange_laws.specs.Rules.{IsTagged}
+use Rattle.net_types.proofs.FindLemmas.{is_some-map}
 use Rattle.net_types.proofs.PassLemmas.{same_any}
 use Rattle.net_types.specs.Attributes.{same_option, same_signature}
 use Rattle.net_types.specs.Exports.{Routing}
@@ -27,10 +28,6 @@ some_given : {A B : Type 0} (f : A → Option B) (xs : List A) → list_any (λ 
 unfolding has_some
 some_given f [] = refl
 some_given f (x ∷ xs) = elim (f x) as (λ o. (is_some o || list_any (λ y. is_some (f y)) xs) ≡ has_some (cons_option o (filter_map f xs))) [ None ↦ some_given f xs | Some y ↦ refl ]
-
-pub is_some-map : {A B : Type 0} (f : A → B) (o : Option A) → is_some (option_map f o) ≡ is_some o
-is_some-map f None = refl
-is_some-map f (Some x) = refl
 
 carried_signature : (r : Routing) (p : Prefix) → is_carried r p ≡ has_some (signature r p)
 carried_signature r p =

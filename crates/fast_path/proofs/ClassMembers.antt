@@ -9,7 +9,6 @@ use Rattle.std.proofs.lemmas.List.{append-nil, drop_all, take_all}
 use Rattle.events.specs.Tags.{same_tag}
 use Rattle.events.specs.declared.TagChange.{TagChange}
 use Rattle.exchange_laws.proofs.Sames.{tag_itself, tag_same}
-use Rattle.fast_path.proofs.TagOrder.{tag_tie}
 use Rattle.fast_path.specs.Building.{AreInOrder, is_class_of}
 use Rattle.fast_path.specs.Committing.{Kept, class_of, classes_of, gives, members_of}
 use Rattle.fast_path.specs.Members.{joined}
@@ -21,6 +20,7 @@ use Rattle.net_types.specs.Keys.{tag_cmp}
 use Rattle.net_types.specs.Sets.{Member}
 use Rattle.net_types.specs.declared.address.Tag.{Tag}
 use Rattle.net_types.specs.declared.prefix.Prefix.{Prefix}
+use Rattle.net_types.proofs.TieLemmas.{tag_tie}
 
 -- a list that was written in the place of one that was as long
 pub written : (n : ℕ) (xs ys : List Class) → length ys ≡ length xs → n ≡ length xs → take n (ys ++ drop (length ys) xs) ≡ ys

@@ -10,7 +10,6 @@ use Rattle.std.proofs.lemmas.Cmp.{tied_itself}
 use Rattle.std.proofs.lemmas.List.Sorted.{searchable_from_sorted}
 use Rattle.events.specs.Tags.{same_tag}
 use Rattle.exchange_laws.proofs.Sames.{tag_itself, tag_same}
-use Rattle.fast_path.proofs.TagOrder.{tag_tie}
 use Rattle.fast_path.specs.Building.{AreInOrder, is_class_of}
 use Rattle.fast_path.specs.declared.planned.Class.{Class}
 use Rattle.net_types.proofs.FindLemmas.{find_none}
@@ -19,7 +18,7 @@ use Rattle.net_types.proofs.OrderLemmas.{tags_total}
 use Rattle.net_types.specs.Keys.{tag_cmp}
 use Rattle.net_types.specs.Sets.{Member}
 use Rattle.net_types.specs.declared.address.Tag.{Tag}
-use Rattle.net_types.proofs.TieLemmas.{backward, not_tied}
+use Rattle.net_types.proofs.TieLemmas.{backward, not_tied, tag_tie}
 
 in_order : (xs : List Class) → AreInOrder xs → IsSortedBy (λ (x y : Class). is_lt (tag_cmp x.tag y.tag)) xs
 in_order xs r k d low within = go xs r k within

@@ -15,7 +15,7 @@ use Rattle.exchange_laws.proofs.TagsAfter.{live_cases, live_of, signatures_are_k
 use Rattle.exchange_laws.specs.Fresh.{HasEnoughTags, IsFree}
 use Rattle.exchange_laws.specs.Retagging.{TagsArePooled}
 use Rattle.net_types.proofs.FindLemmas.{slice_get-Member, slice_get_some}
-use Rattle.net_types.proofs.RisingLemmas.{filter-IsRising, filter-Member}
+use Rattle.net_types.proofs.RisingLemmas.{filter-IsRising, filter-Member, once_of}
 use Rattle.net_types.proofs.SetLemmas.{map-Member}
 use Rattle.net_types.specs.Exports.{Routing}
 use Rattle.net_types.specs.Keys.{prefix_cmp}
@@ -26,7 +26,6 @@ use Rattle.net_types.specs.Signatures.{signature}
 use Rattle.net_types.specs.declared.address.Tag.{Tag}
 use Rattle.net_types.specs.declared.prefix.Prefix.{Prefix}
 use Rattle.net_types.specs.declared.route.Part.{Part}
-use Rattle.fast_path.proofs.CommitLemmas.{once_of}
 use Rattle.fast_path.proofs.CommittedMaps.{get_front, get_taken, take-IsRising}
 use Rattle.fast_path.specs.Committing.{Kept, kept_of, tags_of}
 use Rattle.fast_path.specs.Planned.{group_kept, is_tag_below}

@@ -25,6 +25,7 @@ use Rattle.fast_path.proofs.CommittedMaps.{stands_or_not}
 use Rattle.fast_path.specs.Committing.{AreUnkept, HaveTags, Kept, change_of, classes_of, given_all, gives, member_count, members_of, signed, tags_of, tags_with, untagged, untagged_one}
 use Rattle.fast_path.specs.declared.planned.Class.{Class}
 use Rattle.std.proofs.lemmas.Option.{same_Some}
+use Rattle.std.proofs.Math.Bool.{or-true}
 
 -- the tags of prefixes
 abbrev TagsOf : Type 0
@@ -151,15 +152,11 @@ untagged_any : (cs : List TagChange) (c : TagChange) → Member c cs → c.tag �
 untagged_any [] c m none = elim m [ ]
 untagged_any (d ∷ cs) c m none = by m (λ k. untagged_any cs c k none)
   where
-    last : (b : Bool) → (b || true) ≡ true
-    last true = refl
-    last false = refl
-
     by : (c ≡ d) ⊎ Member c cs → (Member c cs → list_any (is_untagged c.prefix) cs ≡ true) → (is_untagged c.prefix d || list_any (is_untagged c.prefix) cs) ≡ true
     by (inl is) rest = ap (λ (x : TagChange). is_untagged c.prefix x || list_any (is_untagged c.prefix) cs) (sym is)
         ∙ ap (λ b. (b && is_none c.tag) || list_any (is_untagged c.prefix) cs) (ties_itself prefixes_total c.prefix)
         ∙ ap (λ o. is_none o || list_any (is_untagged c.prefix) cs) none
-    by (inr k) rest = ap (λ b. is_untagged c.prefix d || b) (rest k) ∙ last (is_untagged c.prefix d)
+    by (inr k) rest = ap (λ b. is_untagged c.prefix d || b) (rest k) ∙ or-true (is_untagged c.prefix d)
 
 -- ---- all of it
 

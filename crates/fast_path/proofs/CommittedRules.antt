@@ -15,9 +15,9 @@ use Rattle.net_types.specs.Sets.{Member}
 use Rattle.net_types.specs.declared.rule.Pair.{Pair}
 use Rattle.net_types.specs.declared.rule.Rule.{Rule}
 use Rattle.fast_path.proofs.CommittedMaps.{AreApart}
-use Rattle.fast_path.proofs.PortsAndTags.{tie}
 use Rattle.fast_path.specs.Committing.{Block, block_count, with_blocks}
 use Rattle.net_types.proofs.TestLemmas.{shown}
+use Rattle.net_types.proofs.TieLemmas.{pair_tie}
 
 pub rules_put : (m : TableOf) (pair : Pair) (rules : List Rule) → rule_count (insert m pair rules) + count_at m pair ≡ rule_count m + length rules
 rules_put m pair rules =
@@ -33,7 +33,7 @@ rules_with [] m apart none = omega arith
 rules_with (b ∷ bs) m apart none =
     let rest = rules_with bs (insert m b.0 b.1) apart.1 (λ d k.
     get-insert pairs_total m b.0 b.1 d.0
-    ∙ ap (λ c. cond c (Some b.1) (get m d.0)) (false_from_ne_true (eq_by_cmp pair_cmp d.0 b.0) (λ ties. apart.0 d k (tie d.0 b.0 ties)))
+    ∙ ap (λ c. cond c (Some b.1) (get m d.0)) (false_from_ne_true (eq_by_cmp pair_cmp d.0 b.0) (λ ties. apart.0 d k (pair_tie d.0 b.0 ties)))
     ∙ none d (inr k)) in
     let put = rules_put m b.0 b.1 in
     let at : count_at m b.0 ≡ 0 = ap (λ o. length (unwrap_or o [])) (none b (inl refl)) in

@@ -1,6 +1,6 @@
 -- With the signatures of the fresh tags kept, and those of the dead ones forgotten, the signatures are those of the state afterwards.
 use Rattle.std.proofs.Common.{◌≡◌, Bool, true, false, cond, List, [], ◌∷◌, sym, ap, ◌∙◌, refl, inl, inr}
-use Rattle.std.specs.Prelude.{Option, Some, None, is_some}
+use Rattle.std.specs.Prelude.{None}
 use Rattle.std.specs.FinMap.{FinMap, get, insert, remove, same_map}
 use Rattle.events.specs.State.{State}
 use Rattle.events.specs.Tags.{is_live, kept_signature, retagged}
@@ -8,17 +8,17 @@ use Rattle.exchange_laws.proofs.Lists.{clash}
 use Rattle.exchange_laws.proofs.TagsAfter.{kept_is, live_tags_stay}
 use Rattle.exchange_laws.specs.Retagging.{KeptAreLive, TagsArePooled}
 use Rattle.net_types.proofs.OrderLemmas.{tags_total}
-use Rattle.net_types.proofs.TieLemmas.{tag_cmp-IsAntisymmetric}
+use Rattle.net_types.proofs.TieLemmas.{tag_cmp-IsAntisymmetric, tag_tie}
 use Rattle.net_types.specs.Exports.{Routing}
 use Rattle.net_types.specs.Keys.{tag_cmp}
 use Rattle.net_types.specs.declared.address.Tag.{Tag}
 use Rattle.net_types.specs.declared.route.Part.{Part}
 use Rattle.fast_path.proofs.CommittedFresh.{each_kept, fresh_with_signature, live_from_before}
 use Rattle.fast_path.proofs.CommittedMaps.{get_with_all, get_without_others, get_without_those, with_all, without_all}
-use Rattle.fast_path.proofs.TagOrder.{tag_tie}
 use Rattle.fast_path.specs.Committing.{Kept, kept_with, kept_without}
 use Rattle.fast_path.specs.Planned.{group_kept}
 use Rattle.fast_path.specs.LiveOnly.{AreDead}
+pub use Rattle.net_types.proofs.FindLemmas.{nothing}
 
 -- the signatures that are kept
 abbrev KeptOf : Type 0
@@ -31,11 +31,6 @@ with_is m (e ∷ es) = with_is (insert m e.0 e.1) es
 pub without_is : (m : KeptOf) (ts : List Tag) → kept_without m ts ≡ without_all tag_cmp tags_total tag_tie m ts
 without_is m [] = refl
 without_is m (t ∷ ts) = without_is (remove m t) ts
-
--- what is not there is nothing
-pub nothing : {A : Type 0} (o : Option A) → (is_some o ≡ true → ⊥) → o ≡ None
-nothing None none = refl
-nothing (Some x) none = absurd (none refl)
 
 module _ (s : State) (r : Routing) (pooled : TagsArePooled s) where
   abbrev s1 : State

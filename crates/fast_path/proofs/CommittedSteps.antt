@@ -12,20 +12,20 @@ use Rattle.exchange_laws.proofs.Sames.{tags_test}
 use Rattle.exchange_laws.proofs.TagsAfter.{live_of}
 use Rattle.exchange_laws.specs.Retagging.{KeptAreLive}
 use Rattle.net_types.proofs.OrderLemmas.{tags_total}
-use Rattle.net_types.proofs.TieLemmas.{same_from_tie, tag_cmp-IsAntisymmetric}
+use Rattle.net_types.proofs.TieLemmas.{tag_tie}
 use Rattle.net_types.specs.Exports.{Routing}
 use Rattle.net_types.specs.Keys.{tag_cmp}
 use Rattle.net_types.specs.Sets.{IsRising, Member}
 use Rattle.net_types.specs.declared.address.Tag.{Tag}
 use Rattle.net_types.specs.declared.route.Part.{Part}
 use Rattle.fast_path.proofs.CommittedFresh.{IsFresh, fresh_listed, group_tags_rise, listed_fresh, tag_from, was_free}
-use Rattle.fast_path.proofs.CommittedSignatures.{nothing}
 use Rattle.fast_path.proofs.CommittedTags.{IsMade, each_made, tags_then}
 use Rattle.prefix_classes.proofs.MemberLemmas.{no_members}
 use Rattle.fast_path.specs.Committing.{AreUnkept, AreUnused, HaveTags, kept_of, tags_with}
 use Rattle.prefix_classes.specs.Classes.{members}
 use Rattle.fast_path.specs.Planned.{group_kept, is_tag_below}
 use Rattle.fast_path.specs.LiveOnly.{AreDead, group_signatures, group_tags}
+use Rattle.net_types.proofs.FindLemmas.{nothing}
 
 -- tags that rise, of which none is kept, are none that is kept when their turn comes
 unkept_in_turn : (m : FinMap tag_cmp (List Part)) (ts : List Tag) (sigs : List (List Part)) → IsRising is_tag_below ts → ((t : Tag) → Member t ts → get m t ≡ None) → AreUnkept m (kept_of ts sigs)
@@ -35,7 +35,7 @@ unkept_in_turn m (t ∷ ts) (sig ∷ sigs) rises none = (
   none t (inl refl),
   unkept_in_turn (insert m t sig) ts sigs rises.1 (λ u k.
       get-insert tags_total m t sig u
-      ∙ ap (λ b. cond b (Some sig) (get m u)) (false_from_ne_true (eq_by_cmp tag_cmp u t) (λ ties. apart u k (same_from_tie tag_cmp tag_cmp-IsAntisymmetric u t ties)))
+      ∙ ap (λ b. cond b (Some sig) (get m u)) (false_from_ne_true (eq_by_cmp tag_cmp u t) (λ ties. apart u k (tag_tie u t ties)))
       ∙ none u (inr k)),
 )
   where

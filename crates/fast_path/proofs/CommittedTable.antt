@@ -13,7 +13,7 @@ use Rattle.exchange_laws.specs.Listed.{AreThose, HasLivePairs, comes, goes, is_p
 use Rattle.exchange_laws.specs.Replies.{HasNewRules, RightRulesAreSome}
 use Rattle.exchange_laws.specs.Rules.{IsRightAt, IsTableAfter, is_new}
 use Rattle.exchange_laws.specs.Steady.{PortsAreNumbered}
-use Rattle.net_types.proofs.FindLemmas.{find-IsFound}
+use Rattle.net_types.proofs.FindLemmas.{find-IsFound, nothing}
 use Rattle.net_types.proofs.OrderLemmas.{pairs_total}
 use Rattle.net_types.proofs.RisingLemmas.{before_itself}
 use Rattle.net_types.proofs.SetLemmas.{map-Member, Member-map}
@@ -25,17 +25,16 @@ use Rattle.net_types.specs.declared.route.PortInfo.{PortInfo}
 use Rattle.net_types.specs.declared.rule.Pair.{Pair}
 use Rattle.net_types.specs.declared.rule.Rule.{Rule}
 use Rattle.fast_path.proofs.CommittedMaps.{AreApart, apart_from_rising, get_with_others, get_with_those, get_without_others, get_without_those, with_all, without_all}
-use Rattle.fast_path.proofs.CommittedSignatures.{nothing}
-use Rattle.fast_path.proofs.PortsAndTags.{tie}
 use Rattle.fast_path.specs.Committing.{Block, with_blocks}
 use Rattle.fast_path.specs.Plans.{pair_of}
 use Rattle.std.proofs.lemmas.Option.{same_Some}
+use Rattle.net_types.proofs.TieLemmas.{pair_tie}
 
-pub with_is : (m : TableOf) (bs : List Block) → with_blocks m bs ≡ with_all pair_cmp pairs_total tie m bs
+pub with_is : (m : TableOf) (bs : List Block) → with_blocks m bs ≡ with_all pair_cmp pairs_total pair_tie m bs
 with_is m [] = refl
 with_is m (b ∷ bs) = with_is (insert m b.0 b.1) bs
 
-pub without_is : (m : TableOf) (qs : List Pair) → without_pairs m qs ≡ without_all pair_cmp pairs_total tie m qs
+pub without_is : (m : TableOf) (qs : List Pair) → without_pairs m qs ≡ without_all pair_cmp pairs_total pair_tie m qs
 without_is m [] = refl
 without_is m (q ∷ qs) = without_is (remove m q) qs
 
@@ -65,7 +64,7 @@ module _ (s : State) (r : Routing) (is_rebuilt : Pair → Bool) (drops : List Pa
   -- ---- what the table has at a pair
 
   pub block_rules : (b : Block) → Member b blocks → get table b.0 ≡ Some b.1
-  block_rules b m = ap (λ t. get t b.0) (with_is left blocks) ∙ get_with_those pair_cmp pairs_total tie blocks left blocks_apart b m
+  block_rules b m = ap (λ t. get t b.0) (with_is left blocks) ∙ get_with_those pair_cmp pairs_total pair_tie blocks left blocks_apart b m
 
   -- a pair that comes has a block
   pub block_of : (pair : Pair) → comes s s1 is_rebuilt pair ≡ true → IsBlockOf blocks pair
@@ -74,13 +73,13 @@ module _ (s : State) (r : Routing) (is_rebuilt : Pair → Bool) (drops : List Pa
   other_rules : (pair : Pair) → comes s s1 is_rebuilt pair ≡ false → get table pair ≡ get left pair
   other_rules pair e =
       ap (λ t. get t pair) (with_is left blocks)
-      ∙ get_with_others pair_cmp pairs_total tie blocks left pair (λ b m at. clash (new.each pair (subst (λ q. Member q (map pair_of blocks)) at (Member-map pair_of blocks b m))) e)
+      ∙ get_with_others pair_cmp pairs_total pair_tie blocks left pair (λ b m at. clash (new.each pair (subst (λ q. Member q (map pair_of blocks)) at (Member-map pair_of blocks b m))) e)
 
   gone_rules : (pair : Pair) → goes s s1 is_rebuilt pair ≡ true → get left pair ≡ None
-  gone_rules pair e = ap (λ t. get t pair) (without_is s.table drops) ∙ get_without_those pair_cmp pairs_total tie drops s.table pair (gone.all pair e)
+  gone_rules pair e = ap (λ t. get t pair) (without_is s.table drops) ∙ get_without_those pair_cmp pairs_total pair_tie drops s.table pair (gone.all pair e)
 
   kept_rules : (pair : Pair) → goes s s1 is_rebuilt pair ≡ false → get left pair ≡ get s.table pair
-  kept_rules pair e = ap (λ t. get t pair) (without_is s.table drops) ∙ get_without_others pair_cmp pairs_total tie drops s.table pair (λ m. clash (gone.each pair m) e)
+  kept_rules pair e = ap (λ t. get t pair) (without_is s.table drops) ∙ get_without_others pair_cmp pairs_total pair_tie drops s.table pair (λ m. clash (gone.each pair m) e)
 
   -- a pair that comes isn't among those left
   pub not_left : (pair : Pair) → comes s s1 is_rebuilt pair ≡ true → get left pair ≡ None

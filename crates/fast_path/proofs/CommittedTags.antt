@@ -1,17 +1,17 @@
 -- With all changes of tags made, the prefixes have the tags that they are to have.
 use Rattle.std.proofs.lemmas.Bool.{not-false}
 use Rattle.std.proofs.Common.{◌≡◌, Bool, true, false, not, List, [], ◌∷◌, ◌++◌, filter, map, sym, ap, subst, ◌∙◌, refl}
-use Rattle.std.specs.Prelude.{Option, Some, None}
+use Rattle.std.specs.Prelude.{Option}
 use Rattle.std.specs.FinMap.{FinMap, get, keys, same_map}
 use Rattle.net_types.proofs.OrderedLemmas.{ordered_rises, ordered_same}
 use Rattle.events.specs.Fits.{tag_changes}
 use Rattle.events.specs.Tags.{same_tag}
 use Rattle.events.specs.declared.TagChange.{TagChange}
-use Rattle.exchange_laws.proofs.Lists.{clash, is_some_of, key_Member}
+use Rattle.exchange_laws.proofs.Lists.{clash, differing_key}
 use Rattle.exchange_laws.proofs.Sames.{tags_test}
 use Rattle.net_types.proofs.OrderLemmas.{prefix_tie, prefixes_total}
 use Rattle.net_types.proofs.RisingLemmas.{Member-filter, filter-IsRising, filter-Member}
-use Rattle.net_types.proofs.SetLemmas.{Member-append_left, Member-append_right, Member-map, map-Member}
+use Rattle.net_types.proofs.SetLemmas.{Member-map, map-Member}
 use Rattle.net_types.proofs.TieLemmas.{prefix_cmp-IsAntisymmetric}
 use Rattle.net_types.specs.Attributes.{same_option}
 use Rattle.net_types.specs.Keys.{prefix_cmp}
@@ -46,13 +46,9 @@ module _ (old new : TagsOf) where
   pub changes_rise : AreRising (map change_of (tag_changes old new))
   changes_rise = subst (IsRising is_before) (sym (places_of (get new) places)) (filter-IsRising is_before differs (ordered prefix_cmp (keys old ++ keys new)) (ordered_rises prefix_cmp prefixes_total prefix_tie (keys old ++ keys new)))
 
-  listed : (p : Prefix) → differs p ≡ true → Member p (keys old ++ keys new)
-  listed p differ = by (get old p) (get new p) refl refl differ
-    where
-      by : (o n : Option Tag) → get old p ≡ o → get new p ≡ n → not (same_option same_tag o n) ≡ true → Member p (keys old ++ keys new)
-      by None None e f differ = absurd (cc)
-      by None (Some t) e f differ = Member-append_right (keys old) (keys new) p (key_Member prefix_cmp prefixes_total prefix_tie new p (is_some_of (get new p) t f))
-      by (Some t) n e f differ = Member-append_left (keys old) (keys new) p (key_Member prefix_cmp prefixes_total prefix_tie old p (is_some_of (get old p) t e))
+  -- a prefix whose tag is another one has a key
+  pub key_there : (p : Prefix) → differs p ≡ true → Member p (keys old ++ keys new)
+  key_there p differ = differing_key prefix_cmp prefixes_total prefix_tie old new p (λ same. clash differ (ap not ((tags_test (get old p) (get new p)).1 same)))
 
   -- each change is one at a prefix whose tag is another, and has that tag
   pub record IsMade (c : TagChange) : Type 0 where
@@ -64,7 +60,8 @@ module _ (old new : TagsOf) where
       let image = map-Member change_at places c m in
       subst IsMade (sym image.is) (record { differs = (filter-Member differs (ordered prefix_cmp (keys old ++ keys new)) image.of image.stands).passes; tagged = refl })
 
-  tag_then : (p : Prefix) → get (tags_with old (tag_changes old new)) p ≡ get new p
+  -- with the changes made each prefix has its new tag
+  pub tag_then : (p : Prefix) → get (tags_with old (tag_changes old new)) p ≡ get new p
   tag_then p = by (differs p) refl
     where
       made : (after : Option Tag) → Member (p, after) (map change_of (tag_changes old new)) → differs p ≡ true
@@ -75,7 +72,7 @@ module _ (old new : TagsOf) where
       by : (b : Bool) → differs p ≡ b → get (tags_with old (tag_changes old new)) p ≡ get new p
       by true differ = changed_prefixes_have_new_tags old (map change_of (tag_changes old new)) p (get new p) changes_rise
           (Member-map change_of (tag_changes old new) (change_at p) (Member-map change_at places p
-          (Member-filter differs _ p ((ordered_same prefix_cmp prefixes_total prefix_tie (keys old ++ keys new)).back p (listed p differ)) differ)))
+          (Member-filter differs _ p ((ordered_same prefix_cmp prefixes_total prefix_tie (keys old ++ keys new)).back p (key_there p differ)) differ)))
       by false same = other_prefixes_keep_their_tags old (map change_of (tag_changes old new)) p (λ after m. clash (made after m) same)
           ∙ (tags_test (get old p) (get new p)).0 (not-false (same_option same_tag (get old p) (get new p)) same)
 

@@ -10,10 +10,9 @@ use Rattle.events.specs.After.{without_pairs}
 use Rattle.exchange_laws.proofs.Lists.{TableOf}
 use Rattle.exchange_laws.specs.Listed.{is_pair_before}
 use Rattle.fast_path.proofs.CommittedRules.{rules_put}
-use Rattle.fast_path.proofs.PortsAndTags.{tie}
 use Rattle.net_types.proofs.OrderLemmas.{pairs_total}
 use Rattle.net_types.proofs.RisingLemmas.{before_itself}
-use Rattle.net_types.proofs.TieLemmas.{pair_cmp-IsAntisymmetric, ties_itself}
+use Rattle.net_types.proofs.TieLemmas.{pair_cmp-IsAntisymmetric, pair_tie, ties_itself}
 use Rattle.net_types.proofs.ValueLemmas.{no_entries}
 use Rattle.net_types.specs.Keys.{pair_cmp}
 use Rattle.net_types.specs.Sets.{IsRising, Member}
@@ -25,7 +24,7 @@ pub rules_taken : (m : TableOf) (k : Pair) → rule_count (remove m k) + count_a
 rules_taken m k = by (get m k) refl
   where
     gone : (o : Option (List Rule)) → get m k ≡ o → (q : Pair) (b : Bool) → eq_by_cmp pair_cmp q k ≡ b → cond b o (cond b None (get m q)) ≡ get m q
-    gone o is q true ties = sym is ∙ ap (get m) (sym (tie q k ties))
+    gone o is q true ties = sym is ∙ ap (get m) (sym (pair_tie q k ties))
     gone o is q false ties = refl
 
     by : (o : Option (List Rule)) → get m k ≡ o → rule_count (remove m k) + count_at m k ≡ rule_count m
@@ -36,7 +35,7 @@ rules_taken m k = by (get m k) refl
         omega arith
       where
         one : (q : Pair) (b : Bool) → eq_by_cmp pair_cmp q k ≡ b → cond b None (get m q) ≡ get m q
-        one q true ties = sym none ∙ ap (get m) (sym (tie q k ties))
+        one q true ties = sym none ∙ ap (get m) (sym (pair_tie q k ties))
         one q false ties = refl
     by (Some v) some =
         let same : insert (remove m k) k v ≡ m = same_map pairs_total pair_cmp-IsAntisymmetric (insert (remove m k) k v) m (λ q.
@@ -50,7 +49,7 @@ rules_taken m k = by (get m k) refl
 other_count : (m : TableOf) (k q : Pair) → is_pair_before k q ≡ true → count_at (remove m k) q ≡ count_at m q
 other_count m k q below =
     ap (λ o. length (unwrap_or o [])) (get-remove pairs_total m k q ∙ ap (λ b. cond b None (get m q)) (false_from_ne_true (eq_by_cmp pair_cmp q k) (λ ties.
-    before_itself pair_cmp pairs_total k (subst (λ x. is_pair_before k x ≡ true) (tie q k ties) below))))
+    before_itself pair_cmp pairs_total k (subst (λ x. is_pair_before k x ≡ true) (pair_tie q k ties) below))))
 
 sums_alike : (f g : Pair → ℕ) (ks : List Pair) → ((k : Pair) → Member k ks → f k ≡ g k) → sum_by f ks ≡ sum_by g ks
 sums_alike f g [] same = refl

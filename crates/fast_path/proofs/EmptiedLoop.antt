@@ -1,8 +1,8 @@
 -- The step of the loop over the old tags, each once, and its end.
-use Rattle.std.proofs.Common.{◌≡◌, ◌≢◌, ℕ, ◌+◌, ◌≤◌, ◌<◌, true, false, cond, nat_eq, List, [], ◌∷◌, ◌++◌, length, get_or, take, filter, count_by, IsPermutation, sym, ap, ◌∙◌, refl}
+use Rattle.std.proofs.Common.{◌≡◌, ◌≢◌, ℕ, ◌+◌, ◌≤◌, ◌<◌, true, false, cond, nat_eq, List, [], ◌∷◌, ◌++◌, length, get_or, take, filter, count_by, IsPermutation, sym, ap, ◌∙◌}
 use Rattle.std.specs.FinMap.{FinMap}
 use Rattle.std.proofs.lemmas.Bool.{eq-eqb, ne_eqb}
-use Rattle.std.proofs.lemmas.List.{take_all}
+use Rattle.std.proofs.lemmas.List.{take_all, append-nil}
 use Rattle.std.proofs.lemmas.List.Elements.{filter_more}
 use Rattle.std.proofs.lemmas.List.Sorted.{IsPermutation-sym, sum_by-IsPermutation}
 use Rattle.net_types.proofs.OrderedLemmas.{ordered_alike}
@@ -11,7 +11,7 @@ use Rattle.events.specs.declared.TagChange.{TagChange}
 use Rattle.fast_path.specs.Emptied.{emptied, is_left, old_tags}
 use Rattle.net_types.proofs.MemberLemmas.{Member-permutation}
 use Rattle.net_types.proofs.OrderLemmas.{tags_total}
-use Rattle.net_types.proofs.TieLemmas.{same_from_tie, tag_cmp-IsAntisymmetric}
+use Rattle.net_types.proofs.TieLemmas.{tag_tie}
 use Rattle.net_types.specs.Keys.{prefix_cmp, tag_cmp}
 use Rattle.net_types.specs.Maps.{ordered}
 use Rattle.net_types.specs.declared.address.Tag.{Tag}
@@ -36,15 +36,11 @@ module _ (m : FinMap prefix_cmp Tag) (cs : List TagChange) (old sorted : List Ta
     pub none_left : n ≢ k → (zs : List Tag) → zs ≡ ys → zs ≡ filter (is_left m cs) (take (i + 1) once)
     none_left apart zs more =
         let fails : is_left m cs (get_or once i d) ≡ false = sym (counted_is (get_or once i d) again n k same count all) ∙ ne_eqb n k apart in
-        more ∙ so_far ∙ sym (filter_more (is_left m cs) once i d within ∙ ap (λ b. filter (is_left m cs) (take i once) ++ cond b (get_or once i d ∷ []) []) fails ∙ append_nothing (filter (is_left m cs) (take i once)))
-      where
-        append_nothing : (xs : List Tag) → xs ++ [] ≡ xs
-        append_nothing [] = refl
-        append_nothing (x ∷ xs) = ap (λ ws. x ∷ ws) (append_nothing xs)
+        more ∙ so_far ∙ sym (filter_more (is_left m cs) once i d within ∙ ap (λ b. filter (is_left m cs) (take i once) ++ cond b (get_or once i d ∷ []) []) fails ∙ append-nil (filter (is_left m cs) (take i once)))
 
   -- after the last they are all
   pub all_left : (ys once items again : List Tag) (i : ℕ) → ys ≡ filter (is_left m cs) (take i items) → length items ≤ i → items ≡ once → once ≡ ordered tag_cmp again → again ≡ sorted → ys ≡ emptied m cs
   all_left ys once items again i so_far past same in_order copied =
       so_far ∙ ap (filter (is_left m cs)) (take_all i items past ∙ same ∙ in_order ∙ ap (ordered tag_cmp) copied
-      ∙ ordered_alike tag_cmp tags_total (same_from_tie tag_cmp tag_cmp-IsAntisymmetric) sorted old (record { onto = λ x. Member-permutation sorted old x (IsPermutation-sym old sorted moved); back = λ x. Member-permutation old sorted x moved })
+      ∙ ordered_alike tag_cmp tags_total tag_tie sorted old (record { onto = λ x. Member-permutation sorted old x (IsPermutation-sym old sorted moved); back = λ x. Member-permutation old sorted x moved })
       ∙ ap (ordered tag_cmp) is)

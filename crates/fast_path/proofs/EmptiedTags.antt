@@ -1,47 +1,40 @@
 -- The tags of changed prefixes that no other prefix has are those that no prefix has once the changes are made.
-use Rattle.std.proofs.Common.{◌≡◌, ◌⊎◌, ℕ, zero, suc, ◌+◌, ◌<◌, Bool, true, false, cond, not, List, [], ◌∷◌, ◌++◌, filter, map, count_by, sym, ap, subst, ◌∙◌, refl, arith, inl, inr}
+use Rattle.std.proofs.Common.{◌≡◌, ◌⊎◌, ℕ, zero, suc, ◌+◌, ◌<◌, Bool, true, false, cond, not, List, [], ◌∷◌, map, count_by, sym, ap, ◌∙◌, refl, arith, inl, inr}
 use Rattle.std.specs.Prelude.{Option, Some, None}
 use Rattle.std.specs.Cmp.{unsigned_ties}
-use Rattle.std.specs.FinMap.{FinMap, get, keys}
-use Rattle.std.specs.Ordering.{eq_by_cmp}
+use Rattle.std.specs.FinMap.{FinMap, get}
 use Rattle.std.specs.List.{cons_option}
-use Rattle.std.proofs.lemmas.Bool.{eq-eqb, eqb-true, false_from_ne_true, not-false}
+use Rattle.std.proofs.lemmas.Bool.{eq-eqb, eqb-true, false_from_ne_true}
 use Rattle.std.proofs.lemmas.List.Sums.{sum_by-cons}
-use Rattle.net_types.proofs.OrderedLemmas.{ordered_rises, ordered_same}
+use Rattle.net_types.proofs.OrderedLemmas.{ordered_same}
 use Rattle.events.specs.Fits.{tag_changes}
 use Rattle.events.specs.State.{State}
 use Rattle.events.specs.Tags.{fresh_tag, group_of, is_carried, is_changed, retagged, same_tag}
 use Rattle.events.specs.declared.TagChange.{TagChange}
 use Rattle.exchange_laws.proofs.FreshTags.{fresh_free}
-use Rattle.exchange_laws.proofs.Lists.{clash, is_some_of, key_Member}
-use Rattle.exchange_laws.proofs.Sames.{tag_itself, tag_same, tags_test}
+use Rattle.exchange_laws.proofs.Lists.{clash}
+use Rattle.exchange_laws.proofs.Sames.{tag_itself, tag_same}
 use Rattle.exchange_laws.proofs.TagsAfter.{live_of, tags_are}
 use Rattle.fast_path.proofs.PortsAndTags.{has_prefix_of, prefix_with}
-use Rattle.fast_path.proofs.SignatureParts.{given}
 use Rattle.fast_path.specs.Emptied.{emptied, is_left, old_tags}
 use Rattle.fast_path.specs.LiveOnly.{AreEmptied, has_prefix}
-use Rattle.net_types.proofs.OrderLemmas.{prefix_tie, prefixes_total, tags_total}
-use Rattle.net_types.proofs.RisingLemmas.{Member-filter, before, filter-IsRising, filter-Member}
-use Rattle.net_types.proofs.SetLemmas.{Member-append_left, Member-append_right, Member-map, map-Member, map-map}
-use Rattle.net_types.proofs.TieLemmas.{same_from_tie, tag_cmp-IsAntisymmetric}
+use Rattle.net_types.proofs.OrderLemmas.{tags_total}
+use Rattle.net_types.proofs.RisingLemmas.{Member-filter, filter-Member}
+use Rattle.net_types.proofs.SetLemmas.{given_by}
+use Rattle.net_types.proofs.TieLemmas.{tag_tie}
 use Rattle.net_types.specs.Attributes.{same_option}
 use Rattle.net_types.specs.Exports.{Routing}
 use Rattle.net_types.specs.Keys.{prefix_cmp, tag_cmp}
 use Rattle.net_types.specs.Maps.{ordered}
-use Rattle.net_types.specs.Sets.{IsRising, Member}
+use Rattle.net_types.specs.Sets.{Member}
 use Rattle.net_types.specs.declared.address.Tag.{Tag}
 use Rattle.net_types.specs.declared.prefix.Prefix.{Prefix}
-use Rattle.prefix_classes.proofs.ChangeLemmas.{changed_prefixes_have_new_tags, changes_are_counted, other_prefixes_keep_their_tags}
+use Rattle.prefix_classes.proofs.ChangeLemmas.{changes_are_counted}
 use Rattle.prefix_classes.proofs.MemberLemmas.{no_members}
 use Rattle.prefix_classes.specs.Classes.{has_tag, is_tag, members}
-use Rattle.prefix_classes.specs.Laws.{AreRising, Change, changed, joined, left}
-
-tag_tie : (t u : Tag) → eq_by_cmp tag_cmp t u ≡ true → t ≡ u
-tag_tie = same_from_tie tag_cmp tag_cmp-IsAntisymmetric
-
--- a change as the laws of counting have it
-abbrev pub as_change : TagChange → Change
-as_change c = (c.prefix, c.tag)
+use Rattle.prefix_classes.specs.Laws.{AreRising, changed, joined, left}
+use Rattle.fast_path.proofs.CommittedTags.{changes_rise, each_made, tag_then}
+use Rattle.fast_path.specs.Committing.{change_of}
 
 -- ---- the counts
 
@@ -53,7 +46,7 @@ count_option t None ts = omega arith
 count_option t (Some u) ts = sum_by-cons (λ x. cond (same_tag t x) 1 0) u ts ∙ ap (λ n. n + count_by (same_tag t) ts) (one_tag t u)
 
 -- so many of the old tags are this one as leave it
-left_is : (m : FinMap prefix_cmp Tag) (cs : List TagChange) (t : Tag) → left m (map as_change cs) t ≡ count_by (same_tag t) (old_tags m cs)
+left_is : (m : FinMap prefix_cmp Tag) (cs : List TagChange) (t : Tag) → left m (map change_of cs) t ≡ count_by (same_tag t) (old_tags m cs)
 left_is m [] t = refl
 left_is m (c ∷ cs) t = ap (λ n. has_tag t (get m c.prefix) + n) (left_is m cs t) ∙ sym (count_option t (get m c.prefix) (old_tags m cs))
 
@@ -65,7 +58,7 @@ not_tagged t None other = refl
 not_tagged t (Some u) other = other_tag t u (λ e. other (ap Some e))
 
 -- none joins a tag that no change gives
-joined_none : (cs : List TagChange) (t : Tag) → ((c : TagChange) → Member c cs → c.tag ≡ Some t → ⊥) → joined (map as_change cs) t ≡ 0
+joined_none : (cs : List TagChange) (t : Tag) → ((c : TagChange) → Member c cs → c.tag ≡ Some t → ⊥) → joined (map change_of cs) t ≡ 0
 joined_none [] t none = refl
 joined_none (c ∷ cs) t none =
     let here = not_tagged t c.tag (none c (inl refl)) in
@@ -91,25 +84,25 @@ counted_Member t (u ∷ ts) some = by (same_tag t u) refl (counted_Member t ts)
 abbrev pub AreFresh : FinMap prefix_cmp Tag → List TagChange → Type 0
 AreFresh m cs = (c : TagChange) (p : Prefix) (t : Tag) → Member c cs → c.tag ≡ Some t → get m p ≡ Some t → ⊥
 
-module _ (m : FinMap prefix_cmp Tag) (cs : List TagChange) (rising : AreRising (map as_change cs)) (fresh : AreFresh m cs) (t : Tag) where
+module _ (m : FinMap prefix_cmp Tag) (cs : List TagChange) (rising : AreRising (map change_of cs)) (fresh : AreFresh m cs) (t : Tag) where
   -- where a prefix has the tag, all its members are those that leave and those that stay
-  all_counted : (p : Prefix) → get m p ≡ Some t → members (changed m (map as_change cs)) t + count_by (same_tag t) (old_tags m cs) ≡ members m t
+  all_counted : (p : Prefix) → get m p ≡ Some t → members (changed m (map change_of cs)) t + count_by (same_tag t) (old_tags m cs) ≡ members m t
   all_counted p has =
-      let all = changes_are_counted m (map as_change cs) t rising in
+      let all = changes_are_counted m (map change_of cs) t rising in
       let left_ = left_is m cs t in
       let none = joined_none cs t (λ c stands e. fresh c p t stands e has) in
       omega (arith, all, left_, none)
 
-  pub emptied_none : (p : Prefix) → get m p ≡ Some t → is_left m cs t ≡ true → (q : Prefix) → get (changed m (map as_change cs)) q ≡ Some t → ⊥
+  pub emptied_none : (p : Prefix) → get m p ≡ Some t → is_left m cs t ≡ true → (q : Prefix) → get (changed m (map change_of cs)) q ≡ Some t → ⊥
   emptied_none p has is =
       let all = all_counted p has in
       let same = eqb-true (count_by (same_tag t) (old_tags m cs)) (members m t) is in
-      (no_members (changed m (map as_change cs)) t).0 (omega (arith, all, same))
+      (no_members (changed m (map change_of cs)) t).0 (omega (arith, all, same))
 
-  pub none_emptied : (p : Prefix) → get m p ≡ Some t → ((q : Prefix) → get (changed m (map as_change cs)) q ≡ Some t → ⊥) → Member t (emptied m cs)
+  pub none_emptied : (p : Prefix) → get m p ≡ Some t → ((q : Prefix) → get (changed m (map change_of cs)) q ≡ Some t → ⊥) → Member t (emptied m cs)
   none_emptied p has none =
       let all = all_counted p has in
-      let no_more = (no_members (changed m (map as_change cs)) t).1 none in
+      let no_more = (no_members (changed m (map change_of cs)) t).1 none in
       let same : count_by (same_tag t) (old_tags m cs) ≡ members m t = omega (arith, all, no_more) in
       let stands : Member t (old_tags m cs) = elim (some_or_none (members m t)) [
         | inl zero_is ↦ absurd ((no_members m t).0 zero_is p has)
@@ -125,65 +118,8 @@ module _ (m : FinMap prefix_cmp Tag) (cs : List TagChange) (rising : AreRising (
 pub emptied_had : (m : FinMap prefix_cmp Tag) (cs : List TagChange) (t : Tag) → Member t (emptied m cs) → (p : Prefix) × (get m p ≡ Some t) × (is_left m cs t ≡ true)
 emptied_had m cs t stands =
     let kept = filter-Member (is_left m cs) (ordered tag_cmp (old_tags m cs)) t stands in
-    let from = given (λ (c : TagChange). get m c.prefix) cs t ((ordered_same tag_cmp tags_total tag_tie (old_tags m cs)).onto t kept.stands) in
+    let from = given_by (λ (c : TagChange). get m c.prefix) cs t ((ordered_same tag_cmp tags_total tag_tie (old_tags m cs)).onto t kept.stands) in
     (from.source.prefix, from.is, kept.passes)
-
--- ---- the changes from one map to another
-
-module _ (m m1 : FinMap prefix_cmp Tag) where
-  abbrev cs : List TagChange
-  cs = tag_changes m m1
-
-  abbrev differs : Prefix → Bool
-  differs p = not (same_option same_tag (get m p) (get m1 p))
-
-  abbrev change_of : Prefix → TagChange
-  change_of p = record { prefix = p; tag = get m1 p }
-
-  abbrev listed : List Prefix
-  listed = filter differs (ordered prefix_cmp (keys m ++ keys m1))
-
-  pub changes_rise : AreRising (map as_change cs)
-  changes_rise =
-      subst (IsRising (before prefix_cmp)) (sym (map-map (λ (c : Change). c.0) as_change (λ (c : TagChange). c.prefix) (λ c. refl) cs ∙ map-map (λ (c : TagChange). c.prefix) change_of (λ p. p) (λ p. refl) listed ∙ map_itself listed))
-      (filter-IsRising (before prefix_cmp) differs (ordered prefix_cmp (keys m ++ keys m1)) (ordered_rises prefix_cmp prefixes_total prefix_tie (keys m ++ keys m1)))
-    where
-      map_itself : (ps : List Prefix) → map (λ p. p) ps ≡ ps
-      map_itself [] = refl
-      map_itself (p ∷ ps) = ap (λ qs. p ∷ qs) (map_itself ps)
-
-  -- a prefix whose tag is another one has a key
-  pub key_there : (p : Prefix) → differs p ≡ true → Member p (keys m ++ keys m1)
-  key_there p other = by (get m p) (get m1 p) refl refl other
-    where
-      by : (o o1 : Option Tag) → get m p ≡ o → get m1 p ≡ o1 → not (same_option same_tag o o1) ≡ true → Member p (keys m ++ keys m1)
-      by None None e f h = absurd (cc)
-      by None (Some t) e f h = Member-append_right (keys m) (keys m1) p (key_Member prefix_cmp prefixes_total prefix_tie m1 p (is_some_of (get m1 p) t f))
-      by (Some t) o1 e f h = Member-append_left (keys m) (keys m1) p (key_Member prefix_cmp prefixes_total prefix_tie m p (is_some_of (get m p) t e))
-
-  pub changed_get : (p : Prefix) → get (changed m (map as_change cs)) p ≡ get m1 p
-  changed_get p = by (differs p) refl
-    where
-      by : (b : Bool) → differs p ≡ b → get (changed m (map as_change cs)) p ≡ get m1 p
-      by true is =
-          changed_prefixes_have_new_tags m (map as_change cs) p (get m1 p) changes_rise
-          (Member-map as_change cs (change_of p) (Member-map change_of listed p
-          (Member-filter differs (ordered prefix_cmp (keys m ++ keys m1)) p ((ordered_same prefix_cmp prefixes_total prefix_tie (keys m ++ keys m1)).back p (key_there p is)) is)))
-      by false is =
-          other_prefixes_keep_their_tags m (map as_change cs) p (λ after stands.
-          let image = map-Member as_change cs (p, after) stands in
-          let one = map-Member change_of listed image.of image.stands in
-          let kept = filter-Member differs (ordered prefix_cmp (keys m ++ keys m1)) one.of one.stands in
-          let same : p ≡ one.of = ap (λ (c : Change). c.0) image.is ∙ ap (λ (c : TagChange). c.prefix) one.is in
-          clash (ap differs same ∙ kept.passes) is)
-          ∙ (tags_test (get m p) (get m1 p)).0 (not-false (same_option same_tag (get m p) (get m1 p)) is)
-
-  -- a change has the prefix's new tag, and that is another one
-  pub change_is : (c : TagChange) → Member c cs → (get m1 c.prefix ≡ c.tag) × (differs c.prefix ≡ true)
-  change_is c stands =
-      let one = map-Member change_of listed c stands in
-      let kept = filter-Member differs (ordered prefix_cmp (keys m ++ keys m1)) one.of one.stands in
-      subst (λ (d : TagChange). (get m1 d.prefix ≡ d.tag) × (differs d.prefix ≡ true)) (sym {b = change_of one.of} one.is) (refl, kept.passes)
 
 -- ---- a line that builds rules
 
@@ -198,10 +134,10 @@ new_or_same s r p q t new old = by (is_carried r p) (is_changed s r p) (sym (tag
 
 pub are_fresh : (s : State) (r : Routing) → AreFresh s.tag (tag_changes s.tag (retagged s r).tag)
 are_fresh s r c p t stands gives has =
-    let is = change_is s.tag (retagged s r).tag c stands in
-    let new = is.0 ∙ gives in
+    let is = each_made s.tag (retagged s r).tag c stands in
+    let new = sym is.tagged ∙ gives in
     let old = new_or_same s r c.prefix p t new has in
-    clash is.1 (ap (λ o. not (same_option same_tag o (get (retagged s r).tag c.prefix))) old ∙ ap (λ o. not (same_option same_tag (Some t) o)) new ∙ ap not (tag_itself t))
+    clash is.differs (ap (λ o. not (same_option same_tag o (get (retagged s r).tag c.prefix))) old ∙ ap (λ o. not (same_option same_tag (Some t) o)) new ∙ ap not (tag_itself t))
 
 module _ (s : State) (r : Routing) where
   abbrev m1 : FinMap prefix_cmp Tag
@@ -217,12 +153,12 @@ module _ (s : State) (r : Routing) where
           has_prefix_of s had.0 t had.1,
           false_from_ne_true (has_prefix (retagged s r) t) (λ has.
               let still = prefix_with (retagged s r) t has in
-              emptied_none s.tag made (changes_rise s.tag m1) (are_fresh s r) t had.0 had.1 had.2 still.prefix (changed_get s.tag m1 still.prefix ∙ still.tagged)),
+              emptied_none s.tag made (changes_rise s.tag m1) (are_fresh s r) t had.0 had.1 had.2 still.prefix (tag_then s.tag m1 still.prefix ∙ still.tagged)),
         );
     all = λ t has none.
         let had = prefix_with s t has in
         none_emptied s.tag made (changes_rise s.tag m1) (are_fresh s r) t had.prefix had.tagged (λ q still.
-        clash (has_prefix_of (retagged s r) q t (sym (changed_get s.tag m1 q) ∙ still)) none);
+        clash (has_prefix_of (retagged s r) q t (sym (tag_then s.tag m1 q) ∙ still)) none);
   }
 
 pub emptied_are_those : (s : State) (r : Routing) → AreEmptied s (retagged s r) (emptied s.tag (tag_changes s.tag (retagged s r).tag))

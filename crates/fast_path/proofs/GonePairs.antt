@@ -13,7 +13,7 @@ use Rattle.exchange_laws.proofs.TagsAfter.{live_of, live_tags_stay, signatures_a
 use Rattle.exchange_laws.specs.Steady.{PortsDiffer}
 use Rattle.exchange_laws.specs.Listed.{AreLiveOnly}
 use Rattle.exchange_laws.specs.Rules.{IsChange, OwnersAreDeclared}
-use Rattle.fast_path.proofs.PortsAndTags.{IsPortOf, found_number, has_prefix_of, number_listed, port_listed, prefix_with, tie}
+use Rattle.fast_path.proofs.PortsAndTags.{IsPortOf, found_number, has_prefix_of, number_listed, port_listed, prefix_with}
 use Rattle.fast_path.proofs.SignatureParts.{has_part, part_senders, same_senders}
 use Rattle.fast_path.specs.LiveOnly.{AreEmptied, has_prefix, registered}
 use Rattle.fast_path.specs.Pairs.{gone_pairs, pair_at, part_pairs, tag_pairs, was_told}
@@ -33,6 +33,7 @@ use Rattle.net_types.specs.declared.route.PortInfo.{PortInfo}
 use Rattle.net_types.specs.declared.rule.Pair.{Pair}
 use Rattle.registry.specs.Registered.{Registered, ports_of}
 use Rattle.std.proofs.lemmas.Option.{same_Some}
+use Rattle.net_types.proofs.TieLemmas.{pair_tie}
 
 -- what is under a test that fails
 pub Member-unless : {A : Type 0} (b : Bool) (xs : List A) (x : A) → Member x (cond b [] xs) → (b ≡ false) × Member x xs
@@ -137,9 +138,9 @@ module _ (s : State) (r : Routing) (tags : FinMap prefix_cmp Tag) (ports : r.por
 
     pub gone_live_only : AreLiveOnly s s1 (gone_pairs names s.kept s.told ts)
     gone_live_only = record {
-      rising = ordered_rises pair_cmp pairs_total tie (union_over (tag_pairs names s.kept s.told) ts);
-      each = λ pair m. each_gone pair ((ordered_same pair_cmp pairs_total tie (union_over (tag_pairs names s.kept s.told) ts)).onto pair m);
-      all = λ pair live dead. (ordered_same pair_cmp pairs_total tie (union_over (tag_pairs names s.kept s.told) ts)).back pair (all_gone pair live dead);
+      rising = ordered_rises pair_cmp pairs_total pair_tie (union_over (tag_pairs names s.kept s.told) ts);
+      each = λ pair m. each_gone pair ((ordered_same pair_cmp pairs_total pair_tie (union_over (tag_pairs names s.kept s.told) ts)).onto pair m);
+      all = λ pair live dead. (ordered_same pair_cmp pairs_total pair_tie (union_over (tag_pairs names s.kept s.told) ts)).back pair (all_gone pair live dead);
     }
 
 -- the pairs of the emptied tags are those that are live no more

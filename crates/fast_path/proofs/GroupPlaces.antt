@@ -1,8 +1,8 @@
 -- What ties in the order of groups is one group; where groups are found once there is one more.
-use Rattle.std.proofs.Common.{◌≡◌, ℕ, ◌+◌, Bool, true, false, cond, ◌||◌, List, [], ◌∷◌, ◌++◌, length, sym, ap, ◌∙◌, refl, arith}
+use Rattle.std.proofs.Common.{◌≡◌, ℕ, ◌+◌, Bool, true, false, cond, List, [], ◌∷◌, ◌++◌, length, sym, ap, ◌∙◌, refl, arith}
 use Rattle.std.specs.Prelude.{Option, Some, None, is_some}
 use Rattle.std.specs.FinMap.Entries.{find, put, find-put}
-use Rattle.std.specs.List.{list_any, position_from}
+use Rattle.std.specs.List.{position_from}
 use Rattle.std.specs.Option.{option_cmp}
 use Rattle.std.specs.Ordering.{eq_by_cmp}
 use Rattle.std.specs.declared.cmp.Ordering.TheVariants.{Equal}
@@ -15,6 +15,7 @@ use Rattle.prefix_classes.proofs.PlacedLemmas.{sig_cmp-IsAntisymmetric}
 use Rattle.prefix_classes.specs.Placed.{sig_cmp}
 use Rattle.fast_path.specs.GroupOrder.{ArePlaces, group_cmp, groups_total}
 use Rattle.fast_path.specs.Grouping.{one_more}
+use Rattle.net_types.proofs.FindLemmas.{any_position}
 
 -- ---- the order
 
@@ -43,15 +44,6 @@ same_as_tied a b = by (eq_by_cmp group_cmp a b) (same_group a b) refl refl
     by false true tie same = sym tie ∙ ap (eq_by_cmp group_cmp a) (sym (group_same a b same)) ∙ ties_itself groups_total a
 
 -- ---- places
-
--- an element stands in a list where it has a place
-pub any_placed : {A : Type 0} (p : A → Bool) (n : ℕ) (xs : List A) → list_any p xs ≡ is_some (position_from p n xs)
-any_placed p n [] = refl
-any_placed p n (x ∷ xs) = ap (λ b. p x || b) (any_placed p (n + 1) xs) ∙ by (p x) (position_from p (n + 1) xs)
-  where
-    by : (b : Bool) (o : Option ℕ) → (b || is_some o) ≡ is_some (cond b (Some n) o)
-    by true o = refl
-    by false o = refl
 
 -- the place in a list with one more element
 placed_last : {A : Type 0} (p : A → Bool) (n : ℕ) (xs : List A) (x : A) → position_from p n (xs ++ x ∷ []) ≡ cond (is_some (position_from p n xs)) (position_from p n xs) (cond (p x) (Some (n + length xs)) None)
@@ -91,7 +83,7 @@ place_more gs es g n are new at = λ q.
 
 -- a group that has a place is none more, and one that has none is one more
 pub found_there : (gs : List Group) (es : List (Group × ℕ)) (g : Group) → ArePlaces gs es → is_some (find group_cmp g es) ≡ true → gs ≡ one_more gs g
-found_there gs es g are there = sym (ap (λ b. cond b gs (gs ++ g ∷ [])) (any_placed (same_group g) 0 gs ∙ ap is_some (sym (are g)) ∙ there))
+found_there gs es g are there = sym (ap (λ b. cond b gs (gs ++ g ∷ [])) (any_position (same_group g) 0 gs ∙ ap is_some (sym (are g)) ∙ there))
 
 pub added_there : (gs : List Group) (es : List (Group × ℕ)) (g : Group) → ArePlaces gs es → is_some (find group_cmp g es) ≡ false → gs ++ g ∷ [] ≡ one_more gs g
-added_there gs es g are new = sym (ap (λ b. cond b gs (gs ++ g ∷ [])) (any_placed (same_group g) 0 gs ∙ ap is_some (sym (are g)) ∙ new))
+added_there gs es g are new = sym (ap (λ b. cond b gs (gs ++ g ∷ [])) (any_position (same_group g) 0 gs ∙ ap is_some (sym (are g)) ∙ new))

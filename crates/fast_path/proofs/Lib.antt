@@ -13,7 +13,6 @@ pub mod GroupLemmas
 pub mod GroupPlaces
 pub mod FreeLemmas
 pub mod TagsPlanned
-pub mod CommitLemmas
 pub mod CommittedFresh
 pub mod CommittedMaps
 pub mod CommittedMembers

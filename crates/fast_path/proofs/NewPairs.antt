@@ -1,5 +1,5 @@
 -- The pairs of the fresh tags are those that become live, and the signatures of all tags afterwards.
-use Rattle.std.proofs.Common.{◌≡◌, ℕ, zero, suc, ◌<◌, Bool, true, false, cond, List, [], ◌∷◌, length, filter, map, nat_eq, sym, ap, subst, ◌∙◌, refl, inl, inr}
+use Rattle.std.proofs.Common.{◌≡◌, ℕ, suc, ◌<◌, Bool, true, false, cond, List, [], ◌∷◌, length, filter, map, nat_eq, sym, ap, subst, ◌∙◌, refl, inl, inr}
 use Rattle.std.specs.Prelude.{Option, Some, None, find, slice_get, is_some}
 use Rattle.std.specs.FinMap.{get}
 use Rattle.std.specs.List.{list_any}
@@ -33,7 +33,7 @@ use Rattle.fast_path.specs.Planned.{group_kept}
 use Rattle.fast_path.specs.declared.planned.Class.{Class}
 use Rattle.net_types.proofs.FindLemmas.{any_at, find-IsFound, slice_get-Member}
 use Rattle.net_types.proofs.PassLemmas.{is_some-any, some_there}
-use Rattle.net_types.proofs.RisingLemmas.{filter-Member}
+use Rattle.net_types.proofs.RisingLemmas.{filter-Member, once_of}
 use Rattle.net_types.proofs.SetLemmas.{Member-map, Member-union, map-Member, union-Member}
 use Rattle.net_types.specs.Exports.{Routing}
 use Rattle.net_types.specs.Keys.{prefix_cmp}
@@ -49,7 +49,7 @@ use Rattle.net_types.specs.declared.route.Part.{Part}
 use Rattle.net_types.specs.declared.route.PortInfo.{PortInfo}
 use Rattle.net_types.specs.declared.rule.Pair.{Pair}
 use Rattle.registry.specs.Registered.{Registered, ports_of}
-use Rattle.fast_path.proofs.CommitLemmas.{once_of}
+use Rattle.fast_path.proofs.CommittedFresh.{kept_there}
 
 -- ---- fresh tags with their signatures
 
@@ -59,12 +59,6 @@ kept_place [] sigs x m = elim m [ ]
 kept_place (t ∷ ts) [] x m = elim m [ ]
 kept_place (t ∷ ts) (sig ∷ sigs) x (inl e) = (0, ap (λ (y : Kept). Some y.0) (sym e), ap (λ (y : Kept). Some y.1) (sym e))
 kept_place (t ∷ ts) (sig ∷ sigs) x (inr m) = let later = kept_place ts sigs x m in (suc later.0, later.1, later.2)
-
-pub place_kept : (ts : List Tag) (sigs : List (List Part)) (k : ℕ) (t : Tag) (sig : List Part) → slice_get ts k ≡ Some t → slice_get sigs k ≡ Some sig → Member (t, sig) (kept_of ts sigs)
-place_kept [] sigs k t sig e h = absurd (cc)
-place_kept (u ∷ ts) [] k t sig e h = absurd (cc)
-place_kept (u ∷ ts) (ps ∷ sigs) zero t sig e h = inl (sym (λ i. let y : Kept = (same_Some u t e i, same_Some ps sig h i) in y))
-place_kept (u ∷ ts) (ps ∷ sigs) (suc k) t sig e h = inr (place_kept ts sigs k t sig e h)
 
 -- the signature in which a part is found
 in_sig : (o : Option (List Part)) (who : Pid) (part : Part) → option_and_then (λ ps. part_of ps who) o ≡ Some part → (sig : List Part) × (o ≡ Some sig) × (part_of sig who ≡ Some part)
@@ -162,7 +156,7 @@ module _ (s : State) (r : Routing) (change : IsChange s r) (own : PortsDiffer s.
         let signed : slice_get (group_signatures s r) place.0 ≡ Some g.after = mapped_at (λ (x : Group). x.after) (groups s r) place.0 g place.1 in
         let tagged : slice_get (group_tags s r) place.0 ≡ Some t = taken_at (length (groups s r)) (free_tags s) place.0 t (slice_get_within (groups s r) place.0 g place.1) (sym (by_place s r place.0 g place.1) ∙ fresh) in
         let k : Kept = (t, g.after) in
-        (class_of cs k, refl, refl, Member-map (class_of cs) (group_kept s r) k (place_kept (group_tags s r) (group_signatures s r) place.0 t g.after tagged signed))
+        (class_of cs k, refl, refl, Member-map (class_of cs) (group_kept s r) k (kept_there (group_tags s r) (group_signatures s r) place.0 t g.after tagged signed))
 
     -- ---- all of them
 

@@ -11,7 +11,6 @@ use Rattle.events.specs.declared.TagChange.{TagChange}
 use Rattle.exchange_laws.proofs.FreshTags.{carried_listed}
 use Rattle.exchange_laws.proofs.TagsAfter.{carried_have_tags}
 use Rattle.exchange_laws.specs.Fresh.{HasEnoughTags}
-use Rattle.fast_path.proofs.EmptiedTags.{key_there}
 use Rattle.fast_path.specs.Newly.{is_newly_tagged, newly_tagged}
 use Rattle.net_types.proofs.OrderLemmas.{prefix_tie, prefixes_total}
 use Rattle.net_types.proofs.OrderedLemmas.{ordered_rises, ordered_same}
@@ -24,6 +23,7 @@ use Rattle.net_types.specs.Maps.{ordered}
 use Rattle.net_types.specs.Routes.{announced}
 use Rattle.net_types.specs.declared.address.Tag.{Tag}
 use Rattle.net_types.specs.declared.prefix.Prefix.{Prefix}
+use Rattle.fast_path.proofs.CommittedTags.{key_there}
 
 none_is : (o : Option Tag) → is_none o ≡ not (is_some o)
 none_is None = refl

@@ -1,7 +1,7 @@
 -- With a plan's offers made, what is present for each participant is what is present for it in the state afterwards.
 use Rattle.std.proofs.Common.{◌≡◌, ℕ, ◌+◌, ◌<◌, ◌≢◌, ◌⊎◌, Bool, true, false, cond, eqb, List, [], ◌∷◌, zero, suc, length, map, get_or, length-set, get_or-set_same, get_or-set_other, eq-eqb, sym, ap, subst, ◌∙◌, refl, arith, inl, inr}
-use Rattle.std.specs.Prelude.{Option, Some, None, slice_get, unwrap_or}
-use Rattle.std.specs.FinMap.{FinMap, empty, get, get-insert, get-remove, same_map}
+use Rattle.std.specs.Prelude.{Some, slice_get, unwrap_or}
+use Rattle.std.specs.FinMap.{FinMap, empty, get, same_map}
 use Rattle.std.specs.Ordering.{eq_by_cmp}
 use Rattle.std.proofs.lemmas.Bool.{eqb-true}
 use Rattle.std.proofs.lemmas.List.{ext_get_or}
@@ -22,6 +22,7 @@ use Rattle.fast_path.proofs.ListPlaces.{mapped_at}
 use Rattle.fast_path.specs.Offers.{AreOffers, IsOffered, Present, all_present, offered, offered_all, present_to}
 use Rattle.fast_path.specs.declared.planned.Advert.{Advert}
 use Rattle.exchange_laws.proofs.Counted.{how_many}
+use Rattle.events.proofs.NewsLemmas.{get-with_news}
 
 abbrev Entries : Type 0
 Entries = FinMap prefix_cmp Entry
@@ -30,11 +31,6 @@ Entries = FinMap prefix_cmp Entry
 
 to_is : (all : Present) (who : Pid) → present_to all who ≡ get_or all who.0 empty
 to_is all who = unwrap_or-slice_get all who.0 empty
-
--- of a prefix for which there are news, that
-news_is : (m : Entries) (p : Prefix) (o : Option Entry) (q : Prefix) → get (with_news m p o) q ≡ cond (eq_by_cmp prefix_cmp q p) o (get m q)
-news_is m p None q = get-remove prefixes_total m p q
-news_is m p (Some e) q = get-insert prefixes_total m p e q
 
 offered_length : (all : Present) (o : Advert) → length (offered all o) ≡ length all
 offered_length all o = length-set all o.who.0 (with_news (present_to all o.who) o.prefix o.entry)
@@ -58,7 +54,7 @@ module _ (then : Present) where
       subst (λ w. get (present_to (offered all o) w) p ≡ get (present_to then w) p) whose
       (subst (λ q. get (present_to (offered all o) o.who) q ≡ get (present_to then o.who) q) which
       (ap (λ m. get m o.prefix) (offered_here all o within)
-      ∙ news_is (present_to all o.who) o.prefix o.entry o.prefix
+      ∙ get-with_news (present_to all o.who) o.prefix o.entry o.prefix
       ∙ ap (λ b. cond b o.entry (get (present_to all o.who) o.prefix)) (ties_itself prefixes_total o.prefix)
       ∙ to.1))
 
@@ -68,7 +64,7 @@ module _ (then : Present) where
       let within : o.who.0 < length all = subst (λ n. o.who.0 < n) (sym same) to.0 in
       subst (λ w. get (present_to (offered all o) w) p ≡ get (present_to all w) p) whose
       (ap (λ m. get m p) (offered_here all o within)
-      ∙ news_is (present_to all o.who) o.prefix o.entry p
+      ∙ get-with_news (present_to all o.who) o.prefix o.entry p
       ∙ ap (λ b. cond b o.entry (get (present_to all o.who) p)) apart)
 
   -- what is offered later, or is present already

@@ -32,8 +32,7 @@ use Rattle.fast_path.proofs.GonePairs.{gone_pairs_are_those}
 use Rattle.fast_path.proofs.KnownSignatures.{Names, known_kept, sender_stays}
 use Rattle.fast_path.proofs.NewlyCarried.{newly_counted}
 use Rattle.fast_path.proofs.NewPairs.{HasOwners, kept_place, made, new_pairs_all, new_pairs_each, owners_found}
-use Rattle.fast_path.proofs.PortsAndTags.{tie}
-use Rattle.fast_path.proofs.TagOrder.{rising_tags, tag_tie}
+use Rattle.fast_path.proofs.TagOrder.{rising_tags}
 use Rattle.fast_path.proofs.OffersPlanned.{offers_made}
 use Rattle.fast_path.proofs.TagsPlanned.{changes_found, groups_found, known_of, tagged_are}
 use Rattle.fast_path.specs.Building.{AreInOrder, HasPart, IsBlockFor, part_at, site_of}
@@ -70,6 +69,7 @@ use Rattle.next_hop_pool.specs.Free.{Tags, free_tags}
 use Rattle.prefix_classes.specs.Classes.{Classes}
 use Rattle.registry.specs.Registered.{Registered, ports_of}
 use Rattle.route_server.specs.Proposed.{Proposed}
+use Rattle.net_types.proofs.TieLemmas.{pair_tie, tag_tie}
 
 class_signatures : (fs : List Fresh) → map (λ (f : Fresh). f.sig) fs ≡ map (λ (g : Group). g.after) (groups_of fs)
 class_signatures [] = refl
@@ -242,9 +242,9 @@ module _ (s : State) (r : Routing) (is_rebuilt : Pair → Bool) (names : Registe
 
       pub drops_are : AreThose (goes s s1 is_rebuilt) draft.drops
       drops_are = subst (AreThose (goes s s1 is_rebuilt)) (sym is.drops) (record {
-        rising = ordered_rises pair_cmp pairs_total tie (gone ++ rebuild);
-        each = λ pair m. goes_each pair ((ordered_same pair_cmp pairs_total tie (gone ++ rebuild)).onto pair m);
-        all = λ pair e. (ordered_same pair_cmp pairs_total tie (gone ++ rebuild)).back pair (goes_all pair e);
+        rising = ordered_rises pair_cmp pairs_total pair_tie (gone ++ rebuild);
+        each = λ pair m. goes_each pair ((ordered_same pair_cmp pairs_total pair_tie (gone ++ rebuild)).onto pair m);
+        all = λ pair e. (ordered_same pair_cmp pairs_total pair_tie (gone ++ rebuild)).back pair (goes_all pair e);
       })
 
       -- ---- the pairs that come
@@ -256,7 +256,7 @@ module _ (s : State) (r : Routing) (is_rebuilt : Pair → Bool) (names : Registe
       built_is = is.built ∙ ap (λ n. ordered pair_cmp (fresh_pairs n draft.fresh.items ++ staying gone rebuild)) names_are ∙ ap (λ cs. ordered pair_cmp (fresh_pairs (registered s) cs ++ staying gone rebuild)) fresh_are
 
       not_gone : (pair : Pair) → is_live_pair s1 pair ≡ true → is_among gone pair ≡ false
-      not_gone pair live = false_from_ne_true (is_among gone pair) (λ among. clash live (gone_are.each pair (any_member pair_cmp pairs_total tie pair gone among)).1)
+      not_gone pair live = false_from_ne_true (is_among gone pair) (λ among. clash live (gone_are.each pair (any_member pair_cmp pairs_total pair_tie pair gone among)).1)
 
       comes_each : (pair : Pair) → Member pair coming → comes s s1 is_rebuilt pair ≡ true
       comes_each pair m = elim (Member-append_cases (fresh_pairs (registered s) (made s r change asked.base.apart draft.tags)) (staying gone rebuild) pair m) [
@@ -273,7 +273,7 @@ module _ (s : State) (r : Routing) (is_rebuilt : Pair → Bool) (names : Registe
               let at = and_parts (is_live_pair s pair) (is_rebuilt pair) (asked.rebuilt.each pair stands) in (λ i. live i && (not (is_live_pair s pair) || at.1 i)) ∙ or_true (is_live_pair s pair)
           stays pair stands passes false dead =
               let at = and_parts (is_live_pair s pair) (is_rebuilt pair) (asked.rebuilt.each pair stands) in
-              absurd (clash passes (ap not (member_any pair_cmp pairs_total tie pair gone (gone_are.all pair at.0 dead))))
+              absurd (clash passes (ap not (member_any pair_cmp pairs_total pair_tie pair gone (gone_are.all pair at.0 dead))))
 
       comes_all : (pair : Pair) → comes s s1 is_rebuilt pair ≡ true → Member pair coming
       comes_all pair e = by (is_live_pair s pair) refl
@@ -290,9 +290,9 @@ module _ (s : State) (r : Routing) (is_rebuilt : Pair → Bool) (names : Registe
 
       pub built_are : AreThose (comes s s1 is_rebuilt) draft.built
       built_are = subst (AreThose (comes s s1 is_rebuilt)) (sym built_is) (record {
-        rising = ordered_rises pair_cmp pairs_total tie coming;
-        each = λ pair m. comes_each pair ((ordered_same pair_cmp pairs_total tie coming).onto pair m);
-        all = λ pair e. (ordered_same pair_cmp pairs_total tie coming).back pair (comes_all pair e);
+        rising = ordered_rises pair_cmp pairs_total pair_tie coming;
+        each = λ pair m. comes_each pair ((ordered_same pair_cmp pairs_total pair_tie coming).onto pair m);
+        all = λ pair e. (ordered_same pair_cmp pairs_total pair_tie coming).back pair (comes_all pair e);
       })
 
       -- they are as many as a line builds

@@ -23,11 +23,9 @@ use Rattle.exchange_laws.specs.Rules.{IsChange, IsRightAt, is_new}
 use Rattle.exchange_laws.specs.Fresh.{HasEnoughTags}
 use Rattle.exchange_laws.specs.Retagging.{TagsArePooled}
 use Rattle.fast_path.proofs.CommittedRules.{rules_with}
-use Rattle.fast_path.proofs.CommittedSignatures.{nothing}
 use Rattle.fast_path.proofs.CommittedTable.{blocks_apart, new_rules, not_left, old_rules, table_pairs}
 use Rattle.fast_path.proofs.CountedRules.{rules_none, rules_without}
 use Rattle.fast_path.proofs.PlanFound.{block_right, built_are, built_count, change, changes_are, dead_are, dead_rise, drops_are, emptied_listed, enough, fresh_are, in_order, newly_are, offers_are, owns, parts_are}
-use Rattle.fast_path.proofs.PortsAndTags.{tie}
 use Rattle.fast_path.specs.Building.{AreBlocksFor, AreInOrder, HasPart, IsFullBy, IsRefusedFor, Site, rules_left, site_of}
 use Rattle.fast_path.specs.Committing.{Block, block_count, classes_of, with_blocks}
 use Rattle.fast_path.specs.Drafts.{IsDraft, IsDrafted}
@@ -44,11 +42,11 @@ use Rattle.fast_path.specs.declared.planned.FastFault.TheVariants.{NoNextHop, Ta
 use Rattle.fast_path.specs.declared.planned.Plan.{Plan}
 use Rattle.block_build.specs.Installed.{Installed}
 use Rattle.block_build.specs.Installed as installed
-use Rattle.net_types.proofs.FindLemmas.{cond_same}
+use Rattle.net_types.proofs.FindLemmas.{cond_same, nothing}
 use Rattle.net_types.proofs.OrderLemmas.{pairs_total}
 use Rattle.net_types.proofs.OrderedLemmas.{ordered_same}
 use Rattle.net_types.proofs.PassLemmas.{some_there}
-use Rattle.net_types.proofs.TieLemmas.{ties_itself}
+use Rattle.net_types.proofs.TieLemmas.{pair_tie, ties_itself}
 use Rattle.net_types.proofs.RisingLemmas.{filter-Member}
 use Rattle.net_types.proofs.SetLemmas.{Member-append_cases, Member-map, map-Member, map-append}
 use Rattle.net_types.specs.Answers.{Policies}
@@ -272,7 +270,7 @@ module _ (s : State) (r : Routing) (is_rebuilt : Pair → Bool) (names : Registe
       pooled = tags_stay_pooled s r asked.base.pooled
 
       live_of : (pair : Pair) → Member pair (live_pairs s1) → is_live_pair s1 pair ≡ true
-      live_of pair m = (filter-Member (is_live_pair s1) (pairs s1) pair ((ordered_same pair_cmp pairs_total tie (filter (is_live_pair s1) (pairs s1))).onto pair m)).passes
+      live_of pair m = (filter-Member (is_live_pair s1) (pairs s1) pair ((ordered_same pair_cmp pairs_total pair_tie (filter (is_live_pair s1) (pairs s1))).onto pair m)).passes
 
       all_counted : installed.rule_count then ≡ sum_by (count_at then) (live_pairs s1)
       all_counted =

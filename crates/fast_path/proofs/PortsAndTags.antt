@@ -2,7 +2,6 @@
 use Rattle.std.proofs.Common.{◌≡◌, true, filter, nat_eq, sym, ap, ◌∙◌}
 use Rattle.std.specs.Prelude.{Some}
 use Rattle.std.specs.FinMap.{get}
-use Rattle.std.specs.Ordering.{eq_by_cmp}
 use Rattle.std.proofs.lemmas.Bool.{eqb-true}
 use Rattle.events.specs.State.{State, port_of}
 use Rattle.events.specs.Tags.{same_tag}
@@ -13,21 +12,17 @@ use Rattle.net_types.proofs.OrderLemmas.{prefixes_total}
 use Rattle.net_types.proofs.RisingLemmas.{Member-filter, filter-Member}
 use Rattle.net_types.proofs.SameLemmas.{nat_itself}
 use Rattle.net_types.proofs.SetLemmas.{Member-map, map-Member}
-use Rattle.net_types.proofs.TieLemmas.{pair_cmp-IsAntisymmetric, same_from_tie}
 use Rattle.net_types.proofs.ValueLemmas.{any_value, value_at}
-use Rattle.net_types.specs.Keys.{pair_cmp, prefix_cmp}
+use Rattle.net_types.specs.Keys.{prefix_cmp}
 use Rattle.net_types.specs.Sets.{Member}
 use Rattle.net_types.specs.declared.address.Pid.{Pid}
 use Rattle.net_types.specs.declared.address.PortNo.{PortNo}
 use Rattle.net_types.specs.declared.address.Tag.{Tag}
 use Rattle.net_types.specs.declared.prefix.Prefix.{Prefix}
 use Rattle.net_types.specs.declared.route.PortInfo.{PortInfo}
-use Rattle.net_types.specs.declared.rule.Pair.{Pair}
 use Rattle.registry.specs.Registered.{ports_of}
 use Rattle.block_build.proofs.OfferLemmas.{pid_exact}
-
-pub tie : (x y : Pair) → eq_by_cmp pair_cmp x y ≡ true → x ≡ y
-tie = same_from_tie pair_cmp pair_cmp-IsAntisymmetric
+pub use Rattle.net_types.proofs.TieLemmas.{pair_tie as tie}
 
 -- ---- ports
 

@@ -1,7 +1,6 @@
 -- The parts of a prefix's signature are those of the participants that have a best route for it.
-use Rattle.std.proofs.Common.{◌≡◌, ◌<◌, true, List, [], ◌∷◌, length, nat_eq, sym, ap, subst, ◌∙◌, refl, arith, inl, inr}
+use Rattle.std.proofs.Common.{◌≡◌, ◌<◌, true, length, nat_eq, subst, refl, arith}
 use Rattle.std.specs.Prelude.{Option, Some, None, is_some}
-use Rattle.std.specs.List.{cons_option, filter_map}
 use Rattle.std.specs.Option.{option_map}
 use Rattle.events.proofs.Routed.{part_with, signature_part}
 use Rattle.events.specs.Sound.{part_of}
@@ -16,21 +15,7 @@ use Rattle.net_types.specs.declared.address.Pid.{Pid}
 use Rattle.net_types.specs.declared.prefix.Prefix.{Prefix}
 use Rattle.net_types.specs.declared.route.Part.{Part}
 use Rattle.std.proofs.lemmas.Option.{same_Some}
-
--- a member of what a function gives of some, with what it comes from
-pub record IsGiven {A B : Type 0} (f : A → Option B) (xs : List A) (y : B) : Type 0 where
-  pub source : A
-  pub stands : Member source xs
-  pub is : f source ≡ Some y
-
-given_case : {A B : Type 0} (f : A → Option B) (x : A) (xs : List A) (y : B) (o : Option B) → f x ≡ o → Member y (cons_option o (filter_map f xs)) → (Member y (filter_map f xs) → IsGiven f xs y) → IsGiven f (x ∷ xs) y
-given_case f x xs y None e m later = let g = later m in record { source = g.source; stands = inr g.stands; is = g.is }
-given_case f x xs y (Some z) e (inl same) later = record { source = x; stands = inl refl; is = e ∙ ap Some (sym same) }
-given_case f x xs y (Some z) e (inr m) later = let g = later m in record { source = g.source; stands = inr g.stands; is = g.is }
-
-pub given : {A B : Type 0} (f : A → Option B) (xs : List A) (y : B) → Member y (filter_map f xs) → IsGiven f xs y
-given f [] y m = elim m [ ]
-given f (x ∷ xs) y m = given_case f x xs y (f x) refl m (given f xs y)
+use Rattle.net_types.proofs.SetLemmas.{given_by}
 
 -- The sender of a part of a prefix's signature has a best route for the prefix, and this part alone.
 pub record IsSenders (r : Routing) (p : Prefix) (x : Part) : Type 0 where
@@ -47,7 +32,7 @@ part_is r p who x declared e = by (best r who p) refl e
 
 pub part_senders : (r : Routing) (p : Prefix) (x : Part) → Member x (signature r p) → IsSenders r p x
 part_senders r p x m =
-    let g = given (part r p) (pids r) x m in
+    let g = given_by (part r p) (pids r) x m in
     let range = numbers_range (λ n. let who : Pid = record { 0 = n } in who) (λ (who : Pid). who.0) (λ n. refl) 0 (length r.participants) g.source g.stands in
     part_is r p g.source x (omega arith) g.is
 

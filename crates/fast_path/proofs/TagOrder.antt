@@ -2,15 +2,15 @@
 use Rattle.std.proofs.Common.{◌≡◌, ℕ, ◌<◌, ◌≤◌, true, List, [], ◌∷◌, inl, inr, ap, ◌∙◌, ⊎_elim, arith}
 use Rattle.std.specs.Prelude.{◌⊎◌}
 use Rattle.std.specs.Cmp.{nat_cmp_is}
-use Rattle.std.specs.Ordering.{eq_by_cmp, is_lt, nat_cmp}
+use Rattle.std.specs.Ordering.{is_lt, nat_cmp}
 use Rattle.std.specs.declared.cmp.Ordering.TheVariants.{Equal, Greater}
 use Rattle.std.proofs.lemmas.Bool.{cases_lt, false≢true, lt-ltb}
 use Rattle.net_types.specs.Keys.{tag_cmp}
 use Rattle.net_types.specs.Sets.{IsRising}
 use Rattle.net_types.specs.declared.address.Tag.{Tag}
 use Rattle.net_types.proofs.RisingLemmas.{before}
-use Rattle.net_types.proofs.TieLemmas.{same_from_tie, tag_cmp-IsAntisymmetric}
 use Rattle.fast_path.specs.Planned.{is_tag_below}
+pub use Rattle.net_types.proofs.TieLemmas.{tag_tie}
 
 -- a number that comes before another is less
 pub less_from : (a b : ℕ) → is_lt (nat_cmp a b) ≡ true → a < b
@@ -23,6 +23,3 @@ less_from a b e = ⊎_elim (λ lt. lt) (λ ge. absurd (not_less (cases_lt b a) g
 pub rising_tags : (ts : List Tag) → IsRising (before tag_cmp) ts → IsRising is_tag_below ts
 rising_tags [] rises = tt
 rising_tags (t ∷ ts) rises = (λ u m. lt-ltb t.0 u.0 (less_from t.0 u.0 (rises.0 u m)), rising_tags ts rises.1)
-
-pub tag_tie : (t u : Tag) → eq_by_cmp tag_cmp t u ≡ true → t ≡ u
-tag_tie = same_from_tie tag_cmp tag_cmp-IsAntisymmetric

@@ -29,8 +29,9 @@ use Rattle.fast_path.specs.Offers.{others, tagged}
 use Rattle.fast_path.specs.declared.fresh.Fresh.{Fresh}
 use Rattle.fast_path.proofs.CommittedMaps.{get_front}
 use Rattle.fast_path.proofs.GroupLemmas.{place_among}
-use Rattle.net_types.proofs.PassLemmas.{filter_twice}
+use Rattle.net_types.proofs.PassLemmas.{filter_twice, same_any}
 use Rattle.std.proofs.lemmas.Option.{same_Some}
+use Rattle.std.proofs.lemmas.List.Elements.{filter_agree}
 
 -- ---- a signature has parts where somebody has a best route
 
@@ -42,22 +43,14 @@ empty_parts f (x ∷ xs) = by (f x) (empty_parts f xs)
     by None later = later
     by (Some y) later = refl
 
-any_alike : (f g : Pid → Bool) → ((x : Pid) → f x ≡ g x) → (xs : List Pid) → list_any f xs ≡ list_any g xs
-any_alike f g same [] = refl
-any_alike f g same (x ∷ xs) = ap (λ b. b || list_any f xs) (same x) ∙ ap (λ b. g x || b) (any_alike f g same xs)
-
 part_some : (r : Routing) (p : Prefix) (to : Pid) (o : Option Candidate) → is_some (option_map (λ (c : Candidate). let x : Part = record { sender = to; best = c.from; offers = offers r p to c.from } in x) o) ≡ is_some o
 part_some r p to None = refl
 part_some r p to (Some c) = refl
 
 pub empty_uncarried : (r : Routing) (p : Prefix) → is_empty (signature r p) ≡ not (is_carried r p)
-empty_uncarried r p = empty_parts (part r p) (pids r) ∙ ap not (any_alike (λ to. is_some (part r p to)) (λ to. is_some (best r to p)) (λ to. part_some r p to (best r to p)) (pids r))
+empty_uncarried r p = empty_parts (part r p) (pids r) ∙ ap not (same_any (λ to. is_some (part r p to)) (λ to. is_some (best r to p)) (pids r) (λ to. part_some r p to (best r to p)))
 
 -- ---- groups, each once
-
-filter_alike : {A : Type 0} (f g : A → Bool) → ((x : A) → f x ≡ g x) → (xs : List A) → filter f xs ≡ filter g xs
-filter_alike f g same [] = refl
-filter_alike f g same (x ∷ xs) = ap (λ b. cond b (x ∷ filter f xs) (filter f xs)) (same x) ∙ ap (λ ys. cond (g x) (x ∷ ys) ys) (filter_alike f g same xs)
 
 -- a group that is not one of these
 abbrev is_other : List Group → Group → Bool
@@ -105,10 +98,10 @@ more_with : (gs xs : List Group) (x : Group) (b : Bool) → list_any (same_group
     → more_groups (cond b gs (gs ++ x ∷ [])) xs ≡ gs ++ cond (not b) (x ∷ filter (is_other gs) (filter (λ y. not (same_group x y)) (each_once same_group xs))) (filter (is_other gs) (filter (λ y. not (same_group x y)) (each_once same_group xs)))
 more_with gs xs x true there later =
     later gs ∙ ap (λ ys. gs ++ ys) (sym (filter_twice (is_other gs) (λ y. not (same_group x y)) (each_once same_group xs)
-    ∙ filter_alike (λ y. not (same_group x y) && is_other gs y) (is_other gs) (λ y. already gs x y there) (each_once same_group xs)))
+    ∙ filter_agree (λ y. not (same_group x y) && is_other gs y) (is_other gs) (λ y. already gs x y there) (each_once same_group xs)))
 more_with gs xs x false there later =
     later (gs ++ x ∷ []) ∙ append_assoc gs (x ∷ []) (filter (is_other (gs ++ x ∷ [])) (each_once same_group xs))
-    ∙ ap (λ ys. gs ++ x ∷ ys) (filter_alike (is_other (gs ++ x ∷ [])) (λ y. not (same_group x y) && is_other gs y) (λ y. besides_last gs x y) (each_once same_group xs)
+    ∙ ap (λ ys. gs ++ x ∷ ys) (filter_agree (is_other (gs ++ x ∷ [])) (λ y. not (same_group x y) && is_other gs y) (λ y. besides_last gs x y) (each_once same_group xs)
     ∙ sym (filter_twice (is_other gs) (λ y. not (same_group x y)) (each_once same_group xs)))
 
 -- behind the groups so far come those that are none of them, each once

@@ -40,9 +40,10 @@ use Rattle.net_types.specs.Sets.{Member}
 use Rattle.net_types.specs.declared.route.PortInfo.{PortInfo}
 use Rattle.net_types.specs.declared.rule.Pair.{Pair}
 use Rattle.net_types.specs.declared.rule.Rule.{Rule}
-use Rattle.reply_laws.proofs.BuiltLines.{counted, tie}
+use Rattle.reply_laws.proofs.BuiltLines.{counted}
 use Rattle.run_laws.proofs.Answering.{ends_leave}
 use Rattle.std.proofs.lemmas.Option.{same_Some}
+use Rattle.net_types.proofs.TieLemmas.{pair_tie}
 
 -- ---- rules that are the same
 
@@ -68,7 +69,7 @@ sums_below f g (x ∷ xs) each =
 
 -- a key has something
 pub there : (t : TableOf) (pair : Pair) → Member pair (keys t) → is_some (get t pair) ≡ true
-there t pair m = contains_key-keys t pair ∙ member_any pair_cmp pairs_total tie pair (keys t) m
+there t pair m = contains_key-keys t pair ∙ member_any pair_cmp pairs_total pair_tie pair (keys t) m
 
 -- a table whose pairs are among those of another, each with no more rules, has no more rules
 fewer_rules : (old new : TableOf) → ((pair : Pair) → is_some (get new pair) ≡ true → is_some (get old pair) ≡ true) → ((pair : Pair) → rules_of new pair ≤ rules_of old pair)
@@ -78,8 +79,8 @@ fewer_rules old new among each =
     let those : keys new ≡ filter stands (keys old) =
     rising_unique (before pair_cmp) (before_itself pair_cmp pairs_total) (before_trans pair_cmp pairs_total) (keys new) (filter stands (keys old)) (keys-IsRising pair_cmp new)
     (filter-IsRising (before pair_cmp) stands (keys old) (keys-IsRising pair_cmp old)) (record {
-      onto = λ pair m. let is : stands pair ≡ true = there new pair m in Member-filter stands (keys old) pair (key_Member pair_cmp pairs_total tie old pair (among pair is)) is;
-      back = λ pair m. key_Member pair_cmp pairs_total tie new pair (filter-Member stands (keys old) pair m).passes;
+      onto = λ pair m. let is : stands pair ≡ true = there new pair m in Member-filter stands (keys old) pair (key_Member pair_cmp pairs_total pair_tie old pair (among pair is)) is;
+      back = λ pair m. key_Member pair_cmp pairs_total pair_tie new pair (filter-Member stands (keys old) pair m).passes;
     }) in
     let less : sum_by (rules_of new) (keys new) ≤ sum_by (rules_of old) (keys new) = sums_below (rules_of new) (rules_of old) (keys new) each in
     let same : sum_by (rules_of old) (keys new) ≡ sum_by (rules_of old) (filter stands (keys old)) = ap (sum_by (rules_of old)) those in

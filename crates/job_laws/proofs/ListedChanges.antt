@@ -1,17 +1,16 @@
 -- The changes of tags that a reply lists.
 use Rattle.std.proofs.Common.{◌≡◌, Bool, true, false, not, List, [], ◌∷◌, ◌++◌, filter, map, ap, sym, subst, ◌∙◌, refl, inl, inr}
-use Rattle.std.specs.Prelude.{Option, Some, None}
 use Rattle.std.specs.FinMap.{FinMap, get, keys}
 use Rattle.events.specs.Fits.{tag_changes}
 use Rattle.events.specs.Tags.{same_tag}
 use Rattle.events.specs.declared.TagChange.{TagChange}
-use Rattle.exchange_laws.proofs.Lists.{clash, is_some_of, key_Member}
+use Rattle.exchange_laws.proofs.Lists.{clash, differing_key}
 use Rattle.exchange_laws.proofs.Sames.{tags_test}
 use Rattle.job_laws.specs.Changes.{AreChanges, ChangesAreListed, is_change_before}
 use Rattle.net_types.proofs.OrderLemmas.{prefix_tie, prefixes_total}
 use Rattle.net_types.proofs.OrderedLemmas.{ordered_rises, ordered_same}
 use Rattle.net_types.proofs.RisingLemmas.{Member-filter, before, before_itself, before_trans, filter-IsRising, filter-Member}
-use Rattle.net_types.proofs.SetLemmas.{Member-append_left, Member-append_right, Member-map, map-Member, rising_unique}
+use Rattle.net_types.proofs.SetLemmas.{Member-map, map-Member, rising_unique}
 use Rattle.net_types.specs.Attributes.{same_option}
 use Rattle.net_types.specs.Keys.{prefix_cmp}
 use Rattle.net_types.specs.Maps.{ordered}
@@ -60,12 +59,9 @@ module _ (old new : FinMap prefix_cmp Tag) where
 
   -- a prefix that has another tag has or had one
   known_Member : (p : Prefix) → differ p ≡ true → Member p known
-  known_Member p apart = (ordered_same prefix_cmp prefixes_total prefix_tie (keys old ++ keys new)).back p (by (get old p) (get new p) refl refl apart)
-    where
-      by : (o o1 : Option Tag) → get old p ≡ o → get new p ≡ o1 → not (same_option same_tag o o1) ≡ true → Member p (keys old ++ keys new)
-      by None None e f d = absurd (cc)
-      by None (Some t) e f d = Member-append_right (keys old) (keys new) p (key_Member prefix_cmp prefixes_total prefix_tie new p (is_some_of (get new p) t f))
-      by (Some t) o1 e f d = Member-append_left (keys old) (keys new) p (key_Member prefix_cmp prefixes_total prefix_tie old p (is_some_of (get old p) t e))
+  known_Member p apart =
+      (ordered_same prefix_cmp prefixes_total prefix_tie (keys old ++ keys new)).back p
+      (differing_key prefix_cmp prefixes_total prefix_tie old new p (λ same. clash apart (equal_not p same)))
 
   pub listed : (changes : List TagChange) → AreChanges old new changes → tag_changes old new ≡ changes
   listed changes are =

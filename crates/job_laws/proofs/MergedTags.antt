@@ -19,7 +19,7 @@ use Rattle.net_types.proofs.MemberLemmas.{Member-filter_map}
 use Rattle.net_types.proofs.OrderLemmas.{prefix_tie, prefixes_total, tags_total}
 use Rattle.net_types.proofs.OrderedLemmas.{any_member, member_any, ordered_rises, ordered_same}
 use Rattle.net_types.proofs.RisingLemmas.{Member-filter, before, filter-Member}
-use Rattle.net_types.proofs.TieLemmas.{same_from_tie, tag_cmp-IsAntisymmetric}
+use Rattle.net_types.proofs.TieLemmas.{tag_tie}
 use Rattle.net_types.specs.Attributes.{same_signature}
 use Rattle.net_types.specs.Keys.{prefix_cmp, tag_cmp}
 use Rattle.net_types.specs.Maps.{ordered}
@@ -51,9 +51,6 @@ first_least [] t u rises first m = absurd m
 first_least (x ∷ ts) t u rises first (inl same) = let here : t ≡ u = sym (same_Some x t first) ∙ sym same in subst (λ (y : Tag). t.0 ≤ y.0) here (omega arith)
 first_least (x ∷ ts) t u rises first (inr m) = subst (λ (y : Tag). y.0 ≤ u.0) (same_Some x t first) (tag_below x u (rises.0 u m))
 
-tags_tie : (t u : Tag) → eq_by_cmp tag_cmp t u ≡ true → t ≡ u
-tags_tie = same_from_tie tag_cmp tag_cmp-IsAntisymmetric
-
 -- ---- the least tag
 
 -- another prefix has the same signature
@@ -78,7 +75,7 @@ pub record IsMergedTag (s : State) (p : Prefix) (t : Tag) : Type 0 where
 -- a carried prefix has its tag among those of its signature
 own_Member : (s : State) (p q : Prefix) (t : Tag) → is_carried s.routing q ≡ true → get s.tag q ≡ Some t → signature s.routing q ≡ signature s.routing p → Member t (ordered tag_cmp (tags_like s p))
 own_Member s p q t carries tagged same =
-    (ordered_same tag_cmp tags_total tags_tie (tags_like s p)).back t
+    (ordered_same tag_cmp tags_total tag_tie (tags_like s p)).back t
     (Member-filter_map (get s.tag) (filter (is_alike s p) (carried s.routing)) q t
     (Member-filter (is_alike s p) (carried s.routing) q (carried_listed s.routing q carries) ((signature_test (signature s.routing q) (signature s.routing p)).1 same)) tagged)
 
@@ -88,13 +85,13 @@ merged_from s p t is =
     let chosen : cond listed (least_tag s (signature s.routing p)) None ≡ Some t = sym (merged_is s p) ∙ is in
     let stands : Member p (carried s.routing) = any_member prefix_cmp prefixes_total prefix_tie p (carried s.routing) (cond_there listed (least_tag s (signature s.routing p)) (ap is_some chosen)) in
     let first : first_of_list (ordered tag_cmp (tags_like s p)) ≡ Some t = some_cond listed (least_tag s (signature s.routing p)) t chosen in
-    let from = given_by (get s.tag) (filter (is_alike s p) (carried s.routing)) t ((ordered_same tag_cmp tags_total tags_tie (tags_like s p)).onto t (first_Member (ordered tag_cmp (tags_like s p)) t first)) in
+    let from = given_by (get s.tag) (filter (is_alike s p) (carried s.routing)) t ((ordered_same tag_cmp tags_total tag_tie (tags_like s p)).onto t (first_Member (ordered tag_cmp (tags_like s p)) t first)) in
     let left = filter-Member (is_alike s p) (carried s.routing) from.source from.stands in record {
       carried = (filter-Member (is_carried s.routing) (ordered prefix_cmp (announced s.routing)) p stands).passes;
       like = from.source;
       tagged = from.is;
       alike = (signature_test (signature s.routing from.source) (signature s.routing p)).0 left.passes;
-      least = λ q u carries tagged same. first_least (ordered tag_cmp (tags_like s p)) t u (ordered_rises tag_cmp tags_total tags_tie (tags_like s p)) first (own_Member s p q u carries tagged same);
+      least = λ q u carries tagged same. first_least (ordered tag_cmp (tags_like s p)) t u (ordered_rises tag_cmp tags_total tag_tie (tags_like s p)) first (own_Member s p q u carries tagged same);
     }
 
 -- each carried prefix has a tag still

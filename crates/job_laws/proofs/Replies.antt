@@ -40,10 +40,10 @@ use Rattle.net_types.specs.Maps.{tabulate}
 use Rattle.net_types.specs.Sets.{Member}
 use Rattle.net_types.specs.declared.rule.Pair.{Pair}
 use Rattle.net_types.specs.declared.rule.Rule.{Rule}
-use Rattle.reply_laws.proofs.BuiltLines.{tie}
 use Rattle.reply_laws.proofs.EveryLine.{lines_have_replies}
 use Rattle.reply_laws.proofs.PortMacs.{ports_keep_macs}
 use Rattle.reply_laws.specs.Replying.{HasOctets, PortsHaveMacs}
+use Rattle.net_types.proofs.TieLemmas.{pair_tie}
 
 -- ---- a table for the end of a job
 
@@ -61,7 +61,7 @@ module _ (s : State) (steady : IsSteady (without_job s)) where
   had_rules false o e = absurd (cc)
 
   table_is : (pair : Pair) → get table pair ≡ left pair
-  table_is pair = get_tabulated pair_cmp pairs_total tie left (keys s.table) (λ q has. key_Member pair_cmp pairs_total tie s.table q (had_rules (is_live_pair (merged s) q) (get s.table q) has)) pair
+  table_is pair = get_tabulated pair_cmp pairs_total pair_tie left (keys s.table) (λ q has. key_Member pair_cmp pairs_total pair_tie s.table q (had_rules (is_live_pair (merged s) q) (get s.table q) has)) pair
 
   -- rules of a pair are what is left of those that it had
   record IsSifted (pair : Pair) (rules : List Rule) : Type 0 where

@@ -66,7 +66,7 @@ action_cmp-IsAntisymmetric a b e = λ i. record {
 pub actions_test : IsEqualityTest (pointwise (eq_by_cmp action_cmp))
 actions_test = pointwise_decides (from_itself (eq_by_cmp action_cmp) (same_from_tie action_cmp action_cmp-IsAntisymmetric) (ties_itself actions_total))
 
-actions_tie : (a b : Action) → eq_by_cmp action_cmp a b ≡ true → a ≡ b
+pub actions_tie : (a b : Action) → eq_by_cmp action_cmp a b ≡ true → a ≡ b
 actions_tie = same_from_tie action_cmp action_cmp-IsAntisymmetric
 
 pub actions_in_order : (xs ys : List Action) → IsPermutation xs ys → IsSorted action_cmp ys → dedup (eq_by_cmp action_cmp) ys ≡ ordered action_cmp xs

@@ -13,7 +13,7 @@ use Rattle.net_types.specs.Prefixes.{any_prefix, covers, lies_within, meet_prefi
 use Rattle.net_types.specs.Headers.{apply, IsValid}
 use Rattle.net_types.specs.Cubes.{IsInRange, agrees, port_is, same_port, has, everything, cube_of, meet_values, meet_cubes, pull_value, pull_prefix, pull_cube, within_values, lies_within_cube}
 use Rattle.net_types.proofs.PrefixLemmas.{covers_option, covers-meet, same_bits_refl, within-covers, prefix_apart, prefix_antisym}
-use Rattle.std.proofs.Math.Bool.{and-false, and-true}
+use Rattle.std.proofs.Math.Bool.{and-false, and-true, and_comm}
 
 -- ---- tests
 
@@ -44,9 +44,6 @@ values-meet same fits exact joint (Some v) (Some w) x = elim (cases_Bool (same v
       let parts = and_parts (fits v x) (fits w x) both in
       false≢true (sym other ∙ joint v w x parts.0 parts.1)))
 ]
-
-numbers_exact : (v w : ℕ) → eqb v w ≡ true → v ≡ w
-numbers_exact v w h = eqb-true v w h
 
 numbers_joint : (v w x : ℕ) → eqb v x ≡ true → eqb w x ≡ true → eqb v w ≡ true
 numbers_joint v w x h k = eq-eqb v w (eqb-true v x h ∙ sym (eqb-true w x k))
@@ -91,9 +88,9 @@ has-meet a b h =
       values-meet same_port same_port ports_exact ports_joint a.inport b.inport h.inport,
       covers-meet a.src b.src h.src,
       covers-meet a.dst b.dst h.dst,
-      values-meet eqb eqb numbers_exact numbers_joint a.proto b.proto h.proto,
-      values-meet eqb port_is numbers_exact optional_joint a.sport b.sport h.sport,
-      values-meet eqb port_is numbers_exact optional_joint a.dport b.dport h.dport,
+      values-meet eqb eqb eqb-true numbers_joint a.proto b.proto h.proto,
+      values-meet eqb port_is eqb-true optional_joint a.sport b.sport h.sport,
+      values-meet eqb port_is eqb-true optional_joint a.dport b.dport h.dport,
     ) (interchange6 (agrees same_port a.inport h.inport) (covers a.src h.src) (covers a.dst h.dst) (agrees eqb a.proto h.proto) (agrees port_is a.sport h.sport) (agrees port_is a.dport h.dport) (agrees same_port b.inport h.inport) (covers b.src h.src) (covers b.dst h.dst) (agrees eqb b.proto h.proto) (agrees port_is b.sport h.sport) (agrees port_is b.dport h.dport))
 
 -- ---- behind an assignment
@@ -106,7 +103,7 @@ value-pull (Some v) (Some w) x = elim (cases_Bool (eqb w v)) [
   | inr other ↦ rw other refl
 ]
 
-any_prefix-covers : (x : Ip) → covers any_prefix x ≡ true
+pub any_prefix-covers : (x : Ip) → covers any_prefix x ≡ true
 unfolding same_bits
 any_prefix-covers x = refl
 
@@ -343,9 +340,9 @@ has-within a b h within inside =
       inport = values_within same_port same_port ports_exact a.inport b.inport h.inport w.inport f.inport;
       src = within-covers a.src b.src h.src w.src f.src;
       dst = within-covers a.dst b.dst h.dst w.dst f.dst;
-      proto = values_within eqb eqb numbers_exact a.proto b.proto h.proto w.proto f.proto;
-      sport = values_within eqb port_is numbers_exact a.sport b.sport h.sport w.sport f.sport;
-      dport = values_within eqb port_is numbers_exact a.dport b.dport h.dport w.dport f.dport;
+      proto = values_within eqb eqb eqb-true a.proto b.proto h.proto w.proto f.proto;
+      sport = values_within eqb port_is eqb-true a.sport b.sport h.sport w.sport f.sport;
+      dport = values_within eqb port_is eqb-true a.dport b.dport h.dport w.dport f.dport;
     })
 
 -- a cube whose headers all lie in another lies within it
@@ -366,9 +363,9 @@ cubes_antisym a b h k =
     let inport : a.inport ≡ b.inport = values_antisym same_port ports_exact a.inport b.inport f.inport g.inport in
     let src : a.src ≡ b.src = prefix_antisym a.src b.src f.src g.src in
     let dst : a.dst ≡ b.dst = prefix_antisym a.dst b.dst f.dst g.dst in
-    let proto : a.proto ≡ b.proto = values_antisym eqb numbers_exact a.proto b.proto f.proto g.proto in
-    let sport : a.sport ≡ b.sport = values_antisym eqb numbers_exact a.sport b.sport f.sport g.sport in
-    let dport : a.dport ≡ b.dport = values_antisym eqb numbers_exact a.dport b.dport f.dport g.dport in
+    let proto : a.proto ≡ b.proto = values_antisym eqb eqb-true a.proto b.proto f.proto g.proto in
+    let sport : a.sport ≡ b.sport = values_antisym eqb eqb-true a.sport b.sport f.sport g.sport in
+    let dport : a.dport ≡ b.dport = values_antisym eqb eqb-true a.dport b.dport f.dport g.dport in
     ap (λ x. built x a.src a.dst a.proto a.sport a.dport) inport
     ∙ ap (λ x. built b.inport x a.dst a.proto a.sport a.dport) src
     ∙ ap (λ x. built b.inport b.src x a.proto a.sport a.dport) dst
@@ -391,18 +388,8 @@ pub some_from_has : (o : Option Cube) (h : Headers) → has_option o h ≡ true 
 some_from_has None h e = absurd (false≢true e)
 some_from_has (Some c) h e = (c, refl)
 
-and_swap : (x y : Bool) → (x && y) ≡ (y && x)
-and_swap true true = refl
-and_swap true false = refl
-and_swap false true = refl
-and_swap false false = refl
-
-and_regroup : (x y z : Bool) → ((x && y) && z) ≡ (x && (y && z))
-and_regroup true y z = refl
-and_regroup false y z = refl
-
 pub meet_comm : (a b : Cube) → meet_cubes a b ≡ meet_cubes b a
-meet_comm a b = option_ext _ _ (λ h. has-meet a b h ∙ and_swap (has a h) (has b h) ∙ sym (has-meet b a h))
+meet_comm a b = option_ext _ _ (λ h. has-meet a b h ∙ and_comm (has a h) (has b h) ∙ sym (has-meet b a h))
 
 pub meet-everything : (a : Cube) → meet_cubes a everything ≡ Some a
 meet-everything a = option_ext _ (Some a) (λ h. has-meet a everything h ∙ ap (λ t. has a h && t) (has-everything h) ∙ and-true (has a h))

@@ -1,15 +1,12 @@
 -- Headers written back into a frame leave it as it is, but for the address that it goes to.
-use Rattle.std.proofs.Common.{◌≡◌, ℕ, ◌+◌, Bool, true, false, cond, nat_eq, ◌/◌, ◌%◌, List, [], ◌∷◌, ◌++◌, drop, ap, ◌∙◌, refl}
+use Rattle.std.proofs.Common.{◌≡◌, ℕ, ◌+◌, cond, nat_eq, ◌/◌, ◌%◌, List, [], ◌∷◌, ◌++◌, drop, ap, ◌∙◌, refl}
 use Rattle.std.specs.Prelude.{Option, Some, None}
 use Rattle.std.proofs.lemmas.Bool.{eq-eqb}
+use Rattle.net_types.proofs.FindLemmas.{cond_same}
 use Rattle.net_types.specs.Frames.{Change, change_of, changes_of_address, changes_of_port, put_changes, put_checksum, put_port_checksum, has_ports, ip_end, written, written_from, written_fields, headers_of}
 use Rattle.net_types.specs.declared.address.Ip.{Ip}
 use Rattle.net_types.specs.declared.address.Mac.{Mac}
 use Rattle.net_types.specs.declared.headers.Headers.{Headers}
-
-same_both : {A : Type 0} (b : Bool) (x : A) → cond b x x ≡ x
-same_both true x = refl
-same_both false x = refl
 
 no_change : (at x : ℕ) → change_of at x x ≡ []
 no_change at x = ap (λ b. cond b [] (record { at = at; old = x; new = x } ∷ [])) (eq-eqb x x refl)
@@ -22,7 +19,7 @@ no_port at None = refl
 no_port at (Some n) = no_change at n
 
 no_port_checksum : (h : Headers) (frame : List ℕ) → put_port_checksum h [] frame ≡ frame
-no_port_checksum h frame = ap (λ f. cond (has_ports frame) f frame) (same_both (nat_eq h.proto 6) frame) ∙ same_both (has_ports frame) frame
+no_port_checksum h frame = ap (λ f. cond (has_ports frame) f frame) (cond_same (nat_eq h.proto 6) frame) ∙ cond_same (has_ports frame) frame
 
 -- nothing changes in the headers
 same_fields : (h : Headers) (frame : List ℕ) → written_fields h h frame ≡ frame

@@ -4,7 +4,7 @@ use Rattle.std.specs.Prelude.{Option, Some, None, nat_lt}
 use Rattle.std.specs.List.{list_any}
 use Rattle.std.specs.Ordering.{eq_by_cmp}
 use Rattle.std.specs.Cmp.{IsEquivalence}
-use Rattle.std.proofs.lemmas.Bool.{and_parts, ltb-true, ltb-false, false≢true}
+use Rattle.std.proofs.lemmas.Bool.{and_parts, ltb-true, ltb-false, false≢true, or_right}
 use Rattle.std.proofs.lemmas.Cmp.{eq_by_cmp_equiv}
 use Rattle.net_types.proofs.OrderLemmas.{prefixes_total, prefix_tie}
 use Rattle.net_types.proofs.PrefixLemmas.{both_cover, prefix_from_bits}
@@ -88,11 +88,7 @@ any-member (q ∷ ps) p e = here_or (eq_by_cmp prefix_cmp p q) refl (any-member 
 pub member-any : (ps : List Prefix) (p : Prefix) → Member p ps → list_any (eq_by_cmp prefix_cmp p) ps ≡ true
 member-any [] p at = absurd at
 member-any (q ∷ ps) p (inl same) = ap (λ b. b || list_any (eq_by_cmp prefix_cmp p) ps) (ap (eq_by_cmp prefix_cmp p) (sym same) ∙ ties.refl p)
-member-any (q ∷ ps) p (inr later) = or_true (eq_by_cmp prefix_cmp p q) (member-any ps p later)
-  where
-    or_true : (a : Bool) {b : Bool} → b ≡ true → (a || b) ≡ true
-    or_true true is = refl
-    or_true false is = is
+member-any (q ∷ ps) p (inr later) = or_right (eq_by_cmp prefix_cmp p q) (list_any (eq_by_cmp prefix_cmp p) ps) (member-any ps p later)
 
 -- lists in which the test finds the same have the same longest
 pub same_longest_by_tests : (ps qs : List Prefix) (d : Ip) → ((p : Prefix) → list_any (eq_by_cmp prefix_cmp p) ps ≡ list_any (eq_by_cmp prefix_cmp p) qs) → longest_of ps d ≡ longest_of qs d

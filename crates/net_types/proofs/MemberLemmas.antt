@@ -1,11 +1,11 @@
--- Members of lists: by their places, of a list in another order, of what is left behind a front, and of images.
-use Rattle.std.proofs.Common.{◌≡◌, ℕ, zero, suc, ◌<◌, List, [], ◌∷◌, length, map, take, drop, ap, ◌∙◌, refl, sym, inl, inr, subst, arith}
+-- Members of lists: by their places, of a list in another order, of what is left behind a front, of images, and what each has.
+use Rattle.std.proofs.Common.{◌≡◌, ℕ, zero, suc, ◌<◌, List, [], ◌∷◌, ◌++◌, length, map, take, drop, ap, ◌∙◌, refl, sym, inl, inr, subst, arith}
 use Rattle.std.specs.Prelude.{Option, Some, None, slice_index_or, Contains}
 use Rattle.std.specs.List.{filter_map, cons_option}
 use Rattle.std.specs.List.Sorted.{IsPermutation}
 use Rattle.std.proofs.lemmas.List.{take-append-drop}
 use Rattle.std.proofs.lemmas.List.Sorted.{Contains-permutation}
-use Rattle.net_types.specs.Sets.{Member}
+use Rattle.net_types.specs.Sets.{Each, Member}
 use Rattle.net_types.proofs.SetLemmas.{Member-append_right}
 
 pub Contains-Member : {A : Type 0} (xs : List A) (x : A) → Member x xs → Contains xs x
@@ -42,3 +42,18 @@ Member-filter_map f (z ∷ xs) x y (inr m) e = more_option (f z) (filter_map f x
 pub same_map_on : {A B : Type 0} (f g : A → B) (xs : List A) → ((x : A) → Member x xs → f x ≡ g x) → map f xs ≡ map g xs
 same_map_on f g [] h = refl
 same_map_on f g (x ∷ xs) h = ap (λ y. y ∷ map f xs) (h x (inl refl)) ∙ ap (λ ys. g x ∷ ys) (same_map_on f g xs (λ y m. h y (inr m)))
+
+-- ---- what each member has
+
+pub each_of : {A : Type 0} (P : A → Type 0) (xs : List A) (x : A) → Each P xs → Member x xs → P x
+each_of P [] x h m = elim m [ ]
+each_of P (y ∷ xs) x h (inl e) = subst P (sym e) h.0
+each_of P (y ∷ xs) x h (inr m) = each_of P xs x h.1 m
+
+pub of_each : {A : Type 0} (P : A → Type 0) (xs : List A) → ((x : A) → Member x xs → P x) → Each P xs
+of_each P [] h = tt
+of_each P (x ∷ xs) h = (h x (inl refl), of_each P xs (λ y m. h y (inr m)))
+
+pub each_append : {A : Type 0} (P : A → Type 0) (xs ys : List A) → Each P xs → Each P ys → Each P (xs ++ ys)
+each_append P [] ys h k = k
+each_append P (x ∷ xs) ys h k = (h.0, each_append P xs ys h.1 k)

@@ -1,24 +1,23 @@
 -- What passes a test in a list, and how many do.
-use Rattle.std.proofs.Common.{◌≡◌, ℕ, zero, suc, ◌+◌, ◌≤◌, ◌<◌, Bool, true, false, cond, ◌&&◌, ◌||◌, nat_le, List, [], ◌∷◌, ◌++◌, map, filter, sym, ap, ◌∙◌, refl, arith, inl, inr, sum_by}
+use Rattle.std.proofs.Common.{◌≡◌, ℕ, zero, suc, ◌+◌, ◌≤◌, ◌<◌, Bool, true, false, cond, ◌&&◌, ◌||◌, nat_eq, nat_le, List, [], ◌∷◌, ◌++◌, map, filter, sym, ap, ◌∙◌, refl, arith, inl, inr, sum_by}
 use Rattle.std.specs.Prelude.{Option, Some, None, is_some, find, ◌⊎◌}
 use Rattle.std.specs.List.{list_any}
 use Rattle.std.specs.List.Sorted.{IsPermutation}
-use Rattle.std.proofs.lemmas.Bool.{or_parts, le-leb, cases_eq}
+use Rattle.std.proofs.lemmas.Bool.{or_parts, le-leb, cases_eq, eqb-true}
 use Rattle.std.proofs.lemmas.List.Sorted.{sum_by-IsPermutation}
 use Rattle.std.proofs.lemmas.List.Sums.{sum_by-cons}
+use Rattle.std.proofs.lemmas.Map.Views.{any-filter_same}
 use Rattle.net_types.specs.Routes.{numbers}
 use Rattle.net_types.specs.Sets.{Member}
-use Rattle.std.proofs.Math.Bool.{or-false}
+use Rattle.net_types.specs.Signatures.{counts}
+use Rattle.net_types.specs.declared.address.Pid.{Pid}
+use Rattle.std.proofs.Math.Bool.{and_comm, or-false, or_assoc}
 
 -- ---- one member more
 
-or_more : (a b c : Bool) → (a || (b || c)) ≡ ((a || b) || c)
-or_more true b c = refl
-or_more false b c = refl
-
 pub any_more : {A : Type 0} (f : A → Bool) (xs : List A) (x : A) → list_any f (xs ++ x ∷ []) ≡ (list_any f xs || f x)
 any_more f [] x = or-false (f x)
-any_more f (y ∷ xs) x = ap (λ b. f y || b) (any_more f xs x) ∙ or_more (f y) (list_any f xs) (f x)
+any_more f (y ∷ xs) x = ap (λ b. f y || b) (any_more f xs x) ∙ sym (or_assoc (f y) (list_any f xs) (f x))
 
 not_there : {A : Type 0} (y : A) → None ≡ Some y → ⊥
 not_there y e = cc
@@ -63,25 +62,12 @@ pub same_any : {A : Type 0} (f g : A → Bool) (xs : List A) → ((x : A) → f 
 same_any f g [] h = refl
 same_any f g (x ∷ xs) h = ap (λ b. b || list_any f xs) (h x) ∙ ap (λ b. g x || b) (same_any f g xs h)
 
-any_cond : {A : Type 0} (f : A → Bool) (u : Bool) (x : A) (fs : List A) → list_any f (cond u (x ∷ fs) fs) ≡ ((u && f x) || list_any f fs)
-any_cond f true x fs = refl
-any_cond f false x fs = refl
-
-both_tests : (g t b r s : Bool) → (t ≡ true → g ≡ b) → r ≡ (b && s) → ((g && t) || r) ≡ (b && (t || s))
-both_tests true true true r s h e = refl
-both_tests true true false r s h e = absurd (let f = h refl in cc)
-both_tests true false true r s h e = e
-both_tests true false false r s h e = e
-both_tests false true true r s h e = absurd (let f = h refl in cc)
-both_tests false true false r s h e = e
-both_tests false false true r s h e = e
-both_tests false false false r s h e = e
-
--- what is found among those that pass, where all that could be found pass alike
-pub any_filter : {A : Type 0} (f g : A → Bool) (b : Bool) (xs : List A) → ((x : A) → f x ≡ true → g x ≡ b) → list_any f (filter g xs) ≡ (b && list_any f xs)
-any_filter f g true [] h = refl
-any_filter f g false [] h = refl
-any_filter f g b (x ∷ xs) h = any_cond f (g x) x (filter g xs) ∙ both_tests (g x) (f x) b (list_any f (filter g xs)) (list_any f xs) (h x) (any_filter f g b xs h)
+pub filter-map : {A B : Type 0} (test : B → Bool) (f : A → B) (xs : List A) → filter test (map f xs) ≡ map f (filter (λ x. test (f x)) xs)
+filter-map test f [] = refl
+filter-map test f (x ∷ xs) = elim (test (f x)) as (λ b. cond b (f x ∷ filter test (map f xs)) (filter test (map f xs)) ≡ map f (cond b (x ∷ filter (λ y. test (f y)) xs) (filter (λ y. test (f y)) xs))) [
+  | true ↦ ap (λ ys. f x ∷ ys) (filter-map test f xs)
+  | false ↦ filter-map test f xs
+]
 
 pub filter_twice : {A : Type 0} (f g : A → Bool) (xs : List A) → filter f (filter g xs) ≡ filter (λ x. g x && f x) xs
 filter_twice f g [] = refl
@@ -93,6 +79,22 @@ filter_twice f g (x ∷ xs) = elim (g x) as (λ b. filter f (cond b (x ∷ filte
 pub filter_nothing : {A : Type 0} (f : A → Bool) (xs : List A) → ((x : A) → f x ≡ false) → filter f xs ≡ []
 filter_nothing f [] h = refl
 filter_nothing f (x ∷ xs) h = ap (λ b. cond b (x ∷ filter f xs) (filter f xs)) (h x) ∙ filter_nothing f xs h
+
+-- of those that are named twice, the ones count that count by both
+pub counts_both : (old new : List Pid) (chosen who : Pid) → counts (filter (λ (p : Pid). list_any (λ (q : Pid). nat_eq q.0 p.0) new) old) chosen who ≡ (counts old chosen who && counts new chosen who)
+counts_both old new chosen who =
+    ap (λ b. nat_eq who.0 chosen.0 || b) (any-filter_same is_named stays (list_any is_named new) (λ p e. ap (λ n. list_any (λ (q : Pid). nat_eq q.0 n) new) (eqb-true p.0 who.0 e)) old)
+    ∙ by (nat_eq who.0 chosen.0) (list_any is_named old) (list_any is_named new)
+  where
+    is_named : Pid → Bool
+    is_named p = nat_eq p.0 who.0
+
+    stays : Pid → Bool
+    stays p = list_any (λ (q : Pid). nat_eq q.0 p.0) new
+
+    by : (b o n : Bool) → (b || (n && o)) ≡ ((b || o) && (b || n))
+    by true o n = refl
+    by false o n = and_comm n o
 
 -- ---- how many pass
 

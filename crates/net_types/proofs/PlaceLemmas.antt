@@ -31,6 +31,12 @@ module _ {K X : Type 0} (R : K → K → Ordering) where
   without_sorted k es sorted = shown _ (is_sorted-where_key R (λ x. not (eq_by_cmp R k x)) es (holds _ sorted))
 
   module _ (o : IsTotalOrder R) where
+    -- what is found once a key is taken out
+    pub find-without : (k q : K) (es : List (K × X)) → find R q (without R k es) ≡ cond (eq_by_cmp R q k) None (find R q es)
+    find-without k q es =
+        find-where_key R (λ x. not (eq_by_cmp R k x)) q (λ x t. ap (λ r. not (is_eq r)) (sym (alike_right o q x k t))) es
+        ∙ cond_not (eq_by_cmp R k q) _ _ ∙ ap (λ b. cond b None (find R q es)) ((eq_by_cmp_equiv o).symm k q)
+
     pub put_sorted : (k : K) (v : X) (es : List (K × X)) → is_sorted R es ≡ true → is_sorted R (put R k v es) ≡ true
     put_sorted k v es sorted = shown _ (is_sorted-put R o k v es (holds _ sorted))
 
@@ -43,6 +49,5 @@ module _ {K X : Type 0} (R : K → K → Ordering) where
     pub remove_sorted : IsAntisymmetric R → (k : K) (es : List (K × X)) → is_sorted R es ≡ true → map.from_sorted {R = R} (without R k es) ≡ map.remove (map.from_sorted es) k
     remove_sorted same k es sorted = map.same_map o same _ _ (λ q.
         get_sorted (without R k es) q (without_sorted k es sorted)
-        ∙ find-where_key R (λ x. not (eq_by_cmp R k x)) q (λ x t. ap (λ r. not (is_eq r)) (sym (alike_right o q x k t))) es
-        ∙ cond_not (eq_by_cmp R k q) _ _ ∙ ap (λ b. cond b None (find R q es)) ((eq_by_cmp_equiv o).symm k q)
+        ∙ find-without k q es
         ∙ ap (cond (eq_by_cmp R q k) None) (sym (get_sorted es q sorted)) ∙ sym (map.get-remove o (map.from_sorted es) k q))

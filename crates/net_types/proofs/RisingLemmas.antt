@@ -8,10 +8,11 @@ use Rattle.std.specs.List.Sorted.{IsSortedBy}
 use Rattle.std.specs.Ordering.{eq_by_cmp, is_eq, is_lt, ordering_reverse}
 use Rattle.std.specs.declared.cmp.Ordering.{Ordering}
 use Rattle.std.specs.declared.cmp.Ordering.TheVariants.{Less, Equal, Greater}
-use Rattle.std.proofs.lemmas.Bool.{and_parts, false≢true, not-true}
+use Rattle.std.proofs.lemmas.Bool.{and_parts, cases_Bool, false≢true, not-true}
 use Rattle.std.proofs.lemmas.Cmp.{tied_itself}
 use Rattle.std.proofs.lemmas.List.Sums.{sum_by-cons}
-use Rattle.net_types.specs.Sets.{Member, IsRising}
+use Rattle.net_types.specs.Maps.{each_once}
+use Rattle.net_types.specs.Sets.{Member, HasNoRepeats, IsRising}
 use Rattle.net_types.proofs.TieLemmas.{less}
 use Rattle.net_types.proofs.TestLemmas.{shown}
 
@@ -41,6 +42,21 @@ Member-filter test [] x m t = elim m [ ]
 Member-filter test (y ∷ xs) x (inl e) t = subst (λ b. Member x (cond b (y ∷ filter test xs) (filter test xs))) (sym (ap test (sym e) ∙ t)) (inl e)
 Member-filter test (y ∷ xs) x (inr m) t = left_case y (filter test xs) x (test y) (Member-filter test xs x m t)
 
+-- what is left of a list's different members stands in it
+pub once_of : {A : Type 0} (same : A → A → Bool) (xs : List A) (x : A) → Member x (each_once same xs) → Member x xs
+once_of same [] x m = elim m [ ]
+once_of same (y ∷ xs) x (inl e) = inl e
+once_of same (y ∷ xs) x (inr m) = inr (once_of same xs x (filter-Member (λ z. not (same y z)) (each_once same xs) x m).stands)
+
+-- and each member is left, where the test passes equal ones alone
+pub Member-once : {A : Type 0} (same : A → A → Bool) → ((x y : A) → same x y ≡ true → x ≡ y) → (xs : List A) (x : A) → Member x xs → Member x (each_once same xs)
+Member-once same decides [] x m = elim m [ ]
+Member-once same decides (y ∷ xs) x (inl e) = inl e
+Member-once same decides (y ∷ xs) x (inr m) = elim (cases_Bool (same y x)) [
+  | inl equal ↦ inl (sym (decides y x equal))
+  | inr other ↦ inr (Member-filter (λ z. not (same y z)) (each_once same xs) x (Member-once same decides xs x m) (ap not other))
+]
+
 rising_case : {A : Type 0} (below : A → A → Bool) (test : A → Bool) (x : A) (xs : List A) (b : Bool) → IsRising below (x ∷ xs) → IsRising below (filter test xs) → IsRising below (cond b (x ∷ filter test xs) (filter test xs))
 rising_case below test x xs true r later = (λ y m. r.0 y (filter-Member test xs y m).stands, later)
 rising_case below test x xs false r later = later
@@ -48,6 +64,11 @@ rising_case below test x xs false r later = later
 pub filter-IsRising : {A : Type 0} (below : A → A → Bool) (test : A → Bool) (xs : List A) → IsRising below xs → IsRising below (filter test xs)
 filter-IsRising below test [] r = tt
 filter-IsRising below test (x ∷ xs) r = rising_case below test x xs (test x) r (filter-IsRising below test xs r.1)
+
+-- a list that rises has no repeats
+pub rising_once : {A : Type 0} (below : A → A → Bool) → ((x : A) → below x x ≡ true → ⊥) → (xs : List A) → IsRising below xs → HasNoRepeats xs
+rising_once below never [] rises = tt
+rising_once below never (x ∷ xs) rises = (λ m. never x (rises.0 x m), rising_once below never xs rises.1)
 
 -- ---- orders
 

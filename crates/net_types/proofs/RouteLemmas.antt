@@ -1,9 +1,10 @@
 -- The best route where one participant alone has one.
-use Rattle.std.proofs.Common.{◌≡◌, ℕ, zero, suc, ◌+◌, ◌<◌, ◌≤◌, true, cond, ◌&&◌, ◌||◌, not, nat_le, List, [], ◌∷◌, length, map, ap, ◌∙◌, refl, arith, inl, inr}
+use Rattle.std.proofs.Common.{◌≡◌, ℕ, zero, suc, ◌+◌, ◌<◌, ◌≤◌, true, cond, ◌&&◌, ◌||◌, not, nat_le, List, [], ◌∷◌, length, ap, ◌∙◌, refl, arith, inl, inr}
 use Rattle.std.specs.Prelude.{Option, Some, None, option_to_list, unwrap_or, ◌⊎◌}
 use Rattle.std.specs.List.{filter_map, cons_option}
 use Rattle.std.specs.Option.{option_and_then}
 use Rattle.std.proofs.lemmas.Bool.{cases_eq, eq-eqb, le-leb}
+use Rattle.net_types.proofs.FindLemmas.{filter_map-map}
 use Rattle.net_types.specs.Exports.{Routing, route, is_given}
 use Rattle.net_types.specs.Routes.{Candidate, given, candidates, candidate, numbers, best_of, least_by, least_med, first_of_list}
 use Rattle.net_types.specs.declared.address.Pid.{Pid}
@@ -34,14 +35,10 @@ only_from f low zero at le lt h = absurd (omega arith)
 only_from f low (suc count) at le lt h =
     only_here f low count at le h (λ other. only_from f (low + 1) count at (omega arith) (omega arith) h) (cases_eq low at)
 
-filter_map_map : {A B C : Type 0} (f : B → Option C) (g : A → B) (xs : List A) → filter_map f (map g xs) ≡ filter_map (λ x. f (g x)) xs
-filter_map_map f g [] = refl
-filter_map_map f g (x ∷ xs) = ap (cons_option (f (g x))) (filter_map_map f g xs)
-
 -- the candidates where only one participant has a route that is given
 pub one_candidate : (r : Routing) (to : Pid) (p : Prefix) (from : Pid) → from.0 < length r.participants → ((k : ℕ) → (k ≡ from.0 → ⊥) → route r (record { 0 = k }) p ≡ None) → candidates r to p ≡ option_to_list (given r to p from)
 one_candidate r to p from within others =
-    filter_map_map (given r to p) (λ n. let who : Pid = record { 0 = n } in who) (numbers 0 (length r.participants))
+    filter_map-map (given r to p) (λ n. let who : Pid = record { 0 = n } in who) (numbers 0 (length r.participants))
     ∙ only_from (λ n. given r to p (record { 0 = n })) 0 (length r.participants) from.0 (omega arith) (omega arith)
     (λ k other. ap (option_and_then (λ (attrs : Attrs). cond (is_given r (record { 0 = k }) to p attrs) (Some (candidate r (record { 0 = k }) attrs)) None)) (others k other))
 

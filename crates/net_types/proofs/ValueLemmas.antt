@@ -1,5 +1,5 @@
 -- The values of a map: tests of them, and their sums.
-use Rattle.std.proofs.Common.{◌≡◌, ℕ, ◌+◌, ◌≤◌, Bool, true, false, cond, ◌&&◌, ◌||◌, T, List, [], ◌∷◌, map, length, sum_by, sym, ap, ◌∙◌, refl, arith}
+use Rattle.std.proofs.Common.{◌≡◌, ℕ, ◌+◌, ◌≤◌, Bool, true, false, cond, ◌||◌, T, List, [], ◌∷◌, map, sum_by, sym, ap, ◌∙◌, refl, arith}
 use Rattle.std.specs.Prelude.{Option, Some}
 use Rattle.std.specs.Cmp.{IsTotalOrder}
 use Rattle.std.specs.FinMap.{FinMap, get, values, entries, empty, insert, from_entries, entries_sorted, get-entries, entries-insert, len-entries, len-empty}
@@ -8,29 +8,19 @@ use Rattle.std.specs.List.{list_any}
 use Rattle.std.specs.Ordering.{eq_by_cmp, is_lt}
 use Rattle.std.specs.declared.cmp.Ordering.{Ordering}
 use Rattle.std.specs.declared.cmp.Ordering.TheVariants.{Less, Equal, Greater}
-use Rattle.std.proofs.lemmas.Bool.{false_from_ne_true}
+use Rattle.std.proofs.lemmas.Bool.{false_from_ne_true, or_right}
+use Rattle.std.proofs.lemmas.List.{nil_from_length}
 use Rattle.std.proofs.lemmas.List.Sums.{sum_by-cons}
+use Rattle.net_types.proofs.TestLemmas.{both_hold}
 use Rattle.net_types.proofs.TieLemmas.{tie_Equal, ties_itself}
-
-both_first : (a b : Bool) → T (a && b) → T a
-both_first true b p = tt
-both_first false b p = p
-
-both_second : (a b : Bool) → T (a && b) → T b
-both_second true b p = p
-both_second false b p = absurd p
 
 not_less : (r : Ordering) → T (is_lt r) → r ≡ Equal → ⊥
 not_less Less h e = cc
 not_less Equal h e = h
 not_less Greater h e = h
 
-pub no_items : {A : Type 0} (xs : List A) → length xs ≡ 0 → xs ≡ []
-no_items [] e = refl
-no_items (x ∷ xs) e = absurd (omega arith)
-
 pub no_entries : (K X : Type 0) (R : K → K → Ordering) → entries (empty {K = K} {X = X} {R = R}) ≡ []
-no_entries K X R = no_items (entries (empty {K = K} {X = X} {R = R})) (sym (len-entries (empty {K = K} {X = X} {R = R})) ∙ len-empty R X)
+no_entries K X R = nil_from_length (entries (empty {K = K} {X = X} {R = R})) (sym (len-entries (empty {K = K} {X = X} {R = R})) ∙ len-empty R X)
 
 -- a key whose value passes a test
 pub record HasValue {K X : Type 0} (at : K → Option X) (test : X → Bool) : Type 0 where
@@ -45,8 +35,8 @@ module _ {K X : Type 0} (R : K → K → Ordering) (o : IsTotalOrder R) where
   later_apart x q v [] below e = absurd (cc)
   later_apart x q v (f ∷ es) below e =
       elim (eq_by_cmp R q f.0) as (λ b. eq_by_cmp R q f.0 ≡ b → cond b (Some f.1) (find R q es) ≡ Some v → eq_by_cmp R q x ≡ false) [
-        | true ↦ λ t is. false_from_ne_true (eq_by_cmp R q x) (λ s. not_less (R x f.0) (both_first _ _ below) (sym (o.congr q x f.0 (tie_Equal (R q x) s)) ∙ tie_Equal (R q f.0) t))
-        | false ↦ λ t is. later_apart x q v es (both_second _ _ below) is
+        | true ↦ λ t is. false_from_ne_true (eq_by_cmp R q x) (λ s. not_less (R x f.0) (both_hold _ _ below).0 (sym (o.congr q x f.0 (tie_Equal (R q x) s)) ∙ tie_Equal (R q f.0) t))
+        | false ↦ λ t is. later_apart x q v es (both_hold _ _ below).1 is
       ] refl e
 
   value_among : (test : X → Bool) (es : List (K × X)) → T (is_sorted R es) → list_any test (map (λ (e : K × X). e.1) es) ≡ true → HasValue (λ q. find R q es) test
@@ -55,8 +45,8 @@ module _ {K X : Type 0} (R : K → K → Ordering) (o : IsTotalOrder R) where
       elim (test e.1) as (λ b. test e.1 ≡ b → (b || list_any test (map (λ (e : K × X). e.1) es)) ≡ true → HasValue (λ q. find R q (e ∷ es)) test) [
         | true ↦ λ t a. record { key = e.0; value = e.1; there = ap (λ b. cond b (Some e.1) (find R e.0 es)) (ties_itself o e.0); passes = t }
         | false ↦ λ t a.
-            let later = value_among test es (both_second _ _ sorted) a in
-            record { key = later.key; value = later.value; there = ap (λ b. cond b (Some e.1) (find R later.key es)) (later_apart e.0 later.key later.value es (both_first _ _ sorted) later.there) ∙ later.there; passes = later.passes }
+            let later = value_among test es (both_hold _ _ sorted).1 a in
+            record { key = later.key; value = later.value; there = ap (λ b. cond b (Some e.1) (find R later.key es)) (later_apart e.0 later.key later.value es (both_hold _ _ sorted).0 later.there) ∙ later.there; passes = later.passes }
       ] refl any
 
   any_among : (test : X → Bool) (es : List (K × X)) (q : K) (v : X) → find R q es ≡ Some v → test v ≡ true → list_any test (map (λ (e : K × X). e.1) es) ≡ true
@@ -64,12 +54,8 @@ module _ {K X : Type 0} (R : K → K → Ordering) (o : IsTotalOrder R) where
   any_among test (f ∷ es) q v e t =
       elim (eq_by_cmp R q f.0) as (λ b. cond b (Some f.1) (find R q es) ≡ Some v → (test f.1 || list_any test (map (λ (e : K × X). e.1) es)) ≡ true) [
         | true ↦ λ is. let same : v ≡ f.1 = cc in ap (λ b. b || list_any test (map (λ (e : K × X). e.1) es)) (sym (ap test same) ∙ t)
-        | false ↦ λ is. or_true (test f.1) (any_among test es q v is t)
+        | false ↦ λ is. or_right (test f.1) (list_any test (map (λ (e : K × X). e.1) es)) (any_among test es q v is t)
       ] e
-    where
-      or_true : (b : Bool) {c : Bool} → c ≡ true → (b || c) ≡ true
-      or_true true h = refl
-      or_true false h = h
 
   -- some value passes: so does one that a key has
   pub value_at : (test : X → Bool) (m : FinMap R X) → list_any test (values m) ≡ true → HasValue (get m) test

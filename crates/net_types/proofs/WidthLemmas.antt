@@ -1,6 +1,7 @@
 -- Laws of counting: lists without repeats, and the meets of lists, each once.
-use Rattle.std.proofs.Common.{◌≡◌, ◌≤◌, ◌⊎◌, ℕ, suc, arith, length, cond, Bool, true, false, ◌&&◌, ◌||◌, Option, Some, None, List, [], ◌∷◌, ◌++◌, refl, inl, inr, sym, ap, ◌∙◌, subst}
+use Rattle.std.proofs.Common.{◌≡◌, ◌≤◌, ◌⊎◌, ℕ, suc, arith, length, cond, true, ◌&&◌, ◌||◌, Option, Some, None, List, [], ◌∷◌, ◌++◌, refl, inl, inr, sym, ap, ◌∙◌, subst}
 use Rattle.std.proofs.lemmas.Bool.{and_from, cases_Bool, false≢true}
+use Rattle.std.proofs.Math.Bool.{or-true}
 use Rattle.net_types.specs.declared.cube.Cube.{Cube}
 use Rattle.net_types.specs.Cubes.{meet_cubes, lies_within_cube}
 use Rattle.net_types.specs.Sets.{Member, HasNoRepeats}
@@ -56,11 +57,7 @@ not_more n xs short m = omega (arith, m.more, no_longer m.some xs m.differ m.sta
 pub Member-has_cube : (xs : List Cube) (c : Cube) → Member c xs → has_cube xs c ≡ true
 Member-has_cube [] c h = elim h [ ]
 Member-has_cube (x ∷ xs) c (inl e) = ap (λ b. b || has_cube xs c) (subst (λ y. (lies_within_cube x y && lies_within_cube y x) ≡ true) (sym e) (and_from _ _ (within_refl x) (within_refl x)))
-Member-has_cube (x ∷ xs) c (inr h) = ap (λ b. (lies_within_cube x c && lies_within_cube c x) || b) (Member-has_cube xs c h) ∙ or_true (lies_within_cube x c && lies_within_cube c x)
-  where
-    or_true : (b : Bool) → (b || true) ≡ true
-    or_true true = refl
-    or_true false = refl
+Member-has_cube (x ∷ xs) c (inr h) = ap (λ b. (lies_within_cube x c && lies_within_cube c x) || b) (Member-has_cube xs c h) ∙ or-true (lies_within_cube x c && lies_within_cube c x)
 
 add_found-HasNoRepeats : (kept : List Cube) (o : Option Cube) → HasNoRepeats kept → HasNoRepeats (add_found kept o)
 add_found-HasNoRepeats kept None d = d

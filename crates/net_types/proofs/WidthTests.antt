@@ -1,18 +1,18 @@
 -- The test of how wide a policy is says what the relation says.
 use Rattle.std.proofs.Common.{◌≡◌, ◌↔◌, ℕ, ◌<◌, Bool, true, false, cond, not, ◌||◌, nat_lt, nat_eq, List, [], ◌∷◌, filter, length, refl, inl, inr, sym, ap, ◌∙◌, arith}
 use Rattle.std.specs.List.{list_any}
-use Rattle.std.proofs.lemmas.Bool.{and_from, and_parts, eqb-true, or_cases, cases_Bool, false≢true, lt-ltb, ltb-true}
+use Rattle.std.proofs.lemmas.Bool.{and_from, and_parts, eqb-true, or_cases, or_right, false≢true, lt-ltb, ltb-true}
 use Rattle.net_types.specs.declared.address.Ip.{Ip}
 use Rattle.net_types.specs.declared.headers.Assign.{Assign}
 use Rattle.net_types.specs.Attributes.{same_ip, same_option}
 use Rattle.net_types.specs.Maps.{each_once}
-use Rattle.net_types.specs.Sets.{Member, HasNoRepeats}
+use Rattle.net_types.specs.Sets.{HasNoRepeats}
 use Rattle.net_types.specs.Policies.{Policy, atoms, mods}
 use Rattle.net_types.specs.Meets.{meets}
 use Rattle.net_types.specs.Widths.{HasMoreThan, parts, IsTooWide, WidthIsTested, same_assign, is_wide_part, is_too_wide}
 use Rattle.net_types.proofs.EqualLemmas.{IsEqualityTest, from_itself, nat_test, option_test}
 use Rattle.net_types.proofs.FindLemmas.{IsFound, any_at}
-use Rattle.net_types.proofs.RisingLemmas.{filter-Member, Member-filter}
+use Rattle.net_types.proofs.RisingLemmas.{filter-Member, once_of, Member-once}
 use Rattle.net_types.proofs.SameLemmas.{nat_itself, option_itself}
 use Rattle.net_types.proofs.WidthLemmas.{no_longer}
 
@@ -27,19 +27,6 @@ HasNoRepeats-filter keep (x ∷ xs) d = by (keep x) (HasNoRepeats-filter keep xs
     by false rest = rest
 
 module _ {A : Type 0} (same : A → A → Bool) (test : IsEqualityTest same) where
-  once-Member : (xs : List A) (y : A) → Member y (each_once same xs) → Member y xs
-  once-Member [] y m = elim m [ ]
-  once-Member (x ∷ xs) y (inl e) = inl e
-  once-Member (x ∷ xs) y (inr m) = inr (once-Member xs y (filter-Member (λ z. not (same x z)) (each_once same xs) y m).stands)
-
-  Member-once : (xs : List A) (y : A) → Member y xs → Member y (each_once same xs)
-  Member-once [] y m = elim m [ ]
-  Member-once (x ∷ xs) y (inl e) = inl e
-  Member-once (x ∷ xs) y (inr m) = elim (cases_Bool (same x y)) [
-    | inl equal ↦ inl (sym ((test x y).0 equal))
-    | inr other ↦ inr (Member-filter (λ z. not (same x z)) (each_once same xs) y (Member-once xs y m) (ap not other))
-  ]
-
   once-HasNoRepeats : (xs : List A) → HasNoRepeats (each_once same xs)
   once-HasNoRepeats [] = tt
   once-HasNoRepeats (x ∷ xs) = (
@@ -49,14 +36,14 @@ module _ {A : Type 0} (same : A → A → Bool) (test : IsEqualityTest same) whe
 
   -- a list has more than so many different members exactly where the different ones are more
   pub more-once : (n : ℕ) (xs : List A) → HasMoreThan n xs → n < length (each_once same xs)
-  more-once n xs m = omega (arith, m.more, no_longer m.some (each_once same xs) m.differ (λ x k. Member-once xs x (m.stand x k)))
+  more-once n xs m = omega (arith, m.more, no_longer m.some (each_once same xs) m.differ (λ x k. Member-once same (λ y z. (test y z).0) xs x (m.stand x k)))
 
   pub once-more : (n : ℕ) (xs : List A) → n < length (each_once same xs) → HasMoreThan n xs
-  once-more n xs more = record { some = each_once same xs; differ = once-HasNoRepeats xs; stand = once-Member xs; more = more }
+  once-more n xs more = record { some = each_once same xs; differ = once-HasNoRepeats xs; stand = once_of same xs; more = more }
 
 -- ---- assignments
 
-ip_right : (a b : Ip) → same_ip a b ≡ true → a ≡ b
+pub ip_right : (a b : Ip) → same_ip a b ≡ true → a ≡ b
 ip_right a b e = let same = eqb-true a.0 b.0 e in λ i. record { 0 = same i }
 
 ip_test : IsEqualityTest same_ip
@@ -91,10 +78,6 @@ any_found test (x ∷ xs) e = elim (or_cases (test x) (list_any test xs) e) [
   | inr later ↦ let found = any_found test xs later in (found.0, record { stands = inr found.1.stands; passes = found.1.passes })
 ]
 
-either_true : (a b : Bool) → b ≡ true → (a || b) ≡ true
-either_true true b e = refl
-either_true false b e = e
-
 pub width_tested : WidthIsTested
 width_tested p = (to, from)
   where
@@ -111,7 +94,7 @@ width_tested p = (to, from)
     from : IsTooWide p → is_too_wide p ≡ true
     from w = any_at is_wide_part (parts p) w.part w.stands (elim w.wide [
       | inl many ↦ ap (λ b. b || nat_lt 1024 (length (each_once same_assign (mods w.part)))) (lt-ltb 65536 (length (meets (atoms w.part))) many)
-      | inr many ↦ either_true (nat_lt 65536 (length (meets (atoms w.part)))) _ (lt-ltb 1024 (length (each_once same_assign (mods w.part))) (more-once same_assign assign_test 1024 (mods w.part) many))
+      | inr many ↦ or_right (nat_lt 65536 (length (meets (atoms w.part)))) _ (lt-ltb 1024 (length (each_once same_assign (mods w.part))) (more-once same_assign assign_test 1024 (mods w.part) many))
     ])
 
 -- what is true exactly of policies that are too wide is the test

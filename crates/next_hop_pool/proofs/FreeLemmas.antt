@@ -1,7 +1,7 @@
 -- The free tags of a list of places.
 use Rattle.std.proofs.Common.{◌≡◌, ℕ, zero, suc, ◌+◌, ◌<◌, ◌≤◌, Bool, true, false, cond, ◌||◌, not, List, [], ◌∷◌, length, map, get_or, set, sym, ap, subst, ◌∙◌, refl, arith, max, min, ⊎_elim, replicate, length-set, get_or-set_same, get_or-set_other, ◌-◌}
 use Rattle.std.proofs.lemmas.List.{length-replicate}
-use Rattle.std.proofs.lemmas.Bool.{cases_lt, cases_eq}
+use Rattle.std.proofs.lemmas.Bool.{cases_lt, cases_eq, or_left}
 use Rattle.std.specs.Prelude.{Some, None, find, filter, slice_get}
 use Rattle.net_types.specs.Routes.{numbers}
 use Rattle.net_types.specs.declared.address.Tag.{Tag}
@@ -31,10 +31,6 @@ free_by_place bs = free_at bs 0 1 bs refl (λ k. let same : 0 + k ≡ k = omega 
 pub find_first : {A : Type 0} (xs : List A) → find (λ _. true) xs ≡ slice_get xs 0
 find_first [] = refl
 find_first (x ∷ xs) = refl
-
-pub or_left : (a b : Bool) → a ≡ true → (a || b) ≡ true
-or_left true b e = refl
-or_left false b e = cc
 
 pub or_right : (a b : Bool) → b ≡ false → (a || not b) ≡ true
 or_right true b e = refl

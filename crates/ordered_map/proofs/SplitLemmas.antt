@@ -1,22 +1,18 @@
 -- Entries that rise, split at one of them: where a key is sought, put, taken out and passed.
-use Rattle.std.proofs.Common.{◌≡◌, ◌<◌, length, length-append, arith, Bool, true, false, cond, ◌&&◌, not, List, [], ◌∷◌, ◌++◌, ap, ◌∙◌, refl}
+use Rattle.std.proofs.Common.{◌≡◌, ◌<◌, length, length-append, arith, true, false, cond, not, List, [], ◌∷◌, ◌++◌, ap, ◌∙◌, refl}
 use Rattle.std.specs.Prelude.{Option, None, Some}
 use Rattle.std.specs.Cmp.{IsTotalOrder}
 use Rattle.std.specs.Ordering.{is_lt, is_eq, ordering_reverse}
 use Rattle.std.specs.declared.cmp.Ordering.{Ordering}
 use Rattle.std.specs.declared.cmp.Ordering.TheVariants.{Less, Equal, Greater}
 use Rattle.std.specs.FinMap.Entries.{find, put, is_sorted, below_all, by_order}
-use Rattle.std.proofs.lemmas.Bool.{and_parts}
+use Rattle.std.proofs.lemmas.Bool.{and_from, and_parts}
 use Rattle.ordered_map.specs.Entries.{without, above, put_given, head_of}
 
 pub less : (r : Ordering) → is_lt r ≡ true → r ≡ Less
 less Less e = refl
 less Equal e = cc
 less Greater e = cc
-
-pub both : (a b : Bool) → a ≡ true → b ≡ true → (a && b) ≡ true
-both true b p q = q
-both false b p q = cc
 
 pub turned : {K : Type 0} {R : K → K → Ordering} (o : IsTotalOrder R) (x y : K) (r : Ordering) → R x y ≡ r → R y x ≡ ordering_reverse r
 turned o x y r e = o.antisymm y x ∙ ap ordering_reverse e
@@ -55,9 +51,9 @@ module _ {K X : Type 0} (R : K → K → Ordering) where
   below_front x [] m h = refl
   below_front x (e ∷ l) m h =
       let parts = and_parts (is_lt (R x e.0)) (below_all R x (l ++ m)) h in
-      both _ _ parts.0 (below_front x l m parts.1)
+      and_from _ _ parts.0 (below_front x l m parts.1)
 
-  below_entry : (x : K) (l : List (K × X)) (e : K × X) (r : List (K × X)) → below_all R x (l ++ e ∷ r) ≡ true → R x e.0 ≡ Less
+  pub below_entry : (x : K) (l : List (K × X)) (e : K × X) (r : List (K × X)) → below_all R x (l ++ e ∷ r) ≡ true → R x e.0 ≡ Less
   below_entry x [] e r h = less _ (and_parts (is_lt (R x e.0)) (below_all R x r) h).0
   below_entry x (f ∷ l) e r h = below_entry x l e r (and_parts (is_lt (R x f.0)) (below_all R x (l ++ e ∷ r)) h).1
 
@@ -65,7 +61,7 @@ module _ {K X : Type 0} (R : K → K → Ordering) where
   sorted_front [] m h = refl
   sorted_front (e ∷ l) m h =
       let parts = and_parts (below_all R e.0 (l ++ m)) (is_sorted R (l ++ m)) h in
-      both _ _ (below_front e.0 l m parts.0) (sorted_front l m parts.1)
+      and_from _ _ (below_front e.0 l m parts.0) (sorted_front l m parts.1)
 
   pub sorted_back : (l m : List (K × X)) → is_sorted R (l ++ m) ≡ true → is_sorted R m ≡ true
   sorted_back [] m h = h
@@ -165,18 +161,18 @@ module _ {K X : Type 0} (R : K → K → Ordering) where
     below_smaller q x [] low h = refl
     below_smaller q x (e ∷ es) low h =
         let parts = and_parts (is_lt (R x e.0)) (below_all R x es) h in
-        both _ _ (ap is_lt (o.trans q x e.0 low (less _ parts.0))) (below_smaller q x es low parts.1)
+        and_from _ _ (ap is_lt (o.trans q x e.0 low (less _ parts.0))) (below_smaller q x es low parts.1)
 
     pub below_tied : (q x : K) (es : List (K × X)) → R q x ≡ Equal → below_all R x es ≡ true → below_all R q es ≡ true
     below_tied q x [] tie h = refl
     below_tied q x (e ∷ es) tie h =
         let parts = and_parts (is_lt (R x e.0)) (below_all R x es) h in
-        both _ _ (ap is_lt (o.congr q x e.0 tie) ∙ parts.0) (below_tied q x es tie parts.1)
+        and_from _ _ (ap is_lt (o.congr q x e.0 tie) ∙ parts.0) (below_tied q x es tie parts.1)
 
     pub left_of : (q : K) (l : List (K × X)) (e : K × X) (r : List (K × X)) → is_sorted R (l ++ e ∷ r) ≡ true → R q e.0 ≡ Less → IsLeft q l e r
     left_of q l e r h low =
         let parts = and_parts (below_all R e.0 r) (is_sorted R r) (sorted_back l (e ∷ r) h) in
-        let below : below_all R q (e ∷ r) ≡ true = both (is_lt (R q e.0)) (below_all R q r) (ap is_lt low) (below_smaller q e.0 r low parts.0) in
+        let below : below_all R q (e ∷ r) ≡ true = and_from (is_lt (R q e.0)) (below_all R q r) (ap is_lt low) (below_smaller q e.0 r low parts.0) in
         record {
           rising = sorted_front l (e ∷ r) h;
           find_is = find_before q l (e ∷ r) below;

@@ -2,22 +2,19 @@
 use Rattle.std.proofs.Common.{◌≡◌, true, false, cond, List, [], ◌∷◌, sym, ap, subst, ◌∙◌, refl}
 use Rattle.std.specs.Prelude.{Some, None, Option}
 use Rattle.std.specs.Borrow.{Bor}
-use Rattle.std.specs.Option.{unwrap_or}
 use Rattle.std.specs.Cmp.{IsTotalOrder}
 use Rattle.std.specs.Ordering.{is_lt, ordering_reverse}
 use Rattle.std.specs.declared.cmp.Ordering.{Ordering}
 use Rattle.std.specs.declared.cmp.Ordering.TheVariants.{Less, Equal, Greater}
 use Rattle.std.specs.FinMap.Entries.{is_sorted, below_all}
-use Rattle.std.proofs.lemmas.Bool.{and_parts}
+use Rattle.std.proofs.lemmas.Bool.{and_from, and_parts}
+use Rattle.std.proofs.lemmas.Option.{same_Some}
 use Rattle.ordered_map.specs.Entries.{above, head_of, left_after}
-use Rattle.ordered_map.proofs.SplitLemmas.{less, both, turned, above_before, below_smaller}
+use Rattle.ordered_map.proofs.SplitLemmas.{less, turned, above_before, below_smaller}
 
 pub none_left : {A : Type 0} (xs : List A) → head_of xs ≡ None → xs ≡ []
 none_left [] e = refl
 none_left (x ∷ xs) e = cc
-
-same_first : {A : Type 0} (x y : A) → Some x ≡ Some y → x ≡ y
-same_first x y e = ap (λ o. unwrap_or o x) e
 
 not_below_itself : (r : Ordering) → r ≡ ordering_reverse r → is_lt r ≡ false
 not_below_itself Less e = cc
@@ -30,11 +27,11 @@ module _ {K V : Type 0} (R : K → K → Ordering) (o : IsTotalOrder R) where
   below_above x q (e ∷ es) h =
       let parts = and_parts (is_lt (R x e.0)) (below_all R x es) h in
       let rest = below_above x q es parts.1 in
-      elim (is_lt (R q e.0)) as (λ b. below_all R x (cond b (e ∷ above R q es) (above R q es)) ≡ true) [ true ↦ both _ _ parts.0 rest | false ↦ rest ]
+      elim (is_lt (R q e.0)) as (λ b. below_all R x (cond b (e ∷ above R q es) (above R q es)) ≡ true) [ true ↦ and_from _ _ parts.0 rest | false ↦ rest ]
 
   first_above : (x : K) (es : List (K × V)) (e : K × V) → below_all R x es ≡ true → head_of es ≡ Some e → R x e.0 ≡ Less
   first_above x [] e h is = cc
-  first_above x (d ∷ es) e h is = subst (λ f. R x f.0 ≡ Less) (same_first d e is) (less _ (and_parts (is_lt (R x d.0)) (below_all R x es) h).0)
+  first_above x (d ∷ es) e h is = subst (λ f. R x f.0 ≡ Less) (same_Some d e is) (less _ (and_parts (is_lt (R x d.0)) (below_all R x es) h).0)
 
   -- nothing of what follows an entry is lost above its key
   above_first : (e : K × V) (es : List (K × V)) → below_all R e.0 es ≡ true → above R e.0 (e ∷ es) ≡ es
@@ -44,7 +41,7 @@ module _ {K V : Type 0} (R : K → K → Ordering) (o : IsTotalOrder R) where
   pub after_all : (es : List (K × V)) (e : K × V) → is_sorted R es ≡ true → head_of es ≡ Some e → es ≡ e ∷ above R e.0 es
   after_all [] e rising is = cc
   after_all (d ∷ es) e rising is =
-      let same = same_first d e is in
+      let same = same_Some d e is in
       let parts = and_parts (below_all R d.0 es) (is_sorted R es) rising in
       subst (λ f. d ∷ es ≡ f ∷ above R f.0 (d ∷ es)) same (ap (λ ds. d ∷ ds) (sym (above_first d es parts.0)))
 
@@ -54,7 +51,7 @@ module _ {K V : Type 0} (R : K → K → Ordering) (o : IsTotalOrder R) where
       let parts = and_parts (below_all R d.0 es) (is_sorted R es) rising in
       elim (is_lt (R q d.0)) as (λ b. is_lt (R q d.0) ≡ b → head_of (cond b (d ∷ above R q es) (above R q es)) ≡ Some e → cond b (d ∷ above R q es) (above R q es) ≡ e ∷ above R e.0 (d ∷ es)) [
         | true ↦ λ low first.
-            let same = same_first d e first in
+            let same = same_Some d e first in
             let below = below_smaller R o q d.0 es (less _ low) parts.0 in
             subst (λ f. d ∷ above R q es ≡ f ∷ above R f.0 (d ∷ es)) same (ap (λ ds. d ∷ ds) (above_before R q [] es below ∙ sym (above_first d es parts.0)))
         | false ↦ λ high first.

@@ -1,16 +1,17 @@
 -- A key below all keys of entries isn't among them, and what a removal does to entries and to a map.
-use Rattle.std.proofs.Common.{◌≡◌, true, cond, ◌&&◌, not, List, [], ◌∷◌, sym, ap, ◌∙◌, refl}
+use Rattle.std.proofs.Common.{◌≡◌, true, cond, not, List, [], ◌∷◌, sym, ap, ◌∙◌, refl}
 use Rattle.std.specs.Prelude.{Some, None}
-use Rattle.std.specs.Ordering.{eq_by_cmp, is_lt, is_eq}
-use Rattle.std.specs.Cmp.{IsTotalOrder, alike_right, eq_by_cmp_equiv}
+use Rattle.std.specs.Ordering.{is_lt, is_eq}
+use Rattle.std.specs.Cmp.{IsTotalOrder}
 use Rattle.std.specs.declared.cmp.Ordering.{Ordering}
 use Rattle.std.specs.declared.cmp.Ordering.TheVariants.{Less, Equal}
 use Rattle.std.specs.FinMap.{FinMap, remove, entries, entries_sorted, from_sorted, entries-from_sorted, same_entries_map, IsAntisymmetric}
-use Rattle.std.specs.FinMap.Entries.{find, find-where_key, is_sorted, below_all}
+use Rattle.std.specs.FinMap.Entries.{find, is_sorted, below_all}
 use Rattle.std.proofs.lemmas.Bool.{and_parts}
-use Rattle.net_types.proofs.PlaceLemmas.{without, entries_of_sorted, without_sorted, remove_sorted, cond_not}
+use Rattle.net_types.proofs.PlaceLemmas.{without, entries_of_sorted, without_sorted, remove_sorted}
 use Rattle.net_types.proofs.TestLemmas.{shown}
 use Rattle.net_types.proofs.TieLemmas.{less}
+use Rattle.ordered_map.proofs.SplitLemmas.{below_smaller, below_tied}
 
 module _ {K X : Type 0} (R : K → K → Ordering) where
   -- the first key is below all that follow
@@ -21,18 +22,6 @@ module _ {K X : Type 0} (R : K → K → Ordering) where
   rest_sorted d ds sorted = (and_parts (below_all R d.0 ds) (is_sorted R ds) sorted).1
 
   module _ (o : IsTotalOrder R) where
-    below_less : (x y : K) (es : List (K × X)) → R x y ≡ Less → below_all R y es ≡ true → below_all R x es ≡ true
-    below_less x y [] p h = refl
-    below_less x y (e ∷ es) p h =
-        let parts = and_parts (is_lt (R y e.0)) (below_all R y es) h in
-        ap (λ r. is_lt r && below_all R x es) (o.trans x y e.0 p (less _ parts.0)) ∙ below_less x y es p parts.1
-
-    below_tied : (x y : K) (es : List (K × X)) → R x y ≡ Equal → below_all R y es ≡ true → below_all R x es ≡ true
-    below_tied x y [] p h = refl
-    below_tied x y (e ∷ es) p h =
-        let parts = and_parts (is_lt (R y e.0)) (below_all R y es) h in
-        ap (λ b. b && below_all R x es) (ap is_lt (o.congr x y e.0 p) ∙ parts.0) ∙ below_tied x y es p parts.1
-
     find_below : (q : K) (es : List (K × X)) → below_all R q es ≡ true → find R q es ≡ None
     find_below q [] h = refl
     find_below q (e ∷ es) h =
@@ -47,11 +36,11 @@ module _ {K X : Type 0} (R : K → K → Ordering) where
 
     -- a key below the first is not among sorted entries
     pub find_before : (q : K) (d : K × X) (ds : List (K × X)) → is_sorted R (d ∷ ds) ≡ true → R q d.0 ≡ Less → find R q ds ≡ None
-    find_before q d ds sorted p = find_below q ds (below_less q d.0 ds p (first_below d ds sorted))
+    find_before q d ds sorted p = find_below q ds (below_smaller R o q d.0 ds p (first_below d ds sorted))
 
     -- a key that ties with the first is not among the rest
     pub without_first : (q : K) (d : K × X) (ds : List (K × X)) → is_sorted R (d ∷ ds) ≡ true → R q d.0 ≡ Equal → without R q ds ≡ ds
-    without_first q d ds sorted p = without_below q ds (below_tied q d.0 ds p (first_below d ds sorted))
+    without_first q d ds sorted p = without_below q ds (below_tied R o q d.0 ds p (first_below d ds sorted))
 
     pub entries-remove : IsAntisymmetric R → (m : FinMap R X) (k : K) → entries (remove m k) ≡ without R k (entries m)
     entries-remove same m k =
@@ -60,9 +49,3 @@ module _ {K X : Type 0} (R : K → K → Ordering) where
         ap (λ n. entries (remove n k)) (sym whole)
         ∙ ap entries (sym (remove_sorted R o same k (entries m) sorted))
         ∙ entries_of_sorted R (without R k (entries m)) (without_sorted R k (entries m) sorted)
-
-    -- what is found once a key is taken out
-    pub find-without : (k q : K) (es : List (K × X)) → find R q (without R k es) ≡ cond (eq_by_cmp R q k) None (find R q es)
-    find-without k q es =
-        find-where_key R (λ x. not (eq_by_cmp R k x)) q (λ x e. ap (λ r. not (is_eq r)) (sym (alike_right o q x k e))) es
-        ∙ cond_not (eq_by_cmp R k q) _ _ ∙ ap (λ b. cond b None (find R q es)) ((eq_by_cmp_equiv o).symm k q)

@@ -4,9 +4,9 @@ use Rattle.std.specs.Prelude.{Option, Some, None, unwrap_or}
 use Rattle.std.specs.Ordering.{eq_by_cmp, is_eq, ordering_reverse}
 use Rattle.std.specs.FinMap.{FinMap, get, get-insert, get-remove, find}
 use Rattle.std.proofs.lemmas.Bool.{false_from_ne_true}
-use Rattle.net_types.proofs.OrderLemmas.{prefixes_total}
+use Rattle.net_types.proofs.OrderLemmas.{prefix_tie, prefixes_total}
 use Rattle.net_types.proofs.SetLemmas.{Member-map}
-use Rattle.net_types.proofs.TieLemmas.{prefix_cmp-IsAntisymmetric, same_from_tie, ties_itself, less}
+use Rattle.net_types.proofs.TieLemmas.{ties_itself, less}
 use Rattle.net_types.specs.Keys.{prefix_cmp}
 use Rattle.net_types.specs.Sets.{Member}
 use Rattle.net_types.specs.UpdateSpelling.{is_before}
@@ -69,7 +69,7 @@ tags_after_changes m (c ∷ cs) p rising =
     let rest = tags_after_changes (with_change m c.0 c.1) cs p rising.1 in
     elim (eq_by_cmp prefix_cmp p c.0) as (λ b. eq_by_cmp prefix_cmp p c.0 ≡ b → get (changed (with_change m c.0 c.1) cs) p ≡ unwrap_or (cond b (Some c.1) (find prefix_cmp p cs)) (get m p)) [
       | true ↦ λ tie.
-          let same : p ≡ c.0 = same_from_tie prefix_cmp prefix_cmp-IsAntisymmetric p c.0 tie in
+          let same : p ≡ c.0 = prefix_tie p c.0 tie in
           let none = ap (λ q. find prefix_cmp q cs) same ∙ find_absent c.0 cs rising.0 in
           rest ∙ ap (λ o. unwrap_or o (get (with_change m c.0 c.1) p)) none ∙ get_here m c.0 p c.1 tie
       | false ↦ λ apart. rest ∙ ap (unwrap_or (find prefix_cmp p cs)) (get_other m c.0 p c.1 apart)
@@ -95,6 +95,6 @@ pub other_prefixes_keep_their_tags : (m : FinMap prefix_cmp Tag) (cs : List Chan
 other_prefixes_keep_their_tags m [] p other = refl
 other_prefixes_keep_their_tags m (c ∷ cs) p other =
     let apart = false_from_ne_true (eq_by_cmp prefix_cmp p c.0) (λ tie.
-    let same : p ≡ c.0 = same_from_tie prefix_cmp prefix_cmp-IsAntisymmetric p c.0 tie in
+    let same : p ≡ c.0 = prefix_tie p c.0 tie in
     other c.1 (inl (λ i. (same i, c.1)))) in
     other_prefixes_keep_their_tags (with_change m c.0 c.1) cs p (λ after member. other after (inr member)) ∙ get_other m c.0 p c.1 apart

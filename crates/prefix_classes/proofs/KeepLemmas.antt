@@ -6,15 +6,14 @@ use Rattle.std.specs.Ordering.{eq_by_cmp}
 use Rattle.std.specs.Cmp.{eq_by_cmp_equiv}
 use Rattle.std.specs.FinMap.{FinMap, get, insert, remove, empty, get-insert, get-remove, same_map}
 use Rattle.std.specs.FinMap.Entries.{find, put, is_sorted, find-put}
-use Rattle.net_types.proofs.OrderLemmas.{prefixes_total, tags_total}
-use Rattle.net_types.proofs.PlaceLemmas.{put_sorted, without_sorted}
-use Rattle.net_types.proofs.TieLemmas.{prefix_cmp-IsAntisymmetric, tag_cmp-IsAntisymmetric, same_from_tie, ties_itself}
+use Rattle.net_types.proofs.OrderLemmas.{prefix_tie, prefixes_total, tags_total}
+use Rattle.net_types.proofs.PlaceLemmas.{find-without, put_sorted, without_sorted}
+use Rattle.net_types.proofs.TieLemmas.{tag_cmp-IsAntisymmetric, ties_itself}
 use Rattle.net_types.specs.Keys.{prefix_cmp, tag_cmp}
 use Rattle.net_types.specs.declared.address.Tag.{Tag}
 use Rattle.net_types.specs.declared.prefix.Prefix.{Prefix}
 use Rattle.net_types.specs.declared.route.Part.{Part}
 use Rattle.ordered_map.specs.Entries.{without}
-use Rattle.prefix_classes.proofs.BelowLemmas.{find-without}
 use Rattle.prefix_classes.proofs.CountLemmas.{sig_in, get-sigs, find_not_kept, tied}
 use Rattle.prefix_classes.proofs.MemberLemmas.{members-empty}
 use Rattle.prefix_classes.specs.Classes.{given, members, missing, new_ones}
@@ -91,7 +90,7 @@ new_ones-insert m x t (p ∷ ps) = by (eq_by_cmp prefix_cmp x p) refl (new_ones-
         → cond (list_any (eq_by_cmp prefix_cmp p) ps) 0 (missing (get (insert m x t) p)) + new_ones (insert m x t) ps + cond (b || list_any (eq_by_cmp prefix_cmp x) ps) (missing (get m x)) 0
         ≡ cond (list_any (eq_by_cmp prefix_cmp p) ps) 0 (missing (get m p)) + new_ones m ps
     by true tie rest =
-        let same : x ≡ p = same_from_tie prefix_cmp prefix_cmp-IsAntisymmetric x p tie in
+        let same : x ≡ p = prefix_tie x p tie in
         let tagged : missing (get (insert m x t) p) ≡ 0 = ap missing (got ∙ ap (λ b. cond b (Some t) (get m p)) tie) in
         (λ i. cond (list_any (eq_by_cmp prefix_cmp (sym same i)) ps) 0 (tagged i) + new_ones (insert m x t) ps + missing (get m x))
         ∙ first (list_any (eq_by_cmp prefix_cmp x) ps) (new_ones (insert m x t) ps) (new_ones m ps) (missing (get m x)) rest

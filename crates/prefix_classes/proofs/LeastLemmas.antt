@@ -8,7 +8,7 @@ use Rattle.std.specs.Ordering.{eq_by_cmp, is_eq, is_lt, ordering_reverse}
 use Rattle.std.specs.declared.cmp.Ordering.{Ordering}
 use Rattle.std.specs.declared.cmp.Ordering.TheVariants.{Less}
 use Rattle.net_types.proofs.OrderLemmas.{tags_total}
-use Rattle.net_types.proofs.TieLemmas.{same_from_tie, tag_cmp-IsAntisymmetric, tie_Equal, ties_itself, less}
+use Rattle.net_types.proofs.TieLemmas.{less, same_from_tie, tag_tie, tie_Equal, ties_itself}
 use Rattle.net_types.specs.Keys.{tag_cmp}
 use Rattle.net_types.specs.declared.address.Tag.{Tag}
 use Rattle.net_types.specs.declared.route.Part.{Part}
@@ -63,7 +63,7 @@ module _ (sig : List Part) where
 
     least_here : (u : Tag) (a : Bool) → eq_by_cmp tag_cmp u e.0 ≡ a → cond a (Some e.1) (find tag_cmp u es) ≡ Some sig → e.0.0 ≤ u.0
     least_here u true tie here =
-        let same : u.0 ≡ e.0.0 = ap (λ (t : Tag). t.0) (same_from_tie tag_cmp tag_cmp-IsAntisymmetric u e.0 tie) in
+        let same : u.0 ≡ e.0.0 = ap (λ (t : Tag). t.0) (tag_tie u e.0 tie) in
         omega arith
     least_here u false apart later =
         let more : e.0.0 < u.0 = ranked e.0.0 u.0 Less (sym (after_first u (ap is_some later))) in

@@ -7,7 +7,7 @@ use Rattle.std.specs.FinMap.{FinMap, get, insert, remove, empty, entries, entrie
 use Rattle.std.specs.FinMap.Entries.{find, put, is_sorted, by_order}
 use Rattle.net_types.proofs.OrderLemmas.{prefixes_total, tags_total}
 use Rattle.net_types.proofs.PlaceLemmas.{without}
-use Rattle.net_types.proofs.TieLemmas.{prefix_cmp-IsAntisymmetric, tag_cmp-IsAntisymmetric, same_from_tie, ties_itself}
+use Rattle.net_types.proofs.TieLemmas.{prefix_cmp-IsAntisymmetric, tag_tie, ties_itself}
 use Rattle.net_types.proofs.ValueLemmas.{no_entries, later_apart}
 use Rattle.net_types.specs.Keys.{prefix_cmp, tag_cmp}
 use Rattle.net_types.specs.declared.address.Tag.{Tag}
@@ -75,7 +75,7 @@ none_counted t (e ∷ es) sorted none =
     let rest = none_counted t es (rest_sorted prefix_cmp e es sorted) (λ p is. none p (found_later e es p t sorted is)) in
     elim (eq_by_cmp tag_cmp t e.1) as (λ b. eq_by_cmp tag_cmp t e.1 ≡ b → cond b 1 0 + count_of t es ≡ 0) [
       | true ↦ λ tie.
-          let same : e.1 ≡ t = sym (same_from_tie tag_cmp tag_cmp-IsAntisymmetric t e.1 tie) in
+          let same : e.1 ≡ t = sym (tag_tie t e.1 tie) in
           absurd (none e.0 (ap (λ b. cond b (Some e.1) (find prefix_cmp e.0 es)) (ties_itself prefixes_total e.0) ∙ ap Some same))
       | false ↦ λ tie. omega (arith, rest)
     ] refl
@@ -93,7 +93,7 @@ counted_member t (e ∷ es) sorted some = by (eq_by_cmp tag_cmp t e.1) refl some
   where
     by : (b : Bool) → eq_by_cmp tag_cmp t e.1 ≡ b → 0 < cond b 1 0 + count_of t es → (0 < count_of t es → (p : Prefix) × (find prefix_cmp p es ≡ Some t)) → (p : Prefix) × (find prefix_cmp p (e ∷ es) ≡ Some t)
     by true tie here rest =
-        let same : e.1 ≡ t = sym (same_from_tie tag_cmp tag_cmp-IsAntisymmetric t e.1 tie) in
+        let same : e.1 ≡ t = sym (tag_tie t e.1 tie) in
         (e.0, ap (λ b. cond b (Some e.1) (find prefix_cmp e.0 es)) (ties_itself prefixes_total e.0) ∙ ap Some same)
     by false apart later rest = let one = rest (omega (arith, later)) in (one.0, found_later e es one.0 t sorted one.1)
 

@@ -7,7 +7,7 @@ use Rattle.std.specs.Option.{option_and_then}
 use Rattle.std.proofs.lemmas.Bool.{false≢true, ltb-true, ltb-false, lt-ltb}
 use Rattle.net_types.proofs.OrderLemmas.{tags_total}
 use Rattle.net_types.proofs.SetLemmas.{Member-map, map-Member, map-map}
-use Rattle.net_types.proofs.TieLemmas.{tag_cmp-IsAntisymmetric, same_from_tie, ties_itself}
+use Rattle.net_types.proofs.TieLemmas.{tag_tie, ties_itself}
 use Rattle.net_types.specs.Keys.{prefix_cmp, tag_cmp}
 use Rattle.net_types.specs.Sets.{IsRising, Member}
 use Rattle.net_types.specs.UpdateSpelling.{is_before}
@@ -21,9 +21,7 @@ use Rattle.prefix_classes.specs.Classes.{members}
 use Rattle.prefix_classes.specs.Laws.{AreRising, Change}
 use Rattle.prefix_classes.specs.MergeLaws.{sig_at}
 use Rattle.prefix_classes.specs.Merging.{IsLeastTag, IsMergeOf, IsMove, as_change, moved, used_sig}
-
-pub some_is : {A : Type 0} (o : Option A) (x y : A) → o ≡ Some x → o ≡ Some y → x ≡ y
-some_is o x y e f = cc
+use Rattle.net_types.proofs.FindLemmas.{some_same}
 
 none_or_some : {A : Type 0} (o : Option A) → (o ≡ None) ⊎ ((x : A) × (o ≡ Some x))
 none_or_some None = inl refl
@@ -138,13 +136,13 @@ module _ (tags : FinMap prefix_cmp Tag) (kept : FinMap tag_cmp (List Part)) wher
         never : at.from ≡ to.0 → (t : Tag) → ¬ Member (p, t) moves
         never same t m =
             let move = is.right p t m in
-            let own : move.sig ≡ sig = some_is (sig_at tags kept p) move.sig sig (sig_of_move p t move) known in
-            let from : move.from ≡ at.from = some_is (get tags p) move.from at.from move.had at.had in
+            let own : move.sig ≡ sig = some_same (sig_at tags kept p) move.sig sig (sig_of_move p t move) known in
+            let from : move.from ≡ at.from = some_same (get tags p) move.from at.from move.had at.had in
             move.other (from ∙ same ∙ one_least sig to.0 t to.1 (subst (λ s. IsLeastTag tags kept s t) own move.to))
 
         by : (b : Bool) → eq_by_cmp tag_cmp at.from to.0 ≡ b → HasLeast p sig
         by true tie =
-            let same : at.from ≡ to.0 = same_from_tie tag_cmp tag_cmp-IsAntisymmetric at.from to.0 tie in
+            let same : at.from ≡ to.0 = tag_tie at.from to.0 tie in
             record { to = to.0; now = unmoved tags moves p (never same) ∙ at.had ∙ ap Some same; least = to.1 }
         by false apart = record {
           to = to.0;
@@ -164,8 +162,8 @@ module _ (tags : FinMap prefix_cmp Tag) (kept : FinMap tag_cmp (List Part)) wher
         let first = has_least p one here in
         let second = has_least q other there in (
           λ same.
-              let tag : first.to ≡ second.to = some_is (get (moved tags moves) q) first.to second.to (sym same ∙ first.now) second.now in
-              some_is (used_sig tags kept second.to) one other (ap (used_sig tags kept) (sym tag) ∙ first.least.has) second.least.has,
+              let tag : first.to ≡ second.to = some_same (get (moved tags moves) q) first.to second.to (sym same ∙ first.now) second.now in
+              some_same (used_sig tags kept second.to) one other (ap (used_sig tags kept) (sym tag) ∙ first.least.has) second.least.has,
           λ same. first.now ∙ ap Some (one_least other first.to second.to (subst (λ s. IsLeastTag tags kept s first.to) same first.least) second.least) ∙ sym second.now,
         )
 
@@ -193,11 +191,11 @@ module _ (tags : FinMap prefix_cmp Tag) (kept : FinMap tag_cmp (List Part)) wher
         let some = has_member (moved tags moves) t used in
         let own : sig_at tags kept some.0 ≡ Some sig = sym (merged_keep some.0) ∙ ap (option_and_then (get kept)) some.1 ∙ known in
         let at = has_least some.0 sig own in
-        subst (IsLeastTag tags kept sig) (some_is (get (moved tags moves) some.0) at.to t at.now some.1) at.least
+        subst (IsLeastTag tags kept sig) (some_same (get (moved tags moves) some.0) at.to t at.now some.1) at.least
 
     pub only_moved : (p : Prefix) (t : Tag) → Member (p, t) moves ↔ ((get (moved tags moves) p ≡ Some t) × (¬ (get tags p ≡ Some t)))
     only_moved p t = (
-      λ m. (moved_to p t m, λ same. let move = is.right p t m in move.other (some_is (get tags p) move.from t move.had same)),
+      λ m. (moved_to p t m, λ same. let move = is.right p t m in move.other (some_same (get tags p) move.from t move.had same)),
       λ now. by now (none_or_some (sig_at tags kept p)),
     )
       where
@@ -211,6 +209,6 @@ module _ (tags : FinMap prefix_cmp Tag) (kept : FinMap tag_cmp (List Part)) wher
               had = at.had;
               sig = sig;
               kept_sig = at.kept_sig;
-              to = subst (IsLeastTag tags kept sig) (some_is (get (moved tags moves) p) to.to t to.now now) to.least;
+              to = subst (IsLeastTag tags kept sig) (some_same (get (moved tags moves) p) to.to t to.now now) to.least;
               other = λ same. other (at.had ∙ ap Some same);
             })

@@ -22,6 +22,7 @@ use Rattle.prefix_classes.specs.Merging.{IsFull, IsLeastTag, IsMergeOf, IsMove}
 use Rattle.prefix_classes.specs.Moving.{AreMoves, IsMoveAmong}
 use Rattle.prefix_classes.specs.Placed.{IsLeastBeside}
 use Rattle.net_types.proofs.TestLemmas.{shown}
+use Rattle.std.proofs.lemmas.List.{append-nil}
 
 -- ---- entries of prefixes
 
@@ -166,11 +167,7 @@ pub none_planned : (g : FinMap tag_cmp (List Part)) (all left moves : List (Pref
 none_planned g all left moves whole none = record { done = []; split = whole; moves_so_far = subst (AreMoves g []) (sym none) (no_moves g) }
 
 pub all_planned : (g : FinMap tag_cmp (List Part)) (all left moves : List (Prefix × Tag)) → ArePlanned g all left moves → left ≡ [] → AreMoves g all moves
-all_planned g all left moves so_far none = subst (λ es. AreMoves g es moves) (sym (append_nil so_far.done) ∙ ap (λ es. so_far.done ++ es) (sym none) ∙ so_far.split) so_far.moves_so_far
-  where
-    append_nil : {A : Type 0} (xs : List A) → xs ++ [] ≡ xs
-    append_nil [] = refl
-    append_nil (x ∷ xs) = ap (λ ys. x ∷ ys) (append_nil xs)
+all_planned g all left moves so_far none = subst (λ es. AreMoves g es moves) (sym (append-nil so_far.done) ∙ ap (λ es. so_far.done ++ es) (sym none) ∙ so_far.split) so_far.moves_so_far
 
 module _ (g : FinMap tag_cmp (List Part)) (tags : FinMap prefix_cmp Tag) (left rest moves : List (Prefix × Tag)) (p : Prefix) (from : Tag) (so_far : ArePlanned g (entries tags) left moves) (next : left ≡ (p, from) ∷ rest) where
   whole : so_far.done ++ (p, from) ∷ rest ≡ entries tags

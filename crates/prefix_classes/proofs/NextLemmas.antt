@@ -12,7 +12,7 @@ use Rattle.std.specs.declared.cmp.Ordering.TheVariants.{Less, Equal, Greater}
 use Rattle.ordered_map.specs.Entries.{above}
 use Rattle.std.proofs.lemmas.Bool.{and_parts, ltb-true, lt-ltb}
 use Rattle.net_types.proofs.OrderLemmas.{tags_total}
-use Rattle.net_types.proofs.TieLemmas.{tag_cmp-IsAntisymmetric, same_from_tie, ties_itself, less}
+use Rattle.net_types.proofs.TieLemmas.{less, tag_tie, ties_itself}
 use Rattle.net_types.specs.Keys.{prefix_cmp, tag_cmp}
 use Rattle.net_types.specs.declared.address.Tag.{Tag}
 use Rattle.net_types.specs.declared.prefix.Prefix.{Prefix}
@@ -54,7 +54,7 @@ below_found x q (e ∷ es) below some = by (eq_by_cmp tag_cmp q e.0) refl (λ la
 
     by : (b : Bool) → eq_by_cmp tag_cmp q e.0 ≡ b → (0 < counted es q → x.0 < q.0) → x.0 < q.0
     by true tie rest =
-        let same : q.0 ≡ e.0.0 = ap (λ (t : Tag). t.0) (same_from_tie tag_cmp tag_cmp-IsAntisymmetric q e.0 tie) in
+        let same : q.0 ≡ e.0.0 = ap (λ (t : Tag). t.0) (tag_tie q e.0 tie) in
         let smaller : x.0 < e.0.0 = ranked x.0 e.0.0 Less (sym (less (tag_cmp x e.0) parts.0)) in
         omega arith
     by false apart rest = rest (subst (λ b. 0 < members_of (cond b (Some e.1) (entries.find tag_cmp q es))) apart some)
@@ -96,7 +96,7 @@ module _ (after : Option Tag) where
     }
       where
         least : (u : Tag) → 0 < counted (d ∷ ds) u → (eq_by_cmp tag_cmp u d.0 ≡ true) ⊎ (eq_by_cmp tag_cmp u d.0 ≡ false) → d.0.0 ≤ u.0
-        least u used (inl tie) = let same : u.0 ≡ d.0.0 = ap (λ (t : Tag). t.0) (same_from_tie tag_cmp tag_cmp-IsAntisymmetric u d.0 tie) in omega arith
+        least u used (inl tie) = let same : u.0 ≡ d.0.0 = ap (λ (t : Tag). t.0) (tag_tie u d.0 tie) in omega arith
         least u used (inr apart) = let later = below_found d.0 u ds (first_below tag_cmp d ds sorted) (subst (λ n. 0 < n) (behind u apart) used) in omega (arith, later)
 
     first_behind : is_sorted tag_cmp (d ∷ ds) ≡ true → (is_above after d ≡ true → has_members d ≡ true → ⊥) → (t : Tag) → IsFirst ds t → IsFirst (d ∷ ds) t
@@ -108,14 +108,14 @@ module _ (after : Option Tag) where
       where
         used : (eq_by_cmp tag_cmp t d.0 ≡ true) ⊎ (eq_by_cmp tag_cmp t d.0 ≡ false) → 0 < counted (d ∷ ds) t
         used (inl tie) =
-            let same : t.0 ≡ d.0.0 = ap (λ (u : Tag). u.0) (same_from_tie tag_cmp tag_cmp-IsAntisymmetric t d.0 tie) in
+            let same : t.0 ≡ d.0.0 = ap (λ (u : Tag). u.0) (tag_tie t d.0 tie) in
             let later = below_found d.0 t ds (first_below tag_cmp d ds sorted) first.used in
             absurd (omega (arith, same, later))
         used (inr apart) = subst (λ n. 0 < n) (sym (behind t apart)) first.used
 
         least : (u : Tag) → 0 < counted (d ∷ ds) u → IsAbove after u → (eq_by_cmp tag_cmp u d.0 ≡ true) ⊎ (eq_by_cmp tag_cmp u d.0 ≡ false) → t.0 ≤ u.0
         least u some is (inl tie) = absurd (other
-            (is_above_of after d (subst (IsAbove after) (same_from_tie tag_cmp tag_cmp-IsAntisymmetric u d.0 tie) is))
+            (is_above_of after d (subst (IsAbove after) (tag_tie u d.0 tie) is))
             (lt-ltb 0 d.1.members (subst (λ n. 0 < n) (here u tie) some)))
         least u some is (inr apart) = first.least u (subst (λ n. 0 < n) (behind u apart) some) is
 
@@ -128,7 +128,7 @@ module _ (after : Option Tag) where
 
         by : (eq_by_cmp tag_cmp u d.0 ≡ true) ⊎ (eq_by_cmp tag_cmp u d.0 ≡ false) → counted (d ∷ ds) u ≡ 0
         by (inl tie) = here u tie ∙ no_number d.1.members (λ some. other
-            (is_above_of after d (subst (IsAbove after) (same_from_tie tag_cmp tag_cmp-IsAntisymmetric u d.0 tie) is))
+            (is_above_of after d (subst (IsAbove after) (tag_tie u d.0 tie) is))
             (lt-ltb 0 d.1.members some))
         by (inr apart) = behind u apart ∙ none u is
 

@@ -14,7 +14,7 @@ use Rattle.net_types.proofs.MemberLemmas.{Member-filter_map}
 use Rattle.net_types.proofs.OrderLemmas.{prefix_tie, prefixes_total, tags_total}
 use Rattle.net_types.proofs.OrderedLemmas.{any_member, member_any, ordered_rises, ordered_same}
 use Rattle.net_types.proofs.RisingLemmas.{Member-filter, before, filter-Member}
-use Rattle.net_types.proofs.TieLemmas.{prefix_cmp-IsAntisymmetric, tag_cmp-IsAntisymmetric, same_from_tie, less}
+use Rattle.net_types.proofs.TieLemmas.{less, prefix_cmp-IsAntisymmetric, tag_tie}
 use Rattle.net_types.specs.Attributes.{same_signature}
 use Rattle.net_types.specs.Keys.{prefix_cmp, tag_cmp}
 use Rattle.net_types.specs.Maps.{ordered, tabulate}
@@ -24,10 +24,11 @@ use Rattle.net_types.specs.declared.address.Tag.{Tag}
 use Rattle.net_types.specs.declared.prefix.Prefix.{Prefix}
 use Rattle.net_types.specs.declared.route.Part.{Part}
 use Rattle.prefix_classes.proofs.MemberLemmas.{has_member, some_member}
-use Rattle.prefix_classes.proofs.MergeLemmas.{has_least, is_used, unmoved, used_is, no_move, some_is}
+use Rattle.prefix_classes.proofs.MergeLemmas.{has_least, is_used, unmoved, used_is, no_move}
 use Rattle.prefix_classes.specs.MergeLaws.{HaveSignatures, least_tag}
 use Rattle.prefix_classes.specs.Merging.{IsLeastTag, IsMergeOf, moved, used_sig}
 use Rattle.net_types.proofs.SetLemmas.{given_by}
+use Rattle.net_types.proofs.FindLemmas.{some_same}
 
 -- ---- what a list gives through a function that may give nothing
 
@@ -68,7 +69,7 @@ module _ (tags : FinMap prefix_cmp Tag) (kept : FinMap tag_cmp (List Part)) (ps 
       let used = is_used tags kept t sig is in
       let some = has_member tags t used.0 in
       let m = listed some.0 t some.1 in
-      let own : sig_of some.0 ≡ sig = some_is (get kept t) (sig_of some.0) sig (sig_is some.0 t m some.1) used.1 in
+      let own : sig_of some.0 ≡ sig = some_same (get kept t) (sig_of some.0) sig (sig_is some.0 t m some.1) used.1 in
       Member-filter_map (get tags) (filter (is_alike sig) ps) some.0 t (Member-filter (is_alike sig) ps some.0 m ((signature_test (sig_of some.0) sig).1 own)) some.1
 
   is_of : (sig : List Part) (u : Tag) → Member u (tags_like sig) → used_sig tags kept u ≡ Some sig
@@ -80,9 +81,9 @@ module _ (tags : FinMap prefix_cmp Tag) (kept : FinMap tag_cmp (List Part)) (ps 
 
   least_is_first : (sig : List Part) (t : Tag) → IsLeastTag tags kept sig t → least_tag tags ps sig_of sig ≡ Some t
   least_is_first sig t least =
-      let same = ordered_same tag_cmp tags_total (same_from_tie tag_cmp tag_cmp-IsAntisymmetric) (tags_like sig) in
+      let same = ordered_same tag_cmp tags_total tag_tie (tags_like sig) in
       first_least (ordered tag_cmp (tags_like sig)) t
-      (ordered_rises tag_cmp tags_total (same_from_tie tag_cmp tag_cmp-IsAntisymmetric) (tags_like sig))
+      (ordered_rises tag_cmp tags_total tag_tie (tags_like sig))
       (same.back t (stands_there sig t least.has))
       (λ u m. least.least u (is_of sig u (same.onto u m)))
 

@@ -3,23 +3,12 @@ use Rattle.std.proofs.Common.{◌≡◌, ℕ, suc, ◌+◌, ◌*◌, ◌-◌, �
 use Rattle.std.proofs.lemmas.Bool.{eqb-true, eq-eqb, cases_lt, false≢true}
 use Rattle.std.proofs.Math.Nat.{mod-lt, suc-mul, lt_of_mul-lt-mul_right, mul-le-mul_right, add-mod_right, two-pow-succ, mod-eq_of_lt}
 use Rattle.std.proofs.Math.Pow.{pow-lt}
-use Rattle.std.proofs.lemmas.Nat.{pow_pos, mod-pow-add, div-mul-add, div-add-mod'}
+use Rattle.std.proofs.lemmas.Nat.{pow_pos, div-mul-add, div-add-mod'}
 use Rattle.net_types.specs.declared.address.Ip.{Ip}
 use Rattle.net_types.specs.declared.prefix.Prefix.{Prefix}
 use Rattle.net_types.specs.Prefixes.{covers, any_prefix}
-use Rattle.net_types.proofs.BitLemmas.{same_bits-quotient}
+use Rattle.net_types.proofs.BitLemmas.{fewer_zeros, same_bits-quotient}
 use Rattle.prefix_map.specs.Halves.{past, middle, LiesIn, LiesLow, LiesHigh}
-
--- what a larger power divides is divided by a smaller one
-smaller_divides : (m i k : ℕ) → m % 2 ^ (k + i) ≡ 0 → m % 2 ^ i ≡ 0
-smaller_divides m i k whole =
-    let parts = sym (mod-pow-add m k i) ∙ whole in
-    omega (arith, parts)
-
-divided : (m i n : ℕ) → i ≤ n → m % 2 ^ n ≡ 0 → m % 2 ^ i ≡ 0
-divided m i n h whole =
-    let e : n - i + i ≡ n = omega arith in
-    smaller_divides m i (n - i) (ap (λ j. m % 2 ^ j) e ∙ whole)
 
 -- two multiples differ by the number at least
 multiples : (a m s : ℕ) → a % s ≡ 0 → m % s ≡ 0 → a < m → a + s ≤ m
@@ -32,13 +21,13 @@ multiples a m s e f less =
     omega (arith, first, second, step, more)
 
 stops : (q : Prefix) (m n : ℕ) → 32 - q.len ≤ n → m % 2 ^ n ≡ 0 → q.address.0 < m → past q ≤ m
-stops q m n h whole less = multiples q.address.0 m (2 ^ (32 - q.len)) q.host_bits_zero (divided m (32 - q.len) n h whole) less
+stops q m n h whole less = multiples q.address.0 m (2 ^ (32 - q.len)) q.host_bits_zero (fewer_zeros m (32 - q.len) n h whole) less
 
 pub two_halves : (n : ℕ) → n < 32 → 2 ^ (32 - n) ≡ 2 ^ (31 - n) + 2 ^ (31 - n)
 two_halves n h = let e : 32 - n ≡ suc (31 - n) = omega arith in ap (λ i. 2 ^ i) e ∙ two-pow-succ (31 - n)
 
 pub middle_divided : (p : Prefix) → p.len < 32 → middle p % 2 ^ (31 - p.len) ≡ 0
-middle_divided p h = add-mod_right p.address.0 (2 ^ (31 - p.len)) ∙ divided p.address.0 (31 - p.len) (32 - p.len) (omega arith) p.host_bits_zero
+middle_divided p h = add-mod_right p.address.0 (2 ^ (31 - p.len)) ∙ fewer_zeros p.address.0 (31 - p.len) (32 - p.len) (omega arith) p.host_bits_zero
 
 pub stops_at : (p q : Prefix) → p.len ≤ q.len → q.address.0 < p.address.0 → past q ≤ p.address.0
 stops_at p q h less = stops q p.address.0 (32 - p.len) (omega arith) p.host_bits_zero less
@@ -106,7 +95,7 @@ upper_address p h =
     ap (λ n. p.address.0 + n) kept
 
 pub lower_zeros : (p : Prefix) → p.len < 32 → p.address.0 % 2 ^ (32 - (p.len + 1)) ≡ 0
-lower_zeros p h = divided p.address.0 (32 - (p.len + 1)) (32 - p.len) (omega arith) p.host_bits_zero
+lower_zeros p h = fewer_zeros p.address.0 (32 - (p.len + 1)) (32 - p.len) (omega arith) p.host_bits_zero
 
 pub upper_zeros : (p : Prefix) → p.len < 32 → middle p % 2 ^ (32 - (p.len + 1)) ≡ 0
 upper_zeros p h = ap (λ n. middle p % 2 ^ n) (half_exponent p h) ∙ middle_divided p h

@@ -107,7 +107,3 @@ module _ {V : Type 0} (t u : Trie V) (q : Prefix) (spare left room count : ℕ) 
   took_none is none more =
       let size : 0 + length (entries_of u) ≡ length (entries_of t) = ap (λ es. 0 + length es) is ∙ ap (λ b. cond b 1 0 + length (without q (entries_of t))) (sym none) ∙ length_without prefix_cmp prefixes_total q (entries_of t) (holds _ (trie_sorted t kept.halves)) in
       record { halves = halves; boxes = omega (arith, more, kept.boxes); counted = omega (arith, size, kept.counted); fits = omega (arith, kept.fits) }
-
-pub none_of : {A : Type 0} (o : Option A) → is_some o ≡ false → o ≡ None
-none_of None e = refl
-none_of (Some x) e = cc

@@ -1,7 +1,6 @@
 -- What is left of entries that rise, after the first of those above a prefix.
 use Rattle.std.proofs.Common.{◌≡◌, true, false, cond, Option, List, [], ◌∷◌, sym, ap, subst, ◌∙◌, refl}
 use Rattle.std.specs.Prelude.{Some, None}
-use Rattle.std.specs.Option.{unwrap_or}
 use Rattle.std.specs.Ordering.{is_lt}
 use Rattle.std.specs.declared.cmp.Ordering.TheVariants.{Less, Greater}
 use Rattle.std.specs.FinMap.Entries.{is_sorted, below_all}
@@ -15,9 +14,7 @@ use Rattle.prefix_map.proofs.ListLemmas.{IsBefore, above_all}
 use Rattle.net_types.proofs.TieLemmas.{less}
 use Rattle.prefix_map.proofs.NodeLemmas.{tied_itself}
 use Rattle.prefix_map.proofs.StandLemmas.{turned}
-
-same_first : {A : Type 0} (x y : A) → Some x ≡ Some y → x ≡ y
-same_first x y e = ap (λ o. unwrap_or o x) e
+use Rattle.std.proofs.lemmas.Option.{same_Some}
 
 module _ {V : Type 0} where
   before_below : (x : Prefix) (es : List (Prefix × V)) → below_all prefix_cmp x es ≡ true → IsBefore x es
@@ -37,7 +34,7 @@ module _ {V : Type 0} where
 
   first_above : (x : Prefix) (es : List (Prefix × V)) (e : Prefix × V) → IsBefore x es → first_of_list es ≡ Some e → prefix_cmp x e.0 ≡ Less
   first_above x [] e h is = cc
-  first_above x (d ∷ es) e h is = subst (λ (f : Prefix × V). prefix_cmp x f.0 ≡ Less) (same_first d e is) h.0
+  first_above x (d ∷ es) e h is = subst (λ (f : Prefix × V). prefix_cmp x f.0 ≡ Less) (same_Some d e is) h.0
 
   -- nothing of what follows an entry is lost above its prefix
   above_first : (e : Prefix × V) (es : List (Prefix × V)) → IsBefore e.0 es → above e.0 (e ∷ es) ≡ es
@@ -47,7 +44,7 @@ module _ {V : Type 0} where
   after_all [] e rising is = cc
   after_all (d ∷ es) e rising is =
       let parts = and_parts (below_all prefix_cmp d.0 es) (is_sorted prefix_cmp es) rising in
-      subst (λ (f : Prefix × V). d ∷ es ≡ f ∷ above f.0 (d ∷ es)) (same_first d e is) (ap (λ ds. d ∷ ds) (sym (above_first d es (before_below d.0 es parts.0))))
+      subst (λ (f : Prefix × V). d ∷ es ≡ f ∷ above f.0 (d ∷ es)) (same_Some d e is) (ap (λ ds. d ∷ ds) (sym (above_first d es (before_below d.0 es parts.0))))
 
   after_above : (q : Prefix) (es : List (Prefix × V)) (e : Prefix × V) → is_sorted prefix_cmp es ≡ true → first_of_list (above q es) ≡ Some e → above q es ≡ e ∷ above e.0 es
   after_above q [] e rising is = cc
@@ -56,7 +53,7 @@ module _ {V : Type 0} where
       let below = before_below d.0 es parts.0 in
       elim (is_lt (prefix_cmp q d.0)) as (λ b. is_lt (prefix_cmp q d.0) ≡ b → first_of_list (cond b (d ∷ above q es) (above q es)) ≡ Some e → cond b (d ∷ above q es) (above q es) ≡ e ∷ above e.0 (d ∷ es)) [
         | true ↦ λ low first.
-            subst (λ (f : Prefix × V). d ∷ above q es ≡ f ∷ above f.0 (d ∷ es)) (same_first d e first)
+            subst (λ (f : Prefix × V). d ∷ above q es ≡ f ∷ above f.0 (d ∷ es)) (same_Some d e first)
             (ap (λ ds. d ∷ ds) (above_all q es (before_smaller q d.0 es (less _ low) below) ∙ sym (above_first d es below)))
         | false ↦ λ high first.
             let greater : prefix_cmp e.0 d.0 ≡ Greater = turned d.0 e.0 (first_above d.0 (above q es) e (before_above d.0 q es below) first) in

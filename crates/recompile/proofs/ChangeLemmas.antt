@@ -11,14 +11,14 @@ use Rattle.events.specs.Tags.{capped}
 use Rattle.net_types.proofs.FindLemmas.{not_there}
 use Rattle.net_types.proofs.OrderLemmas.{pairs_total, tags_total}
 use Rattle.net_types.proofs.SetLemmas.{Member-append_left, Member-append_right}
-use Rattle.net_types.proofs.TieLemmas.{ties_itself}
+use Rattle.net_types.proofs.TieLemmas.{pair_tie, tag_tie, ties_itself}
 use Rattle.net_types.specs.Keys.{pair_cmp, prefix_cmp, tag_cmp}
 use Rattle.net_types.specs.Sets.{Member}
 use Rattle.net_types.specs.declared.address.Tag.{Tag}
 use Rattle.net_types.specs.declared.prefix.Prefix.{Prefix}
 use Rattle.net_types.specs.declared.rule.Pair.{Pair}
 use Rattle.prefix_classes.specs.Classes.{count_of, members}
-use Rattle.recompile.proofs.CoverLemmas.{needs_more, pairs_tie, tags_tie}
+use Rattle.recompile.proofs.CoverLemmas.{needs_more}
 use Rattle.recompile.specs.Changing.{CoversAfter, CoversListed, IsChange, QuietChangesKeepJobs}
 use Rattle.recompile.specs.Covering.{AreFew, IsKeptUp, IsPairToDo, IsTagToDo, NeedsAtMost}
 use Rattle.recompile.specs.Setting.{Setting}
@@ -37,15 +37,16 @@ capped_enough s j n few needs = by (nat_lt 1125899906842624 n) refl
 
 -- ---- the start
 
-abbrev second : Prefix × Tag → Tag
+abbrev pub second : Prefix × Tag → Tag
 second e = e.1
 
-counted_is_there : (t : Tag) (es : List (Prefix × Tag)) → 0 < count_of t es → Member t (map second es)
+-- a tag that an entry counts for is that of one
+pub counted_is_there : (t : Tag) (es : List (Prefix × Tag)) → 0 < count_of t es → Member t (map second es)
 counted_is_there t [] some = absurd (omega (arith, some))
 counted_is_there t (e ∷ es) some = by (eq_by_cmp tag_cmp t e.1) refl some (counted_is_there t es)
   where
     by : (b : Bool) → eq_by_cmp tag_cmp t e.1 ≡ b → 0 < cond b 1 0 + count_of t es → (0 < count_of t es → Member t (map second es)) → Member t (map second (e ∷ es))
-    by true is more later = inl (tags_tie t e.1 is)
+    by true is more later = inl (tag_tie t e.1 is)
     by false is more later = inr (later (omega (arith, more)))
 
 pub begun_covers : (before : FinMap prefix_cmp Tag) (fresh : List Tag) (pairs : List Pair) (j : Underway) → j.placed ≡ empty → j.built ≡ empty → AreListed before j.tags → ((t : Tag) → Member t fresh → Member t j.tags) → j.pairs ≡ pairs → j.owed ≡ capped (length (entries before) + length pairs) → CoversListed before fresh pairs j
@@ -97,10 +98,10 @@ module _ {K X : Type 0} (R : K → K → Ordering) (total : IsTotalOrder R) (tie
 -- a job keeps covering where what is emptied is taken out, what is fresh or added is listed, and the added pairs are taken out
 module _ (before after : Setting) (fresh emptied : List Tag) (added : List Pair) (old new : Underway) (placed : new.placed ≡ without_each emptied old.placed) (built : new.built ≡ without_each added old.built) (tags : new.tags ≡ old.tags ++ fresh) (pairs : new.pairs ≡ old.pairs ++ added) (change : IsChange before after fresh emptied added) where
   tag_cases : (t : Tag) → (Member t emptied × (get new.placed t ≡ None)) ⊎ ((¬ Member t emptied) × (get new.placed t ≡ get old.placed t))
-  tag_cases t = subst (λ m. (Member t emptied × (get m t ≡ None)) ⊎ ((¬ Member t emptied) × (get m t ≡ get old.placed t))) (sym placed) (left_of tag_cmp tags_total tags_tie emptied old.placed t)
+  tag_cases t = subst (λ m. (Member t emptied × (get m t ≡ None)) ⊎ ((¬ Member t emptied) × (get m t ≡ get old.placed t))) (sym placed) (left_of tag_cmp tags_total tag_tie emptied old.placed t)
 
   pair_cases : (pair : Pair) → (Member pair added × (get new.built pair ≡ None)) ⊎ ((¬ Member pair added) × (get new.built pair ≡ get old.built pair))
-  pair_cases pair = subst (λ m. (Member pair added × (get m pair ≡ None)) ⊎ ((¬ Member pair added) × (get m pair ≡ get old.built pair))) (sym built) (left_of pair_cmp pairs_total pairs_tie added old.built pair)
+  pair_cases pair = subst (λ m. (Member pair added × (get m pair ≡ None)) ⊎ ((¬ Member pair added) × (get m pair ≡ get old.built pair))) (sym built) (left_of pair_cmp pairs_total pair_tie added old.built pair)
 
   -- a number is zero or not
   some_or_none : (n : ℕ) → (n ≡ 0) ⊎ (0 < n)

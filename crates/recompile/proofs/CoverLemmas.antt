@@ -9,7 +9,7 @@ use Rattle.std.proofs.lemmas.Bool.{ltb-false, ltb-true}
 use Rattle.block_build.specs.Tight.{IsTightForm}
 use Rattle.net_types.proofs.FindLemmas.{not_there}
 use Rattle.net_types.proofs.OrderLemmas.{pairs_total, tags_total}
-use Rattle.net_types.proofs.TieLemmas.{pair_cmp-IsAntisymmetric, same_from_tie, tag_cmp-IsAntisymmetric, ties_itself}
+use Rattle.net_types.proofs.TieLemmas.{pair_tie, tag_tie, ties_itself}
 use Rattle.net_types.specs.Keys.{pair_cmp, tag_cmp}
 use Rattle.net_types.specs.Sets.{Member}
 use Rattle.net_types.specs.declared.address.Tag.{Tag}
@@ -25,12 +25,6 @@ use Rattle.recompile.specs.Units.{KeepsThose, NeedsFewer}
 use Rattle.recompile.specs.Working.{IsProgress, with_built}
 use Rattle.recompile.specs.declared.swap.Progress.TheVariants.{Ready}
 use Rattle.recompile.specs.declared.swap.Swap.{Swap}
-
-pub tags_tie : (x y : Tag) → eq_by_cmp tag_cmp x y ≡ true → x ≡ y
-tags_tie = same_from_tie tag_cmp tag_cmp-IsAntisymmetric
-
-pub pairs_tie : (x y : Pair) → eq_by_cmp pair_cmp x y ≡ true → x ≡ y
-pairs_tie = same_from_tie pair_cmp pair_cmp-IsAntisymmetric
 
 pub needs_more : (s : Setting) (j : Underway) (m n : ℕ) → m ≤ n → NeedsAtMost s j m → NeedsAtMost s j n
 needs_more s j m n le needs = record {
@@ -119,7 +113,7 @@ module _ (s : Setting) (old new : Underway) (placed : new.placed ≡ old.placed)
 module _ (s : Setting) (old new : Underway) (t : Tag) (sig : List Part) (todo : IsTagToDo s.tag old.placed t) (there : get s.kept t ≡ Some sig) (placed : new.placed ≡ insert old.placed t sig) (built : new.built ≡ old.built) (tags : KeepsThose (IsTagToDo s.tag old.placed) old.tags new.tags) (pairs : new.pairs ≡ old.pairs) where
   tag_left : (u : Tag) → IsTagToDo s.tag new.placed u → (¬ (u ≡ t)) × IsTagToDo s.tag old.placed u
   tag_left u left =
-      let before = none_put tag_cmp tags_total tags_tie old.placed new.placed t sig placed u left.1 in
+      let before = none_put tag_cmp tags_total tag_tie old.placed new.placed t sig placed u left.1 in
       (before.0, (left.0, before.1))
 
   pair_left : (pair : Pair) → IsPairToDo s.table new.built pair → IsPairToDo s.table old.built pair
@@ -127,7 +121,7 @@ module _ (s : Setting) (old new : Underway) (t : Tag) (sig : List Part) (todo : 
 
   pub placed_kept : IsKeptUp s old → IsKeptUp s new
   placed_kept kept = record {
-    placed = λ u other has. elim (put_cases tag_cmp tags_total tags_tie old.placed new.placed t sig placed u) [
+    placed = λ u other has. elim (put_cases tag_cmp tags_total tag_tie old.placed new.placed t sig placed u) [
       | inl here ↦ (subst (λ x. 0 < members s.tag x) (sym here.0) todo.0, ap (get s.kept) here.0 ∙ there ∙ sym here.1 ∙ has)
       | inr same ↦ kept.placed u other (sym same ∙ has)
     ];
@@ -156,7 +150,7 @@ module _ (s : Setting) (old new : Underway) (p : Pair) (made : Option (List Rule
 
   pair_still : (q : Pair) → IsPairToDo s.table new.built q → (¬ (q ≡ p)) × IsPairToDo s.table old.built q
   pair_still q left =
-      let before = none_put pair_cmp pairs_total pairs_tie old.built new.built p made built q left.1 in
+      let before = none_put pair_cmp pairs_total pair_tie old.built new.built p made built q left.1 in
       (before.0, (left.0, before.1))
 
   pub built_kept : IsKeptUp s old → IsKeptUp s new
@@ -164,7 +158,7 @@ module _ (s : Setting) (old new : Underway) (p : Pair) (made : Option (List Rule
     placed = λ u sig has. kept.placed u sig (ap (λ m. get m u) (sym placed) ∙ has);
     tags = λ u left. let before = tag_still u left in tags u before (kept.tags u before);
     pairs = λ q left. let before = (pair_still q left).1 in pairs q before (kept.pairs q before);
-    built = λ q others before has was. elim (put_cases pair_cmp pairs_total pairs_tie old.built new.built p made built q) [
+    built = λ q others before has was. elim (put_cases pair_cmp pairs_total pair_tie old.built new.built p made built q) [
       | inl here ↦
           let same_made : made ≡ others = let e : Some made ≡ Some others = sym here.1 ∙ has in cc in
           let same_had : had ≡ before = let e : Some had ≡ Some before = sym there ∙ ap (get s.table) (sym here.0) ∙ was in cc in

@@ -12,6 +12,8 @@ use Rattle.net_types.specs.declared.route.PortInfo.{PortInfo}
 use Rattle.registry.specs.declared.owners.Owned.{Owned}
 use Rattle.registry.specs.Owners.{AreOwners, numbers_at, first_at, first_of}
 use Rattle.std.proofs.lemmas.Iterator.Adapters.{position_from-zero}
+use Rattle.net_types.proofs.FindLemmas.{any_position}
+use Rattle.std.proofs.lemmas.List.{map_push}
 
 position_map : {A B : Type 0} (test : B → Bool) (f : A → B) (n : ℕ) (xs : List A) → position_from test n (map f xs) ≡ position_from (λ x. test (f x)) n xs
 position_map test f n [] = refl
@@ -20,10 +22,6 @@ position_map test f n (x ∷ xs) = ap (cond (test (f x)) (Some n)) (position_map
 position_alike : {A : Type 0} (f g : A → Bool) → ((x : A) → f x ≡ g x) → (n : ℕ) (xs : List A) → position_from f n xs ≡ position_from g n xs
 position_alike f g same n [] = refl
 position_alike f g same n (x ∷ xs) = ap (λ b. cond b (Some n) (position_from f (n + 1) xs)) (same x) ∙ ap (cond (g x) (Some n)) (position_alike f g same (n + 1) xs)
-
-any_position : {A : Type 0} (f : A → Bool) (n : ℕ) (xs : List A) → list_any f xs ≡ is_some (position_from f n xs)
-any_position f n [] = refl
-any_position f n (x ∷ xs) = elim (f x) as (λ b. (b || list_any f xs) ≡ is_some (cond b (Some n) (position_from f (n + 1) xs))) [ true ↦ refl | false ↦ any_position f (n + 1) xs ]
 
 -- the place among the keys is the place among what has them
 pub place_is : {K A B : Type 0} (test : B → Bool) (key : K → B) (name : A → B) (ks : List K) (xs : List A) → map key ks ≡ map name xs → position (λ k. test (key k)) ks ≡ position_from (λ x. test (name x)) 0 xs
@@ -107,10 +105,6 @@ all_false false false false e = record { one = refl; two = refl; three = refl }
 
 -- ---- one more
 
-pub map_more : {A B : Type 0} (f : A → B) (xs : List A) (x : A) → map f (xs ++ x ∷ []) ≡ map f xs ++ f x ∷ []
-map_more f [] x = refl
-map_more f (y ∷ xs) x = ap (λ ys. f y ∷ ys) (map_more f xs x)
-
 pub filter_more : {A : Type 0} (f : A → Bool) (xs : List A) (x : A) → filter f (xs ++ x ∷ []) ≡ cond (f x) (filter f xs ++ x ∷ []) (filter f xs)
 filter_more f [] x = refl
 filter_more {A} f (y ∷ xs) x = more (f y) (f x) (filter f (xs ++ x ∷ [])) (filter f xs) (filter_more f xs x)
@@ -158,7 +152,7 @@ module _ (os new : List Owned) (ps : List PortInfo) (p : PortInfo) (are : AreOwn
   }
     where
       numbers_more : (n : ℕ) (b : Bool) → let qs : List PortInfo = filter (λ (q : PortInfo). nat_eq q.owner.0 n) ps in cond b (map (λ (q : PortInfo). q.number) qs ++ p.number ∷ []) (map (λ (q : PortInfo). q.number) qs) ≡ map (λ (q : PortInfo). q.number) (cond b (qs ++ p ∷ []) qs)
-      numbers_more n true = sym (map_more (λ (q : PortInfo). q.number) (filter (λ (q : PortInfo). nat_eq q.owner.0 n) ps) p)
+      numbers_more n true = sym (map_push (λ (q : PortInfo). q.number) (filter (λ (q : PortInfo). nat_eq q.owner.0 n) ps) p)
       numbers_more n false = refl
 
       none : (b : Bool) → cond b (Some p) None ≡ cond b (Some p) None

@@ -4,7 +4,6 @@ use Rattle.std.proofs.Common.{◌≡◌, ◌⊎◌, ℕ, ◌+◌, ◌≤◌, ◌
 use Rattle.std.specs.Prelude.{Option, Some, None, is_some, unwrap_or}
 use Rattle.std.specs.FinMap.{contains_key-keys, entries, get, keys, values}
 use Rattle.std.specs.Option.{option_and_then, option_map_or}
-use Rattle.std.specs.Ordering.{eq_by_cmp}
 use Rattle.std.proofs.lemmas.Bool.{cases_lt, eqb-true}
 use Rattle.std.proofs.lemmas.List.Sums.{sum_by-cons}
 use Rattle.std.proofs.lemmas.Option.{option_and_then_some}
@@ -36,7 +35,7 @@ use Rattle.net_types.proofs.OrderLemmas.{pairs_total}
 use Rattle.net_types.proofs.OrderedLemmas.{member_any}
 use Rattle.net_types.proofs.PassLemmas.{some_there}
 use Rattle.net_types.proofs.RisingLemmas.{keys-IsRising}
-use Rattle.net_types.proofs.TieLemmas.{pair_cmp-IsAntisymmetric, same_from_tie}
+use Rattle.net_types.proofs.TieLemmas.{pair_tie}
 use Rattle.net_types.specs.Answers.{Policies, is_offered}
 use Rattle.net_types.specs.Cells.{cell_atoms}
 use Rattle.net_types.specs.Exports.{Routing}
@@ -64,9 +63,6 @@ counted_in t (e ∷ es) at =
 
 pub counted : (t : TableOf) → sum_by (λ (rules : List Rule). length rules) (values t) ≡ sum_by (λ pair. length (unwrap_or (get t pair) [])) (keys t)
 counted t = counted_in t (entries t) (entry_at t)
-
-pub tie : (x y : Pair) → eq_by_cmp pair_cmp x y ≡ true → x ≡ y
-tie = same_from_tie pair_cmp pair_cmp-IsAntisymmetric
 
 -- a pair that isn't new was live
 was_live : (live rebuilt : Bool) → (not live || rebuilt) ≡ false → live ≡ true
@@ -129,7 +125,7 @@ module _ (s0 : State) (r : Routing) (is_rebuilt : Pair → Bool) (base : IsBase 
   s2 = record s1 { table = table }
 
   table_is : (pair : Pair) → get table pair ≡ (made pair).0
-  table_is pair = get_tabulated pair_cmp pairs_total tie (λ q. (made q).0) (live_pairs s1) (λ q there. live_Member s1 pooled q (sym (made q).1.there ∙ there)) pair
+  table_is pair = get_tabulated pair_cmp pairs_total pair_tie (λ q. (made q).0) (live_pairs s1) (λ q there. live_Member s1 pooled q (sym (made q).1.there ∙ there)) pair
 
   table_after : IsTableAfter s0 s1 is_rebuilt table
   table_after = record {
@@ -164,7 +160,7 @@ module _ (s0 : State) (r : Routing) (is_rebuilt : Pair → Bool) (base : IsBase 
   -- the rules of a pair are no more than its cells
   each_few : (pair : Pair) → Member pair (keys table) → (is_live_pair s1 pair ≡ true) × (count pair ≤ cells ps s1 pair)
   each_few pair m =
-      let there : is_some (get table pair) ≡ true = contains_key-keys table pair ∙ member_any pair_cmp pairs_total tie pair (keys table) m in
+      let there : is_some (get table pair) ≡ true = contains_key-keys table pair ∙ member_any pair_cmp pairs_total pair_tie pair (keys table) m in
       let rules = some_there (get table pair) there in
       let right = rules_right s0 r change is_rebuilt base.right table table_after pair rules.0 rules.1 in
       let few : length rules.0 ≤ length (meets (cell_atoms ps pair.port right.0)) = right_rules_are_few ps right.0 pair.port rules.0 right.2 in

@@ -1,13 +1,13 @@
 -- The prefixes for which a participant has a best route.
 use Rattle.std.proofs.Common.{◌≡◌, ℕ, ◌+◌, ◌<◌, Bool, true, false, cond, Option, Some, None, List, [], ◌∷◌, ◌++◌, map, take, get_or, length, sym, ap, subst, ◌∙◌, refl, inl, inr, true≢false}
-use Rattle.std.specs.Prelude.{is_some, option_to_list}
+use Rattle.std.specs.Prelude.{option_to_list}
 use Rattle.std.specs.List.{filter_map, cons_option, list_any}
 use Rattle.std.specs.Option.{option_map, option_and_then}
 use Rattle.std.specs.Ordering.{eq_by_cmp}
 use Rattle.std.specs.FinMap.{get}
 use Rattle.std.proofs.lemmas.List.{take_more}
 use Rattle.std.proofs.lemmas.List.Elements.{filter_map-append}
-use Rattle.net_types.proofs.FindLemmas.{filter_map_none, not_there}
+use Rattle.net_types.proofs.FindLemmas.{filter_map_none, not_there, nothing}
 use Rattle.net_types.proofs.LongestLemmas.{any-member, member-any}
 use Rattle.net_types.specs.Changes.{best_attrs}
 use Rattle.net_types.specs.Exports.{Routing, is_given}
@@ -80,10 +80,6 @@ module _ (g : Prefix → Option Attrs) where
 
 -- ---- best routes
 
-none_there : {A : Type 0} (o : Option A) → (is_some o ≡ true → ⊥) → o ≡ None
-none_there None h = refl
-none_there (Some x) h = absurd (h refl)
-
 -- without routes nothing is best
 no_best : (r : Routing) (to : Pid) (p : Prefix) → ((f : Pid) → get r.routes (record { from = f; prefix = p }) ≡ None) → best_attrs r to p ≡ None
 no_best r to p h = ap (λ cs. option_map (λ (c : Candidate). c.attrs) (best_of cs)) (filter_map_none (given r to p) (pids r) (λ f.
@@ -98,4 +94,4 @@ bests_are r who ps es are is = subst (AreBests r who) (sym is) (record {
   where
     by : (p : Prefix) (a : Attrs) → best_attrs r who p ≡ Some a → (b : Bool) → list_any (eq_by_cmp prefix_cmp p) ps ≡ b → Member (p, a) (entries_by (best_attrs r who) ps)
     by p a e true t = into (best_attrs r who) ps p a (any-member ps p t) e
-    by p a e false t = absurd (not_there (best_attrs r who p) a (no_best r who p (λ f. none_there _ (λ there. true≢false (sym (member-any ps p (are.all (record { from = f; prefix = p }) there)) ∙ t)))) e)
+    by p a e false t = absurd (not_there (best_attrs r who p) a (no_best r who p (λ f. nothing _ (λ there. true≢false (sym (member-any ps p (are.all (record { from = f; prefix = p }) there)) ∙ t)))) e)

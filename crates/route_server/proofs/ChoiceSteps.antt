@@ -3,7 +3,7 @@ use Rattle.std.proofs.Common.{◌≡◌, ℕ, ◌+◌, ◌<◌, true, false, Lis
 use Rattle.std.specs.Prelude.{slice_get, option_to_list}
 use Rattle.std.specs.List.{cons_option, filter_map}
 use Rattle.std.specs.Option.{option_and_then, option_map}
-use Rattle.std.proofs.lemmas.List.{take_more}
+use Rattle.std.proofs.lemmas.List.{take_more, map_push}
 use Rattle.std.proofs.lemmas.List.Elements.{filter_map-append}
 use Rattle.std.proofs.lemmas.Option.{slice_get-map, slice_get-get_or}
 use Rattle.net_types.specs.Exports.{Routing, is_given}
@@ -15,7 +15,7 @@ use Rattle.decision.specs.declared.candidate.Candidate as sight
 use Rattle.route_server.specs.Choices.{seen_by, AreAt, IsBestAt, AreChosen}
 use Rattle.route_server.specs.Rows.{held_by, offered, held_at}
 use Rattle.route_server.specs.declared.held.Held.{Held}
-use Rattle.route_server.proofs.RowSteps.{offered_more, map_push}
+use Rattle.route_server.proofs.RowSteps.{offered_more}
 
 -- one route more that is given, and one that isn't
 pub at_more : (r : Routing) (to : Pid) (p : Prefix) (row : List Held) (place : ℕ) (given now : List ℕ) (h : Held) → place < length row → h ≡ get_or row place h → true ≡ is_given r h.from to p h.attrs → now ≡ given ++ place ∷ []

@@ -1,5 +1,5 @@
 -- The routes without a participant's.
-use Rattle.std.proofs.Common.{◌≡◌, ℕ, ◌+◌, ◌<◌, Bool, true, false, cond, ◌||◌, not, eqb, List, [], ◌∷◌, ◌++◌, map, filter, take, get_or, length, sym, ap, subst, ◌∙◌, refl, true≢false}
+use Rattle.std.proofs.Common.{◌≡◌, ℕ, ◌+◌, ◌<◌, Bool, true, false, cond, ◌||◌, not, eqb, List, [], ◌∷◌, ◌++◌, map, filter, take, get_or, length, sym, ap, subst, ◌∙◌, refl}
 use Rattle.std.specs.Prelude.{Option, Some, None, is_some, IfSome}
 use Rattle.std.specs.List.{list_any}
 use Rattle.std.specs.Option.{option_and_then}
@@ -28,6 +28,7 @@ use Rattle.route_server.specs.Served.{AreAll, AreDeclared, AreOwned, Carries, Ca
 use Rattle.route_server.specs.declared.change.Change.{Change}
 use Rattle.route_server.specs.declared.held.Held.{Held}
 use Rattle.route_server.proofs.ServedLaws.{get-routes_of}
+use Rattle.net_types.proofs.WidthTests.{any_found}
 
 found_key : (p : Prefix) (es : List (Prefix × List Held)) → is_some (find prefix_cmp p es) ≡ list_any (eq_by_cmp prefix_cmp p) (map (λ (e : Prefix × List Held). e.0) es)
 found_key p [] = refl
@@ -59,25 +60,13 @@ carries m from all ps are is =
       all = λ p e. Member-filter t all p (are.all p e) e;
     })
 
-any_passes : {A : Type 0} (f : A → Bool) (xs : List A) → list_any f xs ≡ true → (x : A) × (f x ≡ true)
-any_passes f [] e = absurd (true≢false (sym e))
-any_passes {A} f (x ∷ xs) e = by (f x) refl e (any_passes f xs)
-  where
-    by : (b : Bool) → f x ≡ b → (b || list_any f xs) ≡ true → (list_any f xs ≡ true → (y : A) × (f y ≡ true)) → (y : A) × (f y ≡ true)
-    by true t h later = (x, t)
-    by false t h later = later h
-
-pub any_alike : {A : Type 0} (f g : A → Bool) → ((x : A) → f x ≡ g x) → (xs : List A) → list_any f xs ≡ list_any g xs
-any_alike f g h [] = refl
-any_alike f g h (x ∷ xs) = ap (λ b. b || list_any f xs) (h x) ∙ ap (λ b. g x || b) (any_alike f g h xs)
-
 pub carry_any : (m : FinMap route_cmp Attrs) (froms : List Pid) (all ps : List Prefix) → AreAll m all → ps ≡ filter (λ p. list_any (λ (from : Pid). is_some (get m (record { from = from; prefix = p }))) froms) all → CarryAny m froms ps
 carry_any m froms all ps are is =
     let t : Prefix → Bool = λ p. list_any (λ (from : Pid). is_some (get m (record { from = from; prefix = p }))) froms in
     subst (CarryAny m froms) (sym is) (record {
       rising = filter-IsRising _ t all are.rising;
       some = λ p k. (filter-Member t all p k).passes;
-      all = λ p e. let one = any_passes (λ (from : Pid). is_some (get m (record { from = from; prefix = p }))) froms e in Member-filter t all p (are.all (record { from = one.0; prefix = p }) one.1) e;
+      all = λ p e. let one = any_found (λ (from : Pid). is_some (get m (record { from = from; prefix = p }))) froms e in Member-filter t all p (are.all (record { from = one.0; prefix = p }) one.1.passes) e;
     })
 
 -- ---- without a participant's routes

@@ -22,37 +22,14 @@ use Rattle.net_types.specs.declared.route.Part.{Part}
 use Rattle.route_server.specs.Proposed.{added, both, trimmed_routing}
 use Rattle.route_server.specs.Served.{CarryAny}
 use Rattle.route_server.proofs.ExportLaws.{set_lists}
-use Rattle.route_server.proofs.ProposalLaws.{filter_map_alike}
+use Rattle.route_server.proofs.RowLaws.{filter_map_alike}
+use Rattle.net_types.proofs.PassLemmas.{counts_both, filter-map}
 
 abbrev named_in : List Pid → ℕ → Bool
 named_in names n = list_any (λ (q : Pid). eqb q.0 n) names
 
 pid_is : (p q : Pid) → p.0 ≡ q.0 → p ≡ q
 pid_is p q e = λ i. record { 0 = e i }
-
-or_and : (e a b : Bool) → (e || (a && b)) ≡ ((e || a) && (e || b))
-or_and true a b = refl
-or_and false a b = refl
-
-any_cond : (f : Pid → Bool) (b : Bool) (xs ys : List Pid) → list_any f (cond b xs ys) ≡ cond b (list_any f xs) (list_any f ys)
-any_cond f true xs ys = refl
-any_cond f false xs ys = refl
-
--- named in both is named in each
-any_both : (old new : List Pid) (n : ℕ) → named_in (both old new) n ≡ (named_in old n && named_in new n)
-any_both [] new n = refl
-any_both (p ∷ old) new n =
-    any_cond (λ (q : Pid). eqb q.0 n) (named_in new p.0) (p ∷ both old new) (both old new)
-    ∙ step (named_in new p.0) (eqb p.0 n) (named_in old n) (named_in new n) (named_in (both old new) n) (λ e. ap (named_in new) (eqb-true p.0 n e)) (any_both old new n)
-  where
-    step : (b e a d x : Bool) → (e ≡ true → b ≡ d) → x ≡ (a && d) → cond b (e || x) x ≡ ((e || a) && d)
-    step true true a d x same h = same refl
-    step true false a d x same h = h
-    step false true a d x same h = h ∙ ap (λ z. a && z) (sym (same refl)) ∙ and-false a ∙ same refl
-    step false false a d x same h = h
-
-counts_both : (old new : List Pid) (chosen who : Pid) → counts (both old new) chosen who ≡ (counts old chosen who && counts new chosen who)
-counts_both old new chosen who = ap (λ z. eqb who.0 chosen.0 || z) (any_both old new who.0) ∙ or_and (eqb who.0 chosen.0) (named_in old who.0) (named_in new who.0)
 
 -- ---- lists
 
@@ -62,14 +39,6 @@ filter_twice {A} f g h is (x ∷ xs) = step (g x) (filter_twice f g h is xs) ∙
   where
     step : (b : Bool) → filter f (filter g xs) ≡ filter h xs → filter f (cond b (x ∷ filter g xs) (filter g xs)) ≡ cond (b && f x) (x ∷ filter h xs) (filter h xs)
     step true e = ap (λ ys. cond (f x) (x ∷ ys) ys) e
-    step false e = e
-
-filter_mapped : {A B : Type 0} (f : B → Bool) (g : A → B) (xs : List A) → filter f (map g xs) ≡ map g (filter (λ x. f (g x)) xs)
-filter_mapped f g [] = refl
-filter_mapped {A} {B} f g (x ∷ xs) = step (f (g x)) (filter_mapped f g xs)
-  where
-    step : (b : Bool) → filter f (map g xs) ≡ map g (filter (λ y. f (g y)) xs) → cond b (g x ∷ filter f (map g xs)) (filter f (map g xs)) ≡ map g (cond b (x ∷ filter (λ y. f (g y)) xs) (filter (λ y. f (g y)) xs))
-    step true e = ap (λ ys. g x ∷ ys) e
     step false e = e
 
 map_filtered : {A B C : Type 0} (f : B → C) (g : A → Option B) (xs : List A) → map f (filter_map g xs) ≡ filter_map (λ x. option_map f (g x)) xs
@@ -103,7 +72,7 @@ module _ (r : Routing) (who : Pid) (named : List Pid) (q : Prefix) (known : who.
 
   trimmed_offers : (chosen : Pid) (cs : List Candidate) → filter (λ (o : Offer). counts named chosen o.exporter) (offers_by (named_by r who) chosen cs) ≡ offers_by kept chosen cs
   trimmed_offers chosen cs =
-      filter_mapped (λ (o : Offer). counts named chosen o.exporter) (offer r) (filter (λ (g : Candidate). counts (named_by r who) chosen g.from) cs)
+      filter-map (λ (o : Offer). counts named chosen o.exporter) (offer r) (filter (λ (g : Candidate). counts (named_by r who) chosen g.from) cs)
       ∙ ap (map (offer r)) (filter_twice (λ (g : Candidate). counts named chosen g.from) (λ (g : Candidate). counts (named_by r who) chosen g.from) (λ (g : Candidate). counts kept chosen g.from)
       (λ g. counts_both (named_by r who) named chosen g.from) cs)
 
@@ -145,12 +114,13 @@ module _ (r : Routing) (who : Pid) (named : List Pid) (known : who.0 < length r.
   part_naming names to c = record { sender = to; best = c.from; offers = map (offer r) (counted_by names c.from (candidates r to q)) }
 
   counts_same : (chosen f : Pid) (a : Attrs) → route r f q ≡ Some a → counts still chosen f ≡ counts named chosen f
-  counts_same chosen f a there = ap (λ z. eqb f.0 chosen.0 || z) (any_both (named_by r who) named f.0 ∙ by (named_in named f.0) refl (named_in (named_by r who) f.0) refl)
+  counts_same chosen f a there = counts_both (named_by r who) named chosen f ∙ by (eqb f.0 chosen.0) (named_in named f.0) refl (named_in (named_by r who) f.0) refl
     where
-      by : (d : Bool) → named_in named f.0 ≡ d → (o : Bool) → named_in (named_by r who) f.0 ≡ o → (o && d) ≡ d
-      by true t true s = refl
-      by true t false s = absurd (true≢false (sym (ap is_some (sym (none f t s) ∙ there))))
-      by false t o s = and-false o
+      by : (e d : Bool) → named_in named f.0 ≡ d → (o : Bool) → named_in (named_by r who) f.0 ≡ o → ((e || o) && (e || d)) ≡ (e || d)
+      by true d t o s = refl
+      by false true t true s = refl
+      by false true t false s = absurd (true≢false (sym (ap is_some (sym (none f t s) ∙ there))))
+      by false false t o s = and-false o
 
   given_same : (chosen to : Pid) (xs : List Pid) → counted_by still chosen (filter_map (given r to q) xs) ≡ counted_by named chosen (filter_map (given r to q) xs)
   given_same chosen to [] = refl

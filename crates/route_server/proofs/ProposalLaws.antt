@@ -1,10 +1,9 @@
 -- What changes reach, and where nothing is another.
 use Rattle.std.proofs.Common.{◌≡◌, Bool, true, false, cond, eqb, List, [], ◌∷◌, map, filter, sym, ap, subst, ◌∙◌, refl, inl, inr, true≢false}
 use Rattle.std.specs.Prelude.{Option, Some, None, unwrap_or}
-use Rattle.std.specs.List.{filter_map, cons_option}
 use Rattle.std.specs.Option.{option_map, option_map_or, option_and_then}
 use Rattle.std.specs.FinMap.{FinMap, get}
-use Rattle.std.proofs.lemmas.Bool.{and_parts, and_from, eqb-true, eq-eqb}
+use Rattle.std.proofs.lemmas.Bool.{and_parts, eqb-true}
 use Rattle.net_types.proofs.PrefixLemmas.{prefix_ext}
 use Rattle.net_types.specs.Changes.{Differs}
 use Rattle.net_types.specs.Exports.{same_prefix, is_given}
@@ -22,12 +21,11 @@ use Rattle.route_server.specs.Effects.{AreRowsOf}
 use Rattle.route_server.specs.Rows.{look, names_at}
 use Rattle.route_server.specs.Served.{Served, routing, one_after, route_after, Reaches}
 use Rattle.route_server.specs.declared.change.Change.{Change}
+use Rattle.route_server.proofs.RowLaws.{filter_map_alike}
+use Rattle.route_server.proofs.ServedLaws.{same_prefix_self}
 
 same_prefix_is : (p q : Prefix) → same_prefix p q ≡ true → p ≡ q
 same_prefix_is p q e = let k = and_parts (eqb p.address.0 q.address.0) (eqb p.len q.len) e in prefix_ext p q (eqb-true p.address.0 q.address.0 k.0) (eqb-true p.len q.len k.1)
-
-same_prefix_self : (p : Prefix) → same_prefix p p ≡ true
-same_prefix_self p = and_from (eqb p.address.0 p.address.0) (eqb p.len p.len) (eq-eqb p.address.0 p.address.0 refl) (eq-eqb p.len p.len refl)
 
 module _ (after : FinMap route_cmp Attrs) where
   reach : (cs : List Change) (f : RouteKey → Option Attrs) → ((c : Change) → Member c cs → (from : Pid) → get after (record { from = from; prefix = c.prefix }) ≡ look c.row from.0)
@@ -51,10 +49,6 @@ module _ (after : FinMap route_cmp Attrs) where
   changes_reach before cs ds is rows elsewhere = subst (λ xs. Reaches xs before after) (sym is) (record {
     routes = λ q. reach cs (get before) rows.each (λ k away. sym (elsewhere k away)) q;
   })
-
-pub filter_map_alike : {X Y : Type 0} (f g : X → Option Y) → ((x : X) → f x ≡ g x) → (xs : List X) → filter_map f xs ≡ filter_map g xs
-filter_map_alike f g h [] = refl
-filter_map_alike f g h (x ∷ xs) = ap (λ o. cons_option o (filter_map f xs)) (h x) ∙ ap (cons_option (g x)) (filter_map_alike f g h xs)
 
 -- where the same routes are given to everybody, and the same are named, nothing is another
 module _ (names : Registered) (v w : Served) (p : Prefix) (named : v.named ≡ w.named) (same : (to from : Pid) → given (routing names v) to p from ≡ given (routing names w) to p from) where

@@ -1,5 +1,5 @@
 -- The routes to choose from are what a row offers.
-use Rattle.std.proofs.Common.{◌≡◌, ℕ, suc, zero, ◌+◌, ◌<◌, ◌≤◌, Bool, true, false, cond, eqb, List, [], ◌∷◌, map, length, Option, Some, None, sym, ap, subst, ◌∙◌, refl, arith}
+use Rattle.std.proofs.Common.{◌≡◌, ℕ, suc, zero, ◌+◌, ◌<◌, ◌≤◌, Bool, true, false, cond, eqb, List, [], ◌∷◌, length, Option, Some, None, sym, ap, subst, ◌∙◌, refl, arith}
 use Rattle.std.specs.List.{filter_map, cons_option}
 use Rattle.std.specs.Option.{option_and_then}
 use Rattle.std.proofs.lemmas.Bool.{eqb-true, eqb-false, ne_eqb}
@@ -10,6 +10,7 @@ use Rattle.net_types.specs.declared.route.Attrs.{Attrs}
 use Rattle.net_types.specs.declared.address.Pid.{Pid}
 use Rattle.route_server.specs.Rows.{offered, look, Rising}
 use Rattle.route_server.specs.declared.held.Held.{Held}
+use Rattle.net_types.proofs.FindLemmas.{filter_map-map}
 
 -- a row of participants below high is no longer than that
 pub rising_short : (low high : ℕ) (row : List Held) → low ≤ high → Rising low high row → length row + low ≤ high
@@ -62,18 +63,14 @@ by_numbers f (suc count) low (h ∷ hs) r = first_step (eqb h.from.0 low) refl (
         ap (λ o. cons_option (option_and_then (f low) o) (by_number f (h ∷ hs) (numbers (low + 1) count))) (look_below low (low + 1) ((low + 1) + count) (h ∷ hs) (less, subst (λ k. h.from.0 < k) up r.1, subst (λ k. Rising (h.from.0 + 1) k hs) up r.2) (omega arith))
         ∙ later (h ∷ hs) (less, subst (λ k. h.from.0 < k) up r.1, subst (λ k. Rising (h.from.0 + 1) k hs) up r.2)
 
-filter_map-mapped : {X Y Z : Type 0} (f : Y → Option Z) (g : X → Y) (xs : List X) → filter_map f (map g xs) ≡ filter_map (λ x. f (g x)) xs
-filter_map-mapped f g [] = refl
-filter_map-mapped f g (x ∷ xs) = ap (cons_option (f (g x))) (filter_map-mapped f g xs)
-
-filter_map_alike : {X Y : Type 0} (f g : X → Option Y) → ((x : X) → f x ≡ g x) → (xs : List X) → filter_map f xs ≡ filter_map g xs
+pub filter_map_alike : {X Y : Type 0} (f g : X → Option Y) → ((x : X) → f x ≡ g x) → (xs : List X) → filter_map f xs ≡ filter_map g xs
 filter_map_alike f g h [] = refl
 filter_map_alike f g h (x ∷ xs) = ap (λ o. cons_option o (filter_map f xs)) (h x) ∙ ap (cons_option (g x)) (filter_map_alike f g h xs)
 
 -- The candidates are what the row of a prefix offers.
 pub candidates_offered : (r : Routing) (to : Pid) (p : Prefix) (row : List Held) → Rising 0 (length r.participants) row → ((from : Pid) → route r from p ≡ look row from.0) → candidates r to p ≡ offered r to p row
 candidates_offered r to p row rising is =
-    filter_map-mapped (given r to p) (λ n. record { 0 = n }) (numbers 0 (length r.participants))
+    filter_map-map (given r to p) (λ n. record { 0 = n }) (numbers 0 (length r.participants))
     ∙ filter_map_alike (λ n. given r to p (record { 0 = n })) (λ n. option_and_then (f n) (look row n)) (λ n. ap (option_and_then (f n)) (is (record { 0 = n }))) (numbers 0 (length r.participants))
     ∙ by_numbers f (length r.participants) 0 row (subst (λ k. Rising 0 k row) zero_more rising)
   where

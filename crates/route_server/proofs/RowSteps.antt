@@ -3,7 +3,7 @@ use Rattle.std.proofs.Common.{◌≡◌, ℕ, ◌+◌, ◌<◌, ◌≤◌, Bool,
 use Rattle.std.specs.Prelude.{slice_get}
 use Rattle.std.specs.List.{cons_option}
 use Rattle.std.specs.Option.{option_and_then, option_map}
-use Rattle.std.proofs.lemmas.List.{take_more, take_more_set, get_or-take, length-take}
+use Rattle.std.proofs.lemmas.List.{take_more, take_more_set, get_or-take, length-take, map_push}
 use Rattle.std.proofs.lemmas.List.Elements.{filter_map-append}
 use Rattle.std.proofs.lemmas.Option.{slice_get-map, slice_get-get_or}
 use Rattle.net_types.specs.Exports.{Routing, is_given}
@@ -23,10 +23,6 @@ offered_more r to p row i h b within is given =
     ap (offered r to p) (take_more row i h within ∙ ap (λ x. take i row ++ x ∷ []) (sym is))
     ∙ filter_map-append (held_given r to p) (take i row) (h ∷ [])
     ∙ ap (λ t. offered r to p (take i row) ++ cons_option (cond t (Some (held_by r h)) None) []) (sym given)
-
-pub map_push : {X Y : Type 0} (f : X → Y) (xs : List X) (x : X) → map f (xs ++ x ∷ []) ≡ map f xs ++ f x ∷ []
-map_push f [] x = refl
-map_push f (y ∷ xs) x = ap (λ ys. f y ∷ ys) (map_push f xs x)
 
 -- the routes seen so far, with their places
 pub record IsSeen (r : Routing) (to : Pid) (p : Prefix) (row : List Held) (place count : ℕ) (seen : List Candidate) (places : List ℕ) : Type 0 where

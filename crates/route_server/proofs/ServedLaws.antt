@@ -6,11 +6,11 @@ use Rattle.std.specs.Option.{option_and_then, option_map}
 use Rattle.std.specs.Ordering.{eq_by_cmp}
 use Rattle.std.specs.FinMap.{FinMap, empty, get, get-empty, insert, remove, entries, find, same_map, get-entries, get-insert, get-remove}
 use Rattle.route_server.specs.declared.change.Change.{Change}
-use Rattle.std.proofs.lemmas.Bool.{and_parts, and_from, or_parts, eqb-true, eq-eqb, both_ways, false_from_ne_true}
+use Rattle.std.proofs.lemmas.Bool.{and_parts, and_from, or_parts, eqb-true, both_ways, false_from_ne_true}
 use Rattle.std.proofs.lemmas.List.Folds.{list_any-append}
 use Rattle.net_types.proofs.PrefixLemmas.{prefix_ext}
 use Rattle.net_types.proofs.OrderLemmas.{routes_total, prefixes_total, prefix_tie}
-use Rattle.net_types.proofs.TieLemmas.{same_from_tie, route_cmp-IsAntisymmetric, ties_itself}
+use Rattle.net_types.proofs.TieLemmas.{route_cmp-IsAntisymmetric, route_tie, ties_itself}
 use Rattle.net_types.proofs.MapLemmas.{get-tabulate}
 use Rattle.net_types.specs.Keys.{RouteKey, prefix_cmp, route_cmp}
 use Rattle.net_types.specs.Exports.{same_prefix}
@@ -29,9 +29,7 @@ use Rattle.route_server.specs.Served.{Served, keys_in, route_in, routes_of, AreR
 use Rattle.route_server.specs.declared.held.Held.{Held}
 use Rattle.route_server.specs.declared.terms.Terms.{Terms}
 use Rattle.route_server.proofs.RowLaws.{candidates_offered, look_below}
-
-exact_route : (q k : RouteKey) → eq_by_cmp route_cmp q k ≡ true → q ≡ k
-exact_route = same_from_tie route_cmp route_cmp-IsAntisymmetric
+use Rattle.net_types.proofs.SameLemmas.{nat_itself}
 
 same_key : (q : RouteKey) (p : Prefix) (h : Held) → eq_by_cmp prefix_cmp q.prefix p ≡ true → eqb h.from.0 q.from.0 ≡ true → eq_by_cmp route_cmp q (record { from = h.from; prefix = p }) ≡ true
 same_key q p h s e =
@@ -65,20 +63,17 @@ got false o h = sym (h refl)
 -- the routes are what the rows have
 pub get-routes_of : (rows : FinMap prefix_cmp (List Held)) (q : RouteKey) → get (routes_of rows) q ≡ route_in rows q
 get-routes_of rows q =
-    get-tabulate route_cmp routes_total (route_in rows) (λ a k e. ap (route_in rows) (sym (exact_route a k e))) (flat_map keys_in (entries rows)) q
+    get-tabulate route_cmp routes_total (route_in rows) (λ a k e. ap (route_in rows) (sym (route_tie a k e))) (flat_map keys_in (entries rows)) q
     ∙ got (list_any (eq_by_cmp route_cmp q) (flat_map keys_in (entries rows))) (route_in rows q)
     (λ none. ap (option_and_then (λ row. look row q.from.0)) (get-entries rows q.prefix) ∙ not_listed (entries rows) q none)
 
 pub rows_rise : (rows : FinMap prefix_cmp (List Held)) (p : Prefix) (row : List Held) → AreRows rows → Some row ≡ get rows p → Rising 0 256 row
 rows_rise rows p row are e = subst (λ o. IfSome o (λ r. Rising 0 256 r)) (sym e) (are p)
 
-eqb_self : (a : ℕ) → eqb a a ≡ true
-eqb_self a = eq-eqb a a refl
-
 -- where all in the row are below n
 rising_below : (n low : ℕ) (row : List Held) → Rising low 256 row → ((m : ℕ) → IfSome (look row m) (λ _. m < n)) → Rising low n row
 rising_below n low [] r h = tt
-rising_below n low (x ∷ xs) r h = (r.0, subst (λ b. IfSome (cond b (Some x.attrs) (look xs x.from.0)) (λ _. x.from.0 < n)) (eqb_self x.from.0) (h x.from.0), rising_below n (x.from.0 + 1) xs r.2 (λ m. below_step m (eqb x.from.0 m) refl (h m)))
+rising_below n low (x ∷ xs) r h = (r.0, subst (λ b. IfSome (cond b (Some x.attrs) (look xs x.from.0)) (λ _. x.from.0 < n)) (nat_itself x.from.0) (h x.from.0), rising_below n (x.from.0 + 1) xs r.2 (λ m. below_step m (eqb x.from.0 m) refl (h m)))
   where
     below_step : (m : ℕ) (b : Bool) → eqb x.from.0 m ≡ b → IfSome (cond b (Some x.attrs) (look xs m)) (λ _. m < n) → IfSome (look xs m) (λ _. m < n)
     below_step m true e k = let is = eqb-true x.from.0 m e in subst (λ o. IfSome o (λ _. m < n)) (sym (look_below m (x.from.0 + 1) 256 xs r.2 (omega (arith, is)))) tt
@@ -97,15 +92,15 @@ best_of_row names s r row to p same rising is declared =
     (rising_below (length names.participants) 0 row rising (λ m. subst (λ o. IfSome o (λ _. m < length names.participants)) (is (record { 0 = m })) (declared (record { from = record { 0 = m }; prefix = p }))))
     is))
 
+pub same_prefix_self : (p : Prefix) → same_prefix p p ≡ true
+same_prefix_self p = and_from (eqb p.address.0 p.address.0) (eqb p.len p.len) (nat_itself p.address.0) (nat_itself p.len)
+
 same_of : (p q : Prefix) → eq_by_cmp prefix_cmp q p ≡ same_prefix p q
 same_of p q = tied_is (eq_by_cmp prefix_cmp q p) refl (same_prefix p q) refl
   where
-    self : (p : Prefix) → same_prefix p p ≡ true
-    self p = and_from (eqb p.address.0 p.address.0) (eqb p.len p.len) (eqb_self p.address.0) (eqb_self p.len)
-
     tied_is : (b : Bool) → eq_by_cmp prefix_cmp q p ≡ b → (d : Bool) → same_prefix p q ≡ d → b ≡ d
     tied_is true e true k = refl
-    tied_is true e false k = sym (subst (λ x. same_prefix p x ≡ true) (sym (prefix_tie q p e)) (self p)) ∙ k
+    tied_is true e false k = sym (subst (λ x. same_prefix p x ≡ true) (sym (prefix_tie q p e)) (same_prefix_self p)) ∙ k
     tied_is false e true k =
         let parts = and_parts (eqb p.address.0 q.address.0) (eqb p.len q.len) k in
         let is : q ≡ p = prefix_ext q p (sym (eqb-true p.address.0 q.address.0 parts.0)) (sym (eqb-true p.len q.len parts.1)) in

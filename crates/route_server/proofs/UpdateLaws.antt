@@ -15,7 +15,7 @@ use Rattle.net_types.proofs.MemberLemmas.{Member-permutation}
 use Rattle.net_types.proofs.OrderLemmas.{routes_total, prefixes_total, prefix_tie}
 use Rattle.net_types.proofs.RisingLemmas.{before_itself, sorted-IsRising}
 use Rattle.net_types.proofs.SetLemmas.{Member-append_left, Member-append_right, Member-append_cases, Member-map, map-Member, map-append}
-use Rattle.net_types.proofs.TieLemmas.{same_from_tie, route_cmp-IsAntisymmetric, ties_itself}
+use Rattle.net_types.proofs.TieLemmas.{route_tie, ties_itself}
 use Rattle.net_types.specs.Changes.{withdrawn, announced_by, announced_with, updated}
 use Rattle.net_types.specs.Keys.{RouteKey, prefix_cmp, route_cmp}
 use Rattle.net_types.specs.Sets.{Member, IsRising}
@@ -69,14 +69,11 @@ prefix_of_member cs ps c is m = subst (Member c.prefix) is (Member-map (λ (d : 
 abbrev key : Pid → Prefix → RouteKey
 key f p = record { from = f; prefix = p }
 
-exact_route : (q k : RouteKey) → eq_by_cmp route_cmp q k ≡ true → q ≡ k
-exact_route = same_from_tie route_cmp route_cmp-IsAntisymmetric
-
 other_prefix : (q : RouteKey) (from : Pid) (p : Prefix) → (q.prefix ≡ p → ⊥) → eq_by_cmp route_cmp q (key from p) ≡ false
-other_prefix q from p h = false_from_ne_true _ (λ t. h (ap (λ (k : RouteKey). k.prefix) (exact_route q (key from p) t)))
+other_prefix q from p h = false_from_ne_true _ (λ t. h (ap (λ (k : RouteKey). k.prefix) (route_tie q (key from p) t)))
 
 other_from : (q : RouteKey) (from : Pid) (p : Prefix) → eqb from.0 q.from.0 ≡ false → eq_by_cmp route_cmp q (key from p) ≡ false
-other_from q from p e = false_from_ne_true _ (λ t. true≢false (sym (ap (λ (k : RouteKey). eqb from.0 k.from.0) (exact_route q (key from p) t) ∙ eq-eqb from.0 from.0 refl) ∙ e))
+other_from q from p e = false_from_ne_true _ (λ t. true≢false (sym (ap (λ (k : RouteKey). eqb from.0 k.from.0) (route_tie q (key from p) t) ∙ eq-eqb from.0 from.0 refl) ∙ e))
 
 own_key : (q : RouteKey) (from : Pid) (p : Prefix) → q.prefix ≡ p → eqb from.0 q.from.0 ≡ true → eq_by_cmp route_cmp q (key from p) ≡ true
 own_key q from p at e =
@@ -212,7 +209,7 @@ module _ (fits : RouteKey → Attrs → Type 0) (from : Pid) where
     here_fit (p ∷ ps) m h = here_fit ps (insert m (key from p) attrs) (λ k. subst (λ o. IfSome o (fits k)) (sym (get-insert routes_total m (key from p) attrs k)) (by k (eq_by_cmp route_cmp k (key from p)) refl))
       where
         by : (k : RouteKey) (b : Bool) → eq_by_cmp route_cmp k (key from p) ≡ b → IfSome (cond b (Some attrs) (get m k)) (fits k)
-        by k true e = subst (λ q. fits q attrs) (sym (exact_route k (key from p) e)) (own p)
+        by k true e = subst (λ q. fits q attrs) (sym (route_tie k (key from p) e)) (own p)
         by k false e = h k
 
   with_fit : (o : Option Attrs) (ps : List Prefix) (m : FinMap route_cmp Attrs) → ((a : Attrs) → o ≡ Some a → (p : Prefix) → fits (key from p) a) → ((k : RouteKey) → IfSome (get m k) (fits k)) → (k : RouteKey) → IfSome (get (announced_with from o ps m) k) (fits k)

@@ -28,7 +28,7 @@ use Rattle.net_types.proofs.FindLemmas.{any_at, not_there}
 use Rattle.net_types.proofs.MapLemmas.{get-tabulate}
 use Rattle.net_types.proofs.OrderLemmas.{prefix_tie, prefixes_total, routes_total}
 use Rattle.net_types.proofs.SetLemmas.{map-Member}
-use Rattle.net_types.proofs.TieLemmas.{route_cmp-IsAntisymmetric, same_from_tie}
+use Rattle.net_types.proofs.TieLemmas.{route_tie}
 use Rattle.net_types.specs.Changes as changes
 use Rattle.net_types.specs.Changes.{announced_by, announced_with, withdrawn}
 use Rattle.net_types.specs.ExportReading.{rules_of_text}
@@ -103,7 +103,7 @@ set_or_there from attrs (p ∷ ps) m k a e =
   where
     by : (b : Bool) → eq_by_cmp route_cmp k (record { from = from; prefix = p }) ≡ b → cond b (Some attrs) (get m k) ≡ Some a → (get m k ≡ Some a) ⊎ ((k.from ≡ from) × (attrs ≡ a) × Member k.prefix (p ∷ ps))
     by true is e =
-        let same : k ≡ record { from = from; prefix = p } = same_from_tie route_cmp route_cmp-IsAntisymmetric k (record { from = from; prefix = p }) is in
+        let same : k ≡ record { from = from; prefix = p } = route_tie k (record { from = from; prefix = p }) is in
         inr (ap (λ (x : RouteKey). x.from) same, same_Some attrs a e, inl (ap (λ (x : RouteKey). x.prefix) same))
     by false is e = inl e
 

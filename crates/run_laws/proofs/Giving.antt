@@ -37,7 +37,7 @@ use Rattle.net_types.proofs.PrefixLemmas.{prefix_ext}
 use Rattle.net_types.proofs.RisingLemmas.{Member-filter, filter-Member}
 use Rattle.net_types.proofs.SameLemmas.{nat_itself}
 use Rattle.net_types.proofs.SetLemmas.{Member-append_right, Member-map, map-Member, given_by}
-use Rattle.net_types.proofs.TieLemmas.{same_from_tie, tag_cmp-IsAntisymmetric}
+use Rattle.net_types.proofs.TieLemmas.{tag_cmp-IsAntisymmetric, tag_tie}
 use Rattle.net_types.proofs.ValueLemmas.{any_value}
 use Rattle.net_types.specs.Answers.{is_offered}
 use Rattle.net_types.specs.Attributes.{same_option}
@@ -67,6 +67,7 @@ use Rattle.run_laws.specs.Given.{IsGivenIn, IsHeld, KeptOffersWereExported, Offe
 use Rattle.exchange_laws.proofs.Lists.{clash}
 use Rattle.exchange_laws.proofs.Sames.{tags_test}
 use Rattle.run_laws.proofs.Known.{answer_is, known_holds, resolved_is}
+use Rattle.exchange_laws.proofs.Bases.{trimmed_found}
 
 pub found : {A : Type 0} (test : A → Bool) (xs : List A) → list_any test xs ≡ true → (x : A) × Member x xs × (test x ≡ true)
 found test xs any =
@@ -141,24 +142,6 @@ trimmed_narrower who named x = by (nat_eq x.sender.0 who.0)
           (Member-filter (λ (y : Offer). counts named x.best y.exporter) x.offers o.0 o.1 (or_left (nat_eq o.0.exporter.0 x.best.0) (list_any (λ (other : Pid). nat_eq other.0 o.0.exporter.0) named) o.2)) o.2;
     }
 
-trimmed_sender : (who : Pid) (named : List Pid) (x : Part) → (trimmed_part who named x).sender ≡ x.sender
-trimmed_sender who named x = by (nat_eq x.sender.0 who.0)
-  where
-    by : (b : Bool) → (cond b (record x { offers = filter (λ (o : Offer). counts named x.best o.exporter) x.offers }) x).sender ≡ x.sender
-    by true = refl
-    by false = refl
-
-part_trimmed : (who : Pid) (named : List Pid) (sig : List Part) (w : Pid) → part_of (trimmed who named sig) w ≡ option_map (trimmed_part who named) (part_of sig w)
-part_trimmed who named [] w = refl
-part_trimmed who named (x ∷ xs) w =
-    ap (λ (y : Pid). cond (nat_eq y.0 w.0) (Some (trimmed_part who named x)) (part_of (trimmed who named xs) w)) (trimmed_sender who named x)
-    ∙ by (nat_eq x.sender.0 w.0) (part_trimmed who named xs w)
-  where
-    by : (b : Bool) → part_of (trimmed who named xs) w ≡ option_map (trimmed_part who named) (part_of xs w)
-        → cond b (Some (trimmed_part who named x)) (part_of (trimmed who named xs) w) ≡ option_map (trimmed_part who named) (cond b (Some x) (part_of xs w))
-    by true later = refl
-    by false later = later
-
 -- ---- what a line leaves of what is kept and told
 
 -- a kept signature whose parts are no wider than those that were kept for the tag
@@ -193,7 +176,7 @@ retagged_leaves s r = record { told = λ who p entry is. inl is; kept = λ t sig
     kept_is t sig live is =
         let f : Tag → Option (List Part) = λ u. cond (is_live (record s { routing = r; tag = tags_after s r }) u) (kept_signature s r u) None in
         let here : f t ≡ Some sig = some_cond (list_any (eq_by_cmp tag_cmp t) (tags s)) (f t) sig
-        (sym (get-tabulate tag_cmp tags_total f (λ q k tie. ap f (sym (same_from_tie tag_cmp tag_cmp-IsAntisymmetric q k tie))) (tags s) t) ∙ is) in
+        (sym (get-tabulate tag_cmp tags_total f (λ q k tie. ap f (sym (tag_tie q k tie))) (tags s) t) ∙ is) in
         by t sig live (group_with s r t) refl (some_cond (is_live (record s { routing = r; tag = tags_after s r }) t) (kept_signature s r t) sig here)
 
 outbound_leaves : (s : State) (who : Pid) (text : List ℕ) (named : List Pid) (s1 : State) → Leaves (with_outbound s who text named) s1 → Leaves s s1
@@ -207,13 +190,13 @@ outbound_leaves s who text named s1 is = record { told = is.told; kept = λ t si
     from t sig kept =
         let f : Tag → Option (List Part) = λ u. option_map (trimmed who named) (get s.kept u) in
         let here : f t ≡ Some kept.was = some_cond (list_any (eq_by_cmp tag_cmp t) (keys s.kept)) (f t) kept.was
-        (sym (get-tabulate tag_cmp tags_total f (λ q k tie. ap f (sym (same_from_tie tag_cmp tag_cmp-IsAntisymmetric q k tie))) (keys s.kept) t) ∙ kept.kept) in
+        (sym (get-tabulate tag_cmp tags_total f (λ q k tie. ap f (sym (tag_tie q k tie))) (keys s.kept) t) ∙ kept.kept) in
         let before = mapped (trimmed who named) (get s.kept t) kept.was here in record {
           was = before.0;
           kept = before.1;
           parts = λ w one there.
               let next_part = kept.parts w one there in
-              let whole = mapped (trimmed_part who named) (part_of before.0 w) next_part.0 (sym (part_trimmed who named before.0 w) ∙ ap (λ x. part_of x w) before.2 ∙ next_part.1) in
+              let whole = mapped (trimmed_part who named) (part_of before.0 w) next_part.0 (sym (trimmed_found who named before.0 w) ∙ ap (λ x. part_of x w) before.2 ∙ next_part.1) in
               (whole.0, whole.1, narrower_yet one next_part.0 whole.0 next_part.2 (subst (λ x. IsNarrower x whole.0) whole.2 (trimmed_narrower who named whole.0)));
         }
 

@@ -28,16 +28,16 @@ use Rattle.net_types.proofs.FindLemmas.{any_at, find-IsFound, not_there}
 use Rattle.net_types.proofs.MapLemmas.{get-tabulate}
 use Rattle.net_types.proofs.OrderLemmas.{tags_total}
 use Rattle.net_types.proofs.PassLemmas.{find_last, find_more}
-use Rattle.net_types.proofs.RisingLemmas.{filter-Member}
+use Rattle.net_types.proofs.RisingLemmas.{filter-Member, once_of}
 use Rattle.net_types.proofs.SetLemmas.{Member-append_cases, map-Member}
-use Rattle.net_types.proofs.TieLemmas.{same_from_tie, tag_cmp-IsAntisymmetric}
+use Rattle.net_types.proofs.TieLemmas.{tag_tie}
 use Rattle.net_types.specs.Attributes.{same_option}
 use Rattle.net_types.specs.Changes.{announced_with, withdrawn}
 use Rattle.net_types.specs.Changes as changes
 use Rattle.net_types.specs.ExportReading.{rules_of_text}
 use Rattle.net_types.specs.Exports.{Routing, named_by, pid_of}
 use Rattle.net_types.specs.Keys.{RouteKey, prefix_cmp, route_cmp, tag_cmp}
-use Rattle.net_types.specs.Maps.{each_once, tabulate}
+use Rattle.net_types.specs.Maps.{tabulate}
 use Rattle.net_types.specs.Naming.{named_in}
 use Rattle.net_types.specs.Octets.{same_octets}
 use Rattle.net_types.specs.Policies.{Policy}
@@ -214,11 +214,6 @@ signature_own r hops p x m o n =
         let same : part_with r to p c ≡ x = ap (λ z. unwrap_or z x) e in
         owned to c (subst (λ (y : Part). Member o y.offers) (sym same) n)
 
-once_Member : {A : Type 0} (same : A → A → Bool) (xs : List A) (y : A) → Member y (each_once same xs) → Member y xs
-once_Member same [] y m = absurd m
-once_Member same (x ∷ xs) y (inl e) = inl e
-once_Member same (x ∷ xs) y (inr m) = inr (once_Member same xs y (filter-Member (λ z. not (same x z)) (each_once same xs) y m).stands)
-
 -- the kept signatures are those that were kept, or those of fresh tags
 retagged_owned : (s : State) (r : Routing) → IsOwnedBy r.ports s.routing.routes s.kept → HopsAreAt r.ports r.routes → IsOwned (retagged s r)
 retagged_owned s r is hops = record { apart = is.apart; hops = hops; offers = λ t sig e. kept_own t sig e }
@@ -227,7 +222,7 @@ retagged_owned s r is hops = record { apart = is.apart; hops = hops; offers = λ
     by t sig None at e = is.offers t sig e
     by t sig (Some g) at e =
         let stands : Member g (groups s r) = (find-IsFound (λ x. same_option same_tag (fresh_tag s r x) (Some t)) (groups s r) g at).stands in
-        let image = map-Member (group_of s r) (filter (is_changed s r) (carried r)) g (once_Member same_group (map (group_of s r) (filter (is_changed s r) (carried r))) g stands) in
+        let image = map-Member (group_of s r) (filter (is_changed s r) (carried r)) g (once_of same_group (map (group_of s r) (filter (is_changed s r) (carried r))) g stands) in
         let same : sig ≡ signature r image.of = ap (λ o. unwrap_or o sig) (sym e) ∙ ap (λ (x : Group). x.after) image.is in
         subst (OffersAreOwn r.ports) (sym same) (signature_own r hops image.of)
 
@@ -235,7 +230,7 @@ retagged_owned s r is hops = record { apart = is.apart; hops = hops; offers = λ
     kept_own t sig e =
         let f : Tag → Option (List Part) = λ u. cond (is_live (record s { routing = r; tag = tags_after s r }) u) (kept_signature s r u) None in
         let here : f t ≡ Some sig = some_cond (list_any (eq_by_cmp tag_cmp t) (tags s)) (f t) sig
-        (sym (get-tabulate tag_cmp tags_total f (λ q k tie. ap f (sym (same_from_tie tag_cmp tag_cmp-IsAntisymmetric q k tie))) (tags s) t) ∙ e) in
+        (sym (get-tabulate tag_cmp tags_total f (λ q k tie. ap f (sym (tag_tie q k tie))) (tags s) t) ∙ e) in
         by t sig (group_with s r t) refl (some_cond (is_live (record s { routing = r; tag = tags_after s r }) t) (kept_signature s r t) sig here)
 
 -- fewer signatures are kept
@@ -261,7 +256,7 @@ trimmed_owned s who named is = record { apart = is.apart; hops = is.hops; offers
     here t sig e =
         let f : Tag → Option (List Part) = λ u. option_map (trimmed who named) (get s.kept u) in
         by t sig (get s.kept t) refl (some_cond (list_any (eq_by_cmp tag_cmp t) (keys s.kept)) (f t) sig
-        (sym (get-tabulate tag_cmp tags_total f (λ q k tie. ap f (sym (same_from_tie tag_cmp tag_cmp-IsAntisymmetric q k tie))) (keys s.kept) t) ∙ e))
+        (sym (get-tabulate tag_cmp tags_total f (λ q k tie. ap f (sym (tag_tie q k tie))) (keys s.kept) t) ∙ e))
 
 -- ---- each line
 

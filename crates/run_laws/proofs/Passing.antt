@@ -1,6 +1,6 @@
 -- The texts of the policies are read as policies that passed isolation, in every state that a legal run reaches.
 use Rattle.std.proofs.Common.{◌≡◌, ℕ, zero, suc, Bool, true, false, cond, nat_lt, List, [], ◌∷◌, ◌++◌, length, sym, ap, subst, ◌∙◌, refl, inl, inr}
-use Rattle.std.specs.Prelude.{◌+◌, map, take, Option, Some, None, Result, Ok, Err, codes, slice_get, slice_set, unwrap_or, ◌-◌}
+use Rattle.std.specs.Prelude.{◌+◌, take, Option, Some, None, Result, Ok, Err, codes, slice_set, ◌-◌}
 use Rattle.std.specs.FinMap.{FinMap}
 use Rattle.std.proofs.lemmas.List.{length-append}
 use Rattle.events.proofs.DropText.{drop_is_read}
@@ -18,16 +18,14 @@ use Rattle.events.specs.declared.Phase.{Phase}
 use Rattle.events.specs.declared.Phase.TheVariants.{Start, Declaring, Running}
 use Rattle.events.specs.declared.Refusal.TheVariants.{TextLong}
 use Rattle.exchange_laws.proofs.LineSteps.{at_start, declares_participant, no_fault}
-use Rattle.exchange_laws.proofs.PassedSteps.{set_both, set_read}
+use Rattle.exchange_laws.proofs.PassedSteps.{Said, at, not_declaring, said, same_pid, set_both, set_read}
 use Rattle.exchange_laws.proofs.Rerouted.{neither, passes}
 use Rattle.grammar.specs.TextReading.{Fault as Misread}
-use Rattle.net_types.proofs.ValueLemmas.{no_entries}
 use Rattle.net_types.specs.Answers.{policy_of}
 use Rattle.net_types.specs.ExportReading.{rules_of_text}
 use Rattle.net_types.specs.Exports.{named_by, pid_of}
 use Rattle.net_types.specs.Isolation.{in_faults, out_faults}
-use Rattle.net_types.specs.Keys.{pair_cmp, pid_cmp}
-use Rattle.net_types.specs.Maps.{ordered}
+use Rattle.net_types.specs.Keys.{pair_cmp}
 use Rattle.net_types.specs.Naming.{named_in}
 use Rattle.net_types.specs.Policies.{Policy, Drop}
 use Rattle.net_types.specs.PolicyReading.{policy_of_text}
@@ -43,12 +41,9 @@ use Rattle.net_types.specs.declared.rule.Rule.{Rule}
 use Rattle.run_laws.proofs.Carried.{not_before, runs_hold}
 use Rattle.run_laws.specs.Promises.{PoliciesHavePassed}
 use Rattle.run_laws.proofs.Known.{answer_is, free_holds, known_holds, resolved_is}
+use Rattle.exchange_laws.proofs.NewStates.{none_in_order}
 
 -- ---- lists
-
--- the member at a place, or what stands for none
-abbrev at : {A : Type 0} → List A → ℕ → A → A
-at xs k none = unwrap_or (slice_get xs k) none
 
 -- one more of what stands for none changes nothing
 at_more : {A : Type 0} (xs : List A) (k : ℕ) (none : A) → at (xs ++ none ∷ []) k none ≡ at xs k none
@@ -81,9 +76,6 @@ record IsPassing (s : State) : Type 0 where
   drop_outbound : (s.phase ≡ Running → ⊥) → (who : Pid) → policy_of outbound who ≡ Drop
   drop_inbound : (s.phase ≡ Running → ⊥) → (who : Pid) → policy_of inbound who ≡ Drop
 
-nobody : ordered pid_cmp [] ≡ []
-nobody = ap (map (λ (e : Pid × Pid). e.0)) (no_entries Pid Pid pid_cmp)
-
 no_policy : (who : Pid) → policy_of [] who ≡ Drop
 no_policy who = by who.0
   where
@@ -106,7 +98,7 @@ first_passing = record {
   read_inbound = tt;
   passed_outbound = λ who. ap (out_faults (pid_of first.routing) (owner_of first) who) (no_policy who);
   passed_inbound = λ who. ap (in_faults (owner_of first) who) (no_policy who);
-  named = λ who. no_names who ∙ sym nobody ∙ sym (ap (named_in (pid_of first.routing)) (no_policy who));
+  named = λ who. no_names who ∙ sym none_in_order ∙ sym (ap (named_in (pid_of first.routing)) (no_policy who));
   as_many = refl;
   drop_outbound = λ later who. no_policy who;
   drop_inbound = λ later who. no_policy who;
@@ -116,9 +108,6 @@ first_passing = record {
 
 not_at_start : (phase : Phase) → phase ≡ Start → phase ≡ Running → ⊥
 not_at_start phase e f = cc
-
-not_declaring : (phase : Phase) → phase ≡ Declaring → phase ≡ Running → ⊥
-not_declaring phase e f = cc
 
 declares_port : (phase : Phase) (name : List ℕ) (q : PortInfo) → is_placed phase (DeclaresPort name q.number q.ip q.mac) ≡ true → phase ≡ Declaring
 declares_port Start name q e = cc
@@ -195,17 +184,6 @@ port_passing s q declaring is =
       drop_inbound = λ later. too;
     }
 
--- what isolation speaks of
-record Said : Type 0 where
-  outbound : List (List ℕ)
-  inbound : List (List ℕ)
-  participants : List Participant
-  ports : List PortInfo
-  named : List (List Pid)
-
-abbrev said : State → Said
-said s = record { outbound = s.outbound; inbound = s.inbound; participants = s.routing.participants; ports = s.routing.ports; named = s.routing.named }
-
 -- the exchange runs, with the policies and declarations that it had
 kept_passing : (s s1 : State) → said s1 ≡ said s → s1.phase ≡ Running → IsPassing s → IsPassing s1
 kept_passing s s1 same running is =
@@ -236,9 +214,6 @@ worked_passing s units owed true is = kept_passing s _ refl refl is
 worked_passing s units owed false is = kept_passing s _ refl refl is
 
 -- ---- policies
-
-same_pid : (w who : Pid) → w.0 ≡ who.0 → who ≡ w
-same_pid w who same = λ i. record { 0 = sym same i }
 
 sent_passing : (s : State) (who : Pid) (text : List ℕ) (o : Result Policy Misread) → policy_of_text text ≡ o → outbound_refusal s who text o ≡ None → IsPassing s → IsPassing (sent_by s who text o)
 sent_passing s who text (Err fault) read none is = absurd (cc)

@@ -18,7 +18,6 @@ use Rattle.events.specs.declared.Event.{Event}
 use Rattle.events.specs.declared.Head.TheVariants.{Fine, Finished}
 use Rattle.events.specs.declared.Reply.{Reply}
 use Rattle.events.specs.declared.TagChange.{TagChange}
-use Rattle.exchange_laws.proofs.Answering.{some_same}
 use Rattle.net_types.proofs.EqualLemmas.{signature_test}
 use Rattle.net_types.proofs.MapLemmas.{get-tabulate}
 use Rattle.net_types.proofs.OrderLemmas.{prefix_tie, prefixes_total, tags_total}
@@ -27,7 +26,7 @@ use Rattle.net_types.proofs.PassLemmas.{some_there}
 use Rattle.net_types.proofs.RisingLemmas.{filter-Member}
 use Rattle.net_types.proofs.SameLemmas.{nat_itself, option_itself}
 use Rattle.net_types.proofs.SetLemmas.{map-Member, given_by}
-use Rattle.net_types.proofs.TieLemmas.{same_from_tie, tag_cmp-IsAntisymmetric}
+use Rattle.net_types.proofs.TieLemmas.{tag_tie}
 use Rattle.net_types.specs.Attributes.{same_option, same_signature}
 use Rattle.net_types.specs.Keys.{prefix_cmp, tag_cmp}
 use Rattle.net_types.specs.Maps.{ordered}
@@ -38,6 +37,7 @@ use Rattle.net_types.specs.declared.address.Tag.{Tag}
 use Rattle.net_types.specs.declared.prefix.Prefix.{Prefix}
 use Rattle.run_laws.proofs.Answering.{Kind, kind_of}
 use Rattle.run_laws.specs.Sharing.{AlikeShare, FreshTagsWereDead, HasLike, IsGivenTag, SharedTagsShareSignatures, TagsTell}
+use Rattle.net_types.proofs.FindLemmas.{some_same}
 
 -- ---- changes of tags
 
@@ -76,7 +76,7 @@ like_had : (s : State) (p : Prefix) (t : Tag) → least_tag s (signature s.routi
 like_had s p t least =
     let test : Prefix → Bool = λ q. same_signature (signature s.routing q) (signature s.routing p) in
     let alike : List Prefix = filter test (carried s.routing) in
-    let m = (ordered_same tag_cmp tags_total (same_from_tie tag_cmp tag_cmp-IsAntisymmetric) (filter_map (get s.tag) alike)).onto t (first_Member (ordered tag_cmp (filter_map (get s.tag) alike)) t least) in
+    let m = (ordered_same tag_cmp tags_total tag_tie (filter_map (get s.tag) alike)).onto t (first_Member (ordered tag_cmp (filter_map (get s.tag) alike)) t least) in
     let from = given_by (get s.tag) alike t m in
     let left = filter-Member test (carried s.routing) from.source from.stands in
     record {

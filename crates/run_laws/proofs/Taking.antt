@@ -1,7 +1,7 @@
 -- What a participant's session takes.
 use Rattle.std.proofs.Common.{◌≡◌, ℕ, zero, suc, ◌<◌, Bool, true, false, cond, ◌||◌, not, List, [], ◌∷◌, length, ◌++◌, ap, sym, subst, ◌∙◌, refl, arith}
 use Rattle.std.specs.Prelude.{Option, Some, None, MatchOption, is_some, slice_get, slice_set, take, unwrap_or}
-use Rattle.std.specs.FinMap.{FinMap, contains_key-keys, empty, get, get-insert, get-remove, keys}
+use Rattle.std.specs.FinMap.{FinMap, contains_key-keys, empty, get, keys}
 use Rattle.std.specs.List.{list_any}
 use Rattle.std.specs.Ordering.{eq_by_cmp}
 use Rattle.std.proofs.lemmas.Bool.{false_from_ne_true}
@@ -32,6 +32,8 @@ use Rattle.net_types.specs.declared.address.Pid.{Pid}
 use Rattle.net_types.specs.declared.prefix.Prefix.{Prefix}
 use Rattle.run_laws.specs.Taking.{TakesTellTheFirst, TellsOf}
 use Rattle.events.proofs.SameEntries.{entry_test}
+use Rattle.net_types.proofs.FindLemmas.{nothing}
+use Rattle.events.proofs.NewsLemmas.{get-with_news}
 
 -- ---- a map with news
 
@@ -39,13 +41,8 @@ use Rattle.events.proofs.SameEntries.{entry_test}
 abbrev pub Entries : Type 0
 Entries = FinMap prefix_cmp Entry
 
--- what is put in or taken out at a prefix
-put : (told : Entries) (q p : Prefix) (o : Option Entry) → get (with_news told q o) p ≡ cond (eq_by_cmp prefix_cmp p q) o (get told p)
-put told q p None = get-remove prefixes_total told q p
-put told q p (Some e) = get-insert prefixes_total told q e p
-
 news_at : (known told : Entries) (q p : Prefix) → get (with_news told q (get known q)) p ≡ cond (eq_by_cmp prefix_cmp p q) (get known p) (get told p)
-news_at known told q p = put told q p (get known q) ∙ by (eq_by_cmp prefix_cmp p q) refl
+news_at known told q p = get-with_news told q (get known q) p ∙ by (eq_by_cmp prefix_cmp p q) refl
   where
     by : (b : Bool) → eq_by_cmp prefix_cmp p q ≡ b → cond b (get known q) (get told p) ≡ cond b (get known p) (get told p)
     by true tie = ap (get known) (sym (prefix_tie p q tie))
@@ -70,10 +67,6 @@ all_news_at known told (q ∷ ps) p =
 pub listed : (m : Entries) (p : Prefix) → is_some (get m p) ≡ true → Member p (keys m)
 listed m p there = any_member prefix_cmp prefixes_total prefix_tie p (keys m) (sym (contains_key-keys m p) ∙ there)
 
-none_there : {A : Type 0} (o : Option A) → (is_some o ≡ true → ⊥) → o ≡ None
-none_there None never = refl
-none_there (Some x) never = absurd (never refl)
-
 module _ (s : State) (who : Pid) (p : Prefix) where
   abbrev differs : Prefix → Bool
   differs q = not (same_option same_entry (get (told_to s who) q) (get (present s who) q))
@@ -89,8 +82,8 @@ module _ (s : State) (who : Pid) (p : Prefix) where
   settled_at true same none = (option_test same_entry entry_test (get (told_to s who) p) (get (present s who) p)).0 same
   settled_at false apart none =
       let never : Member p (keys (told_to s who) ++ keys (present s who)) → ⊥ = λ known. let both : true ≡ false = sym (is_pending apart known) ∙ none in cc in
-      none_there (get (told_to s who) p) (λ there. never (Member-append_left (keys (told_to s who)) (keys (present s who)) p (listed (told_to s who) p there)))
-      ∙ sym (none_there (get (present s who) p) (λ there. never (Member-append_right (keys (told_to s who)) (keys (present s who)) p (listed (present s who) p there))))
+      nothing (get (told_to s who) p) (λ there. never (Member-append_left (keys (told_to s who)) (keys (present s who)) p (listed (told_to s who) p there)))
+      ∙ sym (nothing (get (present s who) p) (λ there. never (Member-append_right (keys (told_to s who)) (keys (present s who)) p (listed (present s who) p there))))
 
   -- at what is pending all of it is news
   all_present : get (present s who) p ≡ cond (list_any (eq_by_cmp prefix_cmp p) (pending s who)) (get (present s who) p) (get (told_to s who) p)

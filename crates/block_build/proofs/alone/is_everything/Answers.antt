@@ -1,9 +1,8 @@
 -- What equals the cube of all headers is that cube.
 use Rattle.std.proofs.Common.{sym, ap, ◌∙◌}
-use Rattle.classifier.proofs.SeenLemmas.{cube_eq_is}
+use Rattle.classifier.proofs.SeenLemmas.{cube_eq_is, same_cube_exact}
 use Rattle.classifier.specs.Seen.{cube_eq}
 use Rattle.net_types.specs.Cubes.{everything}
-use Rattle.block_build.proofs.PastLemmas.{same_cube_exact}
 use Rattle.block_build.proofs.alone.is_everything.Goals as goal
 
 pub returns : goal.returns

@@ -1,7 +1,6 @@
 -- What equals the cube is the cube.
 use Rattle.std.proofs.Common.{Some, sym, ap, ◌∙◌}
-use Rattle.classifier.proofs.SeenLemmas.{cube_eq_is}
-use Rattle.block_build.proofs.PastLemmas.{same_cube_exact}
+use Rattle.classifier.proofs.SeenLemmas.{cube_eq_is, same_cube_exact}
 use Rattle.block_build.proofs.exits.is_last.Goals as goal
 
 pub returns-in-Some : goal.returns-in-Some

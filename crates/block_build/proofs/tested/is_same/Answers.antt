@@ -1,7 +1,6 @@
 -- Equal cubes are one.
 use Rattle.std.proofs.Common.{sym, ◌∙◌}
-use Rattle.classifier.proofs.SeenLemmas.{cube_eq_is}
-use Rattle.block_build.proofs.PastLemmas.{same_cube_exact}
+use Rattle.classifier.proofs.SeenLemmas.{cube_eq_is, same_cube_exact}
 use Rattle.block_build.proofs.tested.is_same.Goals as goal
 
 pub returns : goal.returns

@@ -4,13 +4,13 @@ use Rattle.std.specs.List.{list_any}
 use Rattle.classifier.specs.Seen.{cube_eq}
 use Rattle.net_types.proofs.SetLemmas
 use Rattle.net_types.specs.Sets.{Member}
-use Rattle.block_build.proofs.ClosedLemmas.{any_member}
 use Rattle.block_build.proofs.tested.push_test.Goals as goal
+use Rattle.classifier.proofs.SeenLemmas.{any_there}
 
 pub returns-then-contains-clause-there : goal.returns-then-contains-clause-there
 returns-then-contains-clause-there c =
     let test = c.args.test.now in
-    any_member c.args.tests.now.items test (ap (λ cs. list_any (λ d. cube_eq d test) cs) (sym c.deref.ensures.value) ∙ sym c.contains.ensures.value ∙ c.if-contains.true)
+    any_there c.args.tests.now.items test (ap (λ cs. list_any (λ d. cube_eq d test) cs) (sym c.deref.ensures.value) ∙ sym c.contains.ensures.value ∙ c.if-contains.true)
 
 pub returns-clause-there : goal.returns-clause-there
 returns-clause-there c =

@@ -3,7 +3,8 @@ use Rattle.classifier.specs.Lines.{add_lines}
 use Rattle.classifier.specs.Runs.{lines_in}
 use Rattle.classifier.specs.Seen.{Agrees}
 use Rattle.classifier.specs.declared.line.Line.{Line}
-use Rattle.classifier.proofs.RunLemmas.{not_some, row_behind, row_behind-append, row_behind_apart, run_added, run_passed}
+use Rattle.net_types.proofs.FindLemmas.{none_there}
+use Rattle.classifier.proofs.RunLemmas.{row_behind, row_behind-append, row_behind_apart, run_added, run_passed}
 use Rattle.classifier.proofs.composition.push_rows_behind.Goals as goal
 use Rattle.classifier.proofs.composition.push_rows_behind.Goals.{then-is_some+in_ok-push_row_behind, else-is_some}
 
@@ -22,7 +23,7 @@ loop-run-preserved c =
             ∙ c.loop-run.invariant.whole
         | else-is_some w ↦
             ap (λ v. add_lines v.items rest) w.lines-is
-            ∙ ap (add_lines kept) (sym (run_passed (row_behind c.args.first c.args.x.now) (row_behind-append c.args.first c.args.x.now) runs i run c.loop-run-test.true c.run-item.is (row_behind_apart c.args.first c.args.x.now run.hull run.lines.now run.held (sym c.meet_behind.ensures ∙ not_some c.meet_behind.result (sym c.is_some.ensures ∙ w.if-is_some.false)))))
+            ∙ ap (add_lines kept) (sym (run_passed (row_behind c.args.first c.args.x.now) (row_behind-append c.args.first c.args.x.now) runs i run c.loop-run-test.true c.run-item.is (row_behind_apart c.args.first c.args.x.now run.hull run.lines.now run.held (sym c.meet_behind.ensures ∙ none_there c.meet_behind.result (sym c.is_some.ensures ∙ w.if-is_some.false)))))
             ∙ c.loop-run.invariant.whole
       ];
       agrees = elim c.if-is_some.branch [

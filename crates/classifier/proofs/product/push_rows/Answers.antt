@@ -3,7 +3,8 @@ use Rattle.classifier.specs.Lines.{add_lines, row}
 use Rattle.classifier.specs.Runs.{lines_in}
 use Rattle.classifier.specs.Seen.{Agrees}
 use Rattle.classifier.specs.declared.line.Line.{Line}
-use Rattle.classifier.proofs.RunLemmas.{not_some, row-append, row_apart, run_added, run_passed}
+use Rattle.net_types.proofs.FindLemmas.{none_there}
+use Rattle.classifier.proofs.RunLemmas.{row-append, row_apart, run_added, run_passed}
 use Rattle.classifier.proofs.product.push_rows.Goals as goal
 use Rattle.classifier.proofs.product.push_rows.Goals.{then-is_some+in_ok-push_row, else-is_some}
 
@@ -22,7 +23,7 @@ loop-run-preserved c =
             ∙ c.loop-run.invariant.whole
         | else-is_some w ↦
             ap (λ v. add_lines v.items rest) w.lines-is
-            ∙ ap (add_lines kept) (sym (run_passed (row c.args.join c.args.x.now) (row-append c.args.join c.args.x.now) runs i run c.loop-run-test.true c.run-item.is (row_apart c.args.join c.args.x.now run.hull run.lines.now run.held (sym c.meet.ensures.value ∙ not_some c.meet.result (sym c.is_some.ensures ∙ w.if-is_some.false)))))
+            ∙ ap (add_lines kept) (sym (run_passed (row c.args.join c.args.x.now) (row-append c.args.join c.args.x.now) runs i run c.loop-run-test.true c.run-item.is (row_apart c.args.join c.args.x.now run.hull run.lines.now run.held (sym c.meet.ensures.value ∙ none_there c.meet.result (sym c.is_some.ensures ∙ w.if-is_some.false)))))
             ∙ c.loop-run.invariant.whole
       ];
       agrees = elim c.if-is_some.branch [

@@ -5,8 +5,9 @@ use Rattle.std.proofs.lemmas.Fn.{dedup_same}
 use Rattle.std.proofs.lemmas.List.Sorted.{answers_always, ranks_by}
 use Rattle.events.specs.Table.{frame_cmp}
 use Rattle.events.specs.declared.Frame.{Frame}
-use Rattle.match_switch.proofs.FrameOrder.{frames_in_order, frames_total}
+use Rattle.match_switch.proofs.FrameOrder.{frames_in_order}
 use Rattle.match_switch.proofs.leaving.ascending.Goals as goal
+use Rattle.events.proofs.Routed.{frames_total}
 
 pub returns : goal.returns
 returns c =

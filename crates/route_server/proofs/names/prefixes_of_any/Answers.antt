@@ -5,9 +5,10 @@ use Rattle.std.specs.FinMap.{get}
 use Rattle.std.proofs.lemmas.List.{take_all}
 use Rattle.net_types.specs.declared.address.Pid.{Pid}
 use Rattle.net_types.specs.declared.prefix.Prefix.{Prefix}
-use Rattle.route_server.proofs.DownLaws.{any_alike, carry_any, filter_step}
+use Rattle.route_server.proofs.DownLaws.{carry_any, filter_step}
 use Rattle.route_server.proofs.names.prefixes_of_any.Goals as goal
 use Rattle.route_server.proofs.names.prefixes_of_any.Goals.{then-has_any+in_ok-push, else-has_any}
+use Rattle.net_types.proofs.PassLemmas.{same_any}
 
 pub loop-prefix-preserved : goal.loop-prefix-preserved
 loop-prefix-preserved c =
@@ -15,7 +16,7 @@ loop-prefix-preserved c =
     let xs = c.as_slice-prefix-items.result.now in
     let i = c.loop-prefix.prefix-index in
     let x = c.prefix-item.result in
-    let is = any_alike _ _ (λ (from : Pid). ap is_some (c.row.ensures.routes from)) c.args.froms.now ∙ sym c.has_any.ensures in
+    let is = same_any _ _ c.args.froms.now (λ (from : Pid). ap is_some (c.row.ensures.routes from)) ∙ sym c.has_any.ensures in
     elim c.if-has_any.branch [
       | then-has_any+in_ok-push w ↦ ap (λ v. v.items) w.prefixes-is ∙ w.in_ok-push.ensures.items ∙ ap (λ ps. ps ++ x ∷ []) c.loop-prefix.invariant
           ∙ sym (filter_step t xs i x true c.loop-prefix-test.true c.prefix-item.is (is ∙ w.if-has_any.true))

@@ -1,10 +1,11 @@
 use Rattle.std.proofs.Common.{◌≡◌, ℕ, ◌<◌, ◌≤◌, ◌+◌, Bool, true, false, List, length, get_or, sym, ap, ◌∙◌, arith, set, None, refl, ◌-◌}
 use Rattle.std.specs.Prelude.{Some, find, slice_get}
 use Rattle.next_hop_pool.specs.Free.{free_tags, free_in, tag, IsKept}
-use Rattle.next_hop_pool.proofs.FreeLemmas.{free_from, free_by_place, find_first, kept_taken, find_free, find_no_free, or_left, taken_before}
+use Rattle.next_hop_pool.proofs.FreeLemmas.{free_from, free_by_place, find_first, kept_taken, find_free, find_no_free, taken_before}
 use Rattle.net_types.specs.declared.address.Tag.{Tag}
 use Rattle.next_hop_pool.proofs.RunLemmas.{lent_marked, taken_marked}
 use Rattle.next_hop_pool.proofs.pool.Pool.take_least.Goals as goal
+use Rattle.std.proofs.lemmas.Bool.{or_left}
 
 first_by_place : (bs : List Bool) → find (λ _. true) (free_from 1 bs) ≡ slice_get (free_in bs) 0
 first_by_place bs = find_first (free_from 1 bs) ∙ ap (λ ts. slice_get ts 0) (sym (free_by_place bs))

@@ -2,7 +2,8 @@ use Rattle.std.proofs.Common.{◌≡◌, ◌≤◌, ◌+◌, true, false, not, s
 use Rattle.std.specs.Prelude.{is_some}
 use Rattle.std.specs.Vec.{vec_len}
 use Rattle.prefix_map.specs.Entries.{entries_of}
-use Rattle.prefix_map.proofs.MapLemmas.{get_is, insert_is, put_new, put_known, none_of}
+use Rattle.prefix_map.proofs.MapLemmas.{get_is, insert_is, put_new, put_known}
+use Rattle.net_types.proofs.FindLemmas.{none_there}
 use Rattle.prefix_map.proofs.map.PrefixMap.put.Goals as goal
 
 pub put_in-before-requires-clause-room : goal.put_in-before-requires-clause-room
@@ -17,7 +18,7 @@ pub overflow_sub-self : goal.overflow_sub-self
 overflow_sub-self g c =
     let none : is_some c.put_in-before.result ≡ false = c.is_none.ensures ∙ ap not c.if-is_none.true in
     let is = get_is c.self.inside.trie c.self.invariant.halves c.args.self.now.map (ap (λ s. s.map) c.self.view_is) c.args.key in
-    let some = c.requires (sym is ∙ sym c.put_in-before.ensures.value ∙ none_of _ none) in
+    let some = c.requires (sym is ∙ sym c.put_in-before.ensures.value ∙ none_there _ none) in
     let room = ap (λ s. s.room) c.self.view_is in
     omega (arith, some, room)
 
@@ -25,7 +26,7 @@ pub overflow_add-self : goal.overflow_add-self
 overflow_add-self g c =
     let none : is_some c.put_in-before.result ≡ false = c.is_none.ensures ∙ ap not c.if-is_none.true in
     let is = get_is c.self.inside.trie c.self.invariant.halves c.args.self.now.map (ap (λ s. s.map) c.self.view_is) c.args.key in
-    let some = c.requires (sym is ∙ sym c.put_in-before.ensures.value ∙ none_of _ none) in
+    let some = c.requires (sym is ∙ sym c.put_in-before.ensures.value ∙ none_there _ none) in
     let room = ap (λ s. s.room) c.self.view_is in
     let fits = c.self.invariant.fits in
     omega (arith, some, room, fits)
@@ -34,7 +35,7 @@ pub invariant_of-self : goal.invariant_of-self
 invariant_of-self g c =
     let none : is_some c.put_in-before.result ≡ false = c.is_none.ensures ∙ ap not c.if-is_none.true in
     let is = get_is c.self.inside.trie c.self.invariant.halves c.args.self.now.map (ap (λ s. s.map) c.self.view_is) c.args.key in
-    let some = c.requires (sym is ∙ sym c.put_in-before.ensures.value ∙ none_of _ none) in
+    let some = c.requires (sym is ∙ sym c.put_in-before.ensures.value ∙ none_there _ none) in
     let room = ap (λ s. s.room) c.self.view_is in
     put_new c.self.inside.trie c.put_in-before.new.trie c.args.key (vec_len c.self.inside.spare) (vec_len c.put_in-before.new.spare) c.self.inside.room c.self.inside.count c.self.invariant c.put_in-before.ensures.halves c.args.value c.put_in-before.ensures.entries
     (ap is_some (sym c.put_in-before.ensures.value) ∙ none)

@@ -2,13 +2,12 @@ use Rattle.std.proofs.Common.{sym, ap, ◌∙◌, map, append-nil}
 use Rattle.std.specs.Prelude.{Some, None}
 use Rattle.std.specs.Option.{option_copied}
 use Rattle.std.specs.Borrow.{Bor}
-use Rattle.std.proofs.lemmas.List.{take_all}
+use Rattle.std.proofs.lemmas.List.{take_all, map_push}
 use Rattle.net_types.specs.Changes.{best_attrs}
 use Rattle.net_types.specs.declared.prefix.Prefix.{Prefix}
 use Rattle.net_types.specs.declared.route.Attrs.{Attrs}
 use Rattle.route_server.specs.Served.{routing}
 use Rattle.route_server.proofs.BestLaws.{entries_by, entries_step, bests_are}
-use Rattle.route_server.proofs.RowSteps.{map_push}
 use Rattle.route_server.proofs.server.RouteServer.bests.Goals as goal
 use Rattle.route_server.proofs.server.RouteServer.bests.Goals.{in-Some+in_ok-push-in-Some, in-None}
 
