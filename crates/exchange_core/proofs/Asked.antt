@@ -1,8 +1,8 @@
 -- What a line that changes the routes asks for.
-use Rattle.std.proofs.Common.{◌≡◌, ℕ, ◌<◌, ◌≤◌, Bool, true, false, cond, nat_eq, not, List, [], length, sym, ap, ◌∙◌, refl, arith}
+use Rattle.std.proofs.Common.{◌≡◌, ℕ, ◌<◌, ◌≤◌, Bool, true, false, cond, nat_eq, not, List, [], length, sym, ap, subst, ◌∙◌, refl, arith}
 use Rattle.std.specs.Prelude.{Option, Some, None, Result, Ok, Err, nat_lt}
 use Rattle.std.specs.Option.{option_and_then}
-use Rattle.std.proofs.lemmas.Bool.{false_from_ne_true, ltb-true}
+use Rattle.std.proofs.lemmas.Bool.{false_from_ne_true, lt-ltb, ltb-true}
 use Rattle.net_types.specs.Attributes.{same_option}
 use Rattle.net_types.specs.ExportReading.{rules_of_text}
 use Rattle.net_types.specs.ExportTexts.{bound}
@@ -14,6 +14,7 @@ use Rattle.net_types.specs.declared.address.Pid.{Pid}
 use Rattle.net_types.specs.declared.export.ExportRule.{ExportRule}
 use Rattle.net_types.specs.declared.named_rule.NamedRule.{NamedRule}
 use Rattle.net_types.specs.declared.route.Attrs.{Attrs}
+use Rattle.net_types.specs.declared.update.Fault.{Fault}
 use Rattle.net_types.specs.declared.update.Update.{Update as Message}
 use Rattle.events.specs.After as after
 use Rattle.events.specs.After.{bound_read, updated, with_known, with_rules, with_update, without_from}
@@ -22,7 +23,7 @@ use Rattle.events.specs.Refusals.{attrs_refusal, bound_refusal, has_next_hop, if
 use Rattle.events.specs.State.{State}
 use Rattle.events.specs.declared.Event.TheVariants.{Down, Export, Update}
 use Rattle.events.specs.declared.Refusal.{Refusal}
-use Rattle.events.specs.declared.Refusal.TheVariants.{FirstAs, NextHop, Oversize, TextLong}
+use Rattle.events.specs.declared.Refusal.TheVariants.{BadUpdate, FirstAs, NextHop, Oversize, Syntax, TextLong, Unknown}
 use Rattle.registry.specs.Registered.{Registered, has_address}
 use Rattle.route_server.specs.Admission as admission
 use Rattle.route_server.specs.Proposed.{IsProposal, Proposed}
@@ -30,7 +31,17 @@ use Rattle.route_server.specs.Rows.{ruled}
 use Rattle.route_server.specs.declared.fault.RouteFault.{RouteFault}
 use Rattle.route_server.specs.declared.fault.RouteFault.TheVariants as faults
 use Rattle.exchange_core.specs.Changing.{IsSender, Reroutes, bound_or, read_or, rules_or_refusal}
+use Rattle.bgp_update.specs.declared.fault.UpdateFault.{UpdateFault}
+use Rattle.bgp_update.specs.declared.fault.UpdateFault.TheVariants as updates
+use Rattle.export_rules.specs.declared.fault.BindFault.{BindFault}
+use Rattle.export_rules.specs.declared.fault.BindFault.TheVariants as binding
+use Rattle.export_rules.specs.declared.fault.RulesFault.{RulesFault}
+use Rattle.export_rules.specs.declared.fault.RulesFault.TheVariants as rules
+use Rattle.exchange_core.specs.Stops.{Gives, IsFirst, IsStop, bind_stop, route_stop, rules_stop, update_stop}
+use Rattle.exchange_core.specs.declared.stop.Stop.{Stop}
+use Rattle.exchange_core.specs.declared.stop.Stop.TheVariants.{Refused, Memory}
 use Rattle.exchange_core.proofs.Steps.{in_place, placed}
+use Rattle.exchange_core.proofs.Stops.{first_stops, refusal_stops}
 
 -- ---- why an UPDATE is refused
 
@@ -64,8 +75,16 @@ module _ (s : State) (names : Registered) (who : Pid) (asn : asn_of (ruled names
       by true false d = refl
       by false c d = refl
 
-  pub refused_for : (u : Message) (fault : RouteFault) → admission.refusal names who u ≡ Some fault → own_refusal s who u ≡ refusal_of fault
+  refused_for : (u : Message) (fault : RouteFault) → admission.refusal names who u ≡ Some fault → own_refusal s who u ≡ refusal_of fault
   refused_for u fault e = told (is_oversize u) u.attrs ∙ ap (option_and_then refusal_of) e
+
+  -- the fault stops the line for which it is the first refusal, where nothing is refused besides
+  pub fault_first : (u : Message) (fault : RouteFault) (later : Option Refusal) → (fault ≡ faults.FirstAs → admission.refusal names who u ≡ Some faults.FirstAs) → (fault ≡ faults.NextHop → admission.refusal names who u ≡ Some faults.NextHop) → (fault ≡ faults.Oversize → admission.refusal names who u ≡ Some faults.Oversize)
+      → IsFirst (or_else (own_refusal s who u) later) (route_stop fault)
+  fault_first u faults.FirstAs later first hop oversize = ap (λ o. or_else o later) (refused_for u faults.FirstAs (first refl))
+  fault_first u faults.NextHop later first hop oversize = ap (λ o. or_else o later) (refused_for u faults.NextHop (hop refl))
+  fault_first u faults.Oversize later first hop oversize = ap (λ o. or_else o later) (refused_for u faults.Oversize (oversize refl))
+  fault_first u faults.Memory later first hop oversize = tt
 
   pub none_refused : (u : Message) → (admission.refusal names who u ≡ Some faults.FirstAs → ⊥) → (admission.refusal names who u ≡ Some faults.NextHop → ⊥) → (admission.refusal names who u ≡ Some faults.Oversize → ⊥)
       → own_refusal s who u ≡ None
@@ -86,14 +105,23 @@ grouped (Some why) b c = refl
 -- ---- what each line asks for
 
 module _ (s : State) (name : List ℕ) (who : Pid) (sender : IsSender s name who) where
+  -- octets that are no UPDATE
+  pub update_misread : (bytes : List ℕ) (fault : UpdateFault) → ((f : Fault) → fault ≡ updates.Bad f → decoded bytes ≡ Err f) → IsStop s (Update name bytes) (update_stop fault)
+  update_misread bytes (updates.Bad f) cause =
+      refusal_stops s (Update name bytes) (BadUpdate f)
+      (in_place s (Update name bytes) (placed (Update name bytes) refl refl s.phase sender.ready)
+      ∙ ap (λ o. if_known o (λ w. update_refusal s w (decoded bytes))) sender.known ∙ ap (update_refusal s who) (cause f refl))
+  update_misread bytes updates.Memory cause = tt
+
   update_refused : (bytes : List ℕ) (u : Message) → decoded bytes ≡ Ok u → refusal s (Update name bytes) ≡ or_else (own_refusal s who u) (tags_refusal s (with_update s.routing who u))
   update_refused bytes u is =
       in_place s (Update name bytes) (placed (Update name bytes) refl refl s.phase sender.ready)
       ∙ ap (λ o. if_known o (λ w. update_refusal s w (decoded bytes))) sender.known ∙ ap (update_refusal s who) is
       ∙ grouped (attrs_refusal s who u.attrs) (refused_if (is_oversize u) Oversize) (tags_refusal s (with_update s.routing who u))
 
-  pub update_faulty : (bytes : List ℕ) (u : Message) (why : Refusal) → decoded bytes ≡ Ok u → own_refusal s who u ≡ Some why → refusal s (Update name bytes) ≡ Some why
-  update_faulty bytes u why is refused = update_refused bytes u is ∙ ap (λ o. or_else o (tags_refusal s (with_update s.routing who u))) refused
+  -- an UPDATE that the participant may not send
+  pub update_stops : (bytes : List ℕ) (u : Message) (stop : Stop) → decoded bytes ≡ Ok u → IsFirst (or_else (own_refusal s who u) (tags_refusal s (with_update s.routing who u))) stop → IsStop s (Update name bytes) stop
+  update_stops bytes u stop is first = first_stops s (Update name bytes) stop (subst (λ o. IsFirst o stop) (sym (update_refused bytes u is)) first)
 
   pub update_leads : (bytes : List ℕ) (u : Message) (p : Proposed) → decoded bytes ≡ Ok u → own_refusal s who u ≡ None → IsProposal s.routing (with_update s.routing who u) p → p.named ≡ None → Reroutes s (Update name bytes) (with_update s.routing who u) p
   update_leads bytes u p is none proposes unnamed = record {
@@ -117,6 +145,20 @@ module _ (s : State) (name : List ℕ) (who : Pid) (sender : IsSender s name who
 
   text_refused : (text : List ℕ) → refusal s (Export name text) ≡ text_refusal s who text
   text_refused text = in_place s (Export name text) (placed (Export name text) refl refl s.phase sender.ready) ∙ ap (λ o. if_known o (λ w. text_refusal s w text)) sender.known
+
+  -- a text that is no rules of declared participants
+  pub export_stops : (text : List ℕ) (stop : Stop) → Gives {X = List ExportRule} (rules_or_refusal s.routing text) (Err stop) → IsStop s (Export name text) stop
+  export_stops text (Refused why) e = refusal_stops s (Export name text) why (text_refused text ∙ by (nat_lt 8192 (length text)) (rules_of_text text) e)
+    where
+      unbound : (o : Option (List ExportRule)) → bound_or o ≡ Err why → bound_refusal s who o ≡ Some why
+      unbound None e = let same : Unknown ≡ why = cc in ap (λ x. Some x) same
+      unbound (Some found) e = absurd (cc)
+
+      by : (long : Bool) (read : Result (List NamedRule) ℕ) → cond long (Err TextLong) (read_or s.routing read) ≡ Err why → cond long (Some TextLong) (rules_refusal s who read) ≡ Some why
+      by true read e = let same : TextLong ≡ why = cc in ap (λ x. Some x) same
+      by false (Err at) e = let same : Syntax at ≡ why = cc in ap (λ x. Some x) same
+      by false (Ok named) e = unbound (bound (pid_of s.routing) named) e
+  export_stops text Memory e = tt
 
   -- what the rules of a text make of its refusal
   rules_refused : (text : List ℕ) (long : Bool) (read : Result (List NamedRule) ℕ) (rules : List ExportRule) → cond long (Err TextLong) (read_or s.routing read) ≡ Ok rules
@@ -145,3 +187,18 @@ pub rules_bound : (r : Routing) (text : List ℕ) (named : List NamedRule) (o : 
 rules_bound r text named o fits read found =
     ap (λ b. cond b (Err TextLong) (read_or r (rules_of_text text))) (false_from_ne_true (nat_lt 8192 (length text)) (λ e. let long : 8192 < length text = ltb-true 8192 (length text) e in absurd (omega (arith, long, fits))))
     ∙ ap (read_or r) read ∙ ap bound_or found
+
+-- a text that is no rules
+pub rules_misread : (r : Routing) (text : List ℕ) (fault : RulesFault) → (fault ≡ rules.TextLong → 8192 < length text) → (8192 < length text → fault ≡ rules.TextLong) → ((at : ℕ) → fault ≡ rules.Syntax at → rules_of_text text ≡ Err at)
+    → Gives {X = List ExportRule} (rules_or_refusal r text) (Err (rules_stop fault))
+rules_misread r text rules.TextLong long short place = ap (λ b. cond b (Err TextLong) (read_or r (rules_of_text text))) (lt-ltb 8192 (length text) (long refl))
+rules_misread r text (rules.Syntax at) long short place =
+    ap (λ b. cond b (Err TextLong) (read_or r (rules_of_text text))) (false_from_ne_true (nat_lt 8192 (length text)) (λ e. let other : rules.Syntax at ≡ rules.TextLong = short (ltb-true 8192 (length text) e) in absurd (cc)))
+    ∙ ap (read_or r) (place at refl)
+rules_misread r text rules.Memory long short place = tt
+
+-- rules with a name that isn't declared
+pub rules_unbound : (r : Routing) (text : List ℕ) (named : List NamedRule) (fault : BindFault) → length text ≤ 8192 → rules_of_text text ≡ Ok named → (fault ≡ binding.UnknownName → bound (pid_of r) named ≡ None)
+    → Gives {X = List ExportRule} (rules_or_refusal r text) (Err (bind_stop fault))
+rules_unbound r text named binding.UnknownName fits read none = rules_bound r text named None fits read (none refl)
+rules_unbound r text named binding.Memory fits read none = tt

@@ -20,7 +20,7 @@ use Rattle.net_types.proofs.OrderLemmas.{pairs_total}
 use Rattle.net_types.proofs.OrderedLemmas.{ordered_rises}
 use Rattle.net_types.proofs.RisingLemmas.{before, before_itself, filter-IsRising, filter-Member}
 use Rattle.net_types.proofs.SetLemmas.{Member-map, Member-union, map-Member, union-Member}
-use Rattle.net_types.proofs.TieLemmas.{pair_cmp-IsAntisymmetric, same_from_tie}
+use Rattle.net_types.proofs.TieLemmas.{pair_tie}
 use Rattle.net_types.proofs.WidthLemmas.{no_longer}
 use Rattle.net_types.specs.Exports.{Routing}
 use Rattle.net_types.specs.Keys.{pair_cmp}
@@ -94,7 +94,7 @@ module _ (s : State) (r : Routing) (change : IsChange s r) (own : PortsDiffer s.
 
   fresh_few : length (filter is_fresh (live_pairs (retagged s r))) ≤ length s.routing.ports * length (groups s r)
   fresh_few =
-      let rises : IsRising (before pair_cmp) (live_pairs (retagged s r)) = ordered_rises pair_cmp pairs_total (same_from_tie pair_cmp pair_cmp-IsAntisymmetric) (filter (is_live_pair (retagged s r)) (pairs (retagged s r))) in
+      let rises : IsRising (before pair_cmp) (live_pairs (retagged s r)) = ordered_rises pair_cmp pairs_total pair_tie (filter (is_live_pair (retagged s r)) (pairs (retagged s r))) in
       let few = no_longer (filter is_fresh (live_pairs (retagged s r))) (grid (group_tags s r) numbers_of) (no_repeats _ (filter-IsRising (before pair_cmp) is_fresh (live_pairs (retagged s r)) rises)) each in
       let count = grid_length (group_tags s r) numbers_of in
       let ports = length-map s.routing.ports (λ (q : PortInfo). q.number) in

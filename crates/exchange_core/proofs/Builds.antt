@@ -1,6 +1,7 @@
 -- Carrying out what a line that builds rules asks for is a step, and so is its refusal for want of tags or of room.
 use Rattle.std.proofs.Common.{◌≡◌, ℕ, ◌+◌, ◌<◌, ◌≤◌, Bool, true, false, List, length, sym, ap, subst, ◌∙◌, refl, arith}
-use Rattle.std.specs.Prelude.{Some, None, Result, Ok, Err, IfOk, nat_lt}
+use Rattle.std.specs.Prelude.{Some, None, Result, Ok, Err, IfErr, IfOk, nat_lt}
+use Rattle.std.specs.Result.{IsErrAnd}
 use Rattle.advert_queue.specs.Advertised.{Advertised}
 use Rattle.std.specs.FinMap.{FinMap}
 use Rattle.std.proofs.lemmas.Bool.{lt-ltb, ltb-true}
@@ -15,10 +16,10 @@ use Rattle.events.specs.Tags as events
 use Rattle.events.specs.Tags.{groups, retagged}
 use Rattle.events.specs.declared.Entry.{Entry}
 use Rattle.events.specs.declared.Event.{Event}
-use Rattle.events.specs.declared.Head.TheVariants.{Fine, Refused}
+use Rattle.events.specs.declared.Head.TheVariants as heads
+use Rattle.events.specs.declared.Head.TheVariants.{Fine}
 use Rattle.events.specs.declared.Phase.{Phase}
 use Rattle.events.specs.declared.Phase.TheVariants.{Running}
-use Rattle.events.specs.declared.Refusal.{Refusal}
 use Rattle.events.specs.declared.Refusal.TheVariants.{NoNextHop, TableFull}
 use Rattle.events.specs.declared.Reply.{Reply}
 use Rattle.exchange_laws.proofs.LineSteps.{building_other}
@@ -32,15 +33,16 @@ use Rattle.fast_path.specs.Committing.{marked_all, signed, tags_of}
 use Rattle.fast_path.specs.Grouping.{kept_by, known_by}
 use Rattle.fast_path.specs.Offers.{all_present}
 use Rattle.fast_path.specs.Planned.{IsPoolOf}
-use Rattle.fast_path.specs.Plans.{IsAsked, IsPlan, IsWithinSteps, is_rebuilt_live, planned}
+use Rattle.fast_path.specs.Plans.{IsAsked, IsFault, IsPlan, IsWithinSteps, is_rebuilt_live, planned}
 use Rattle.fast_path.specs.declared.planned.Changes.{Changes}
+use Rattle.fast_path.specs.declared.planned.FastFault.{FastFault}
+use Rattle.fast_path.specs.declared.planned.FastFault.TheVariants as faults
 use Rattle.fast_path.specs.declared.planned.Plan.{Plan}
 use Rattle.block_build.specs.Installed.{Installed}
 use Rattle.net_types.specs.Answers.{Policies}
 use Rattle.net_types.specs.Exports.{Routing, pid_of}
 use Rattle.net_types.specs.Keys.{prefix_cmp}
 use Rattle.net_types.specs.declared.address.Ip.{Ip}
-use Rattle.net_types.specs.declared.memory.Memory.{Memory}
 use Rattle.net_types.specs.declared.rule.Pair.{Pair}
 use Rattle.next_hop_pool.specs.Free.{Tags}
 use Rattle.prefix_classes.specs.Classes.{Classes}
@@ -48,13 +50,17 @@ use Rattle.registry.specs.Registered.{Registered}
 use Rattle.route_server.specs.Served.{Served}
 use Rattle.exchange_core.proofs.Compiled.{changed_compiled, inbound_changed, lent_are_of, lent_length, outbound_changed}
 use Rattle.exchange_core.proofs.Requests.{enough_pass}
-use Rattle.exchange_core.proofs.Steps.{refused_step, steady_after}
-use Rattle.exchange_core.specs.Building.{Asks, Leads, base_of}
+use Rattle.exchange_core.proofs.Steps.{steady_after}
+use Rattle.exchange_core.proofs.Stops.{refusal_stops, returned}
+use Rattle.exchange_core.specs.Building.{Leads, base_of}
 use Rattle.exchange_core.specs.Programs.{AreCompiled, IsChangeOf, all_lent, changed, inbound_after, inbound_texts, outbound_after, outbound_texts}
 use Rattle.exchange_core.specs.Steps.{bound_by, built_count, step_bound}
+use Rattle.exchange_core.specs.Stops.{IsStop, fast_stop}
 use Rattle.exchange_core.specs.View.{IsKept, state_of}
 use Rattle.exchange_core.specs.declared.programs.Programs.{Programs}
 use Rattle.exchange_core.specs.declared.request.Request.{Request}
+use Rattle.exchange_core.specs.declared.stop.Stop.{Stop}
+use Rattle.exchange_core.specs.declared.stop.Stop.TheVariants.{Refused, Memory}
 
 -- ---- what is asked
 
@@ -91,28 +97,28 @@ steps_within s e r is_rebuilt q before after leads within = by (nat_lt (length (
         let few = leads.bound none in
         omega (arith, most, few, all)
 
--- what is asked for is answered for each line that asks for it
-pub for_asked : (s : State) (q : Request) (asked : Result Request Refusal) → asked ≡ Ok q → (result : Result Reply Memory) (s' : State)
-    → IfOk result (λ reply. (e : Event) (r : Routing) (is_rebuilt : Pair → Bool) → IsWellFormed e → Leads s e r is_rebuilt q → IsStep s e reply s') → IfOk result (λ reply. (e : Event) → IsWellFormed e → Asks s e asked → IsStep s e reply s')
-for_asked s q asked is (Ok reply) s' done = λ e formed asks. let leads = subst (Asks s e) is asks in done e leads.0 leads.1 formed leads.2
-for_asked s q asked is (Err m) s' done = tt
+-- what is done of a request for each line that asks for it is done for this one
+pub line_steps : (s : State) (e : Event) (r : Routing) (is_rebuilt : Pair → Bool) (q : Request) (result : Result Reply Stop) (s' : State) → IsWellFormed e → Leads s e r is_rebuilt q
+    → IfOk result (λ reply. (d : Event) (t : Routing) (test : Pair → Bool) → IsWellFormed d → Leads s d t test q → IsStep s d reply s') → IfOk result (λ reply. IsStep s e reply s')
+line_steps s e r is_rebuilt q (Ok reply) s' formed leads done = done e r is_rebuilt formed leads
+line_steps s e r is_rebuilt q (Err stop) s' formed leads done = tt
 
--- what is answered for each line is answered for this one
-pub for_line : (s : State) (e : Event) (asked : Result Request Refusal) (result : Result Reply Memory) (s' : State) → IfOk result (λ reply. (e : Event) → IsWellFormed e → Asks s e asked → IsStep s e reply s') → IsWellFormed e → Asks s e asked
-    → IfOk result (λ reply. IsStep s e reply s')
-for_line s e asked (Ok reply) s' done formed asks = done e formed asks
-for_line s e asked (Err m) s' done formed asks = tt
+-- and so what stops it
+pub line_stops : (s : State) (e : Event) (r : Routing) (is_rebuilt : Pair → Bool) (q : Request) (result : Result Reply Stop) → Leads s e r is_rebuilt q
+    → IfErr result (λ stop. (d : Event) (t : Routing) (test : Pair → Bool) → Leads s d t test q → IsStop s d stop) → IfErr result (IsStop s e)
+line_stops s e r is_rebuilt q (Ok reply) leads done = tt
+line_stops s e r is_rebuilt q (Err stop) leads done = done e r is_rebuilt leads
 
 -- ---- refusals
 
 -- more tags are needed than are free
-pub short_step : (s : State) (e : Event) (r : Routing) (is_rebuilt : Pair → Bool) (q : Request) (reply : Reply) (need free : ℕ) → Leads s e r is_rebuilt q → need ≡ length (groups (base_of s q) r) → free ≡ length (events.free_tags (base_of s q)) → free < need
-    → reply ≡ bare (Refused (NoNextHop need free)) → IsStep s e reply s
-short_step s e r is_rebuilt q reply need free leads needs frees below is =
+short_stops : (s : State) (e : Event) (r : Routing) (is_rebuilt : Pair → Bool) (q : Request) (need free : ℕ) → Leads s e r is_rebuilt q → need ≡ length (groups (base_of s q) r) → free ≡ length (events.free_tags (base_of s q)) → free < need
+    → IsStop s e (Refused (NoNextHop need free))
+short_stops s e r is_rebuilt q need free leads needs frees below =
     let less : length (events.free_tags (base_of s q)) < length (groups (base_of s q) r) = omega (arith, needs, frees, below) in
-    refused_step s e reply (NoNextHop need free)
+    refusal_stops s e (NoNextHop need free)
     (leads.refuses ∙ ap (λ b. refused_if b (NoNextHop (length (groups (base_of s q) r)) (length (events.free_tags (base_of s q))))) (lt-ltb (length (events.free_tags (base_of s q))) (length (groups (base_of s q) r)) less)
-    ∙ ap (λ n. Some (NoNextHop n (length (events.free_tags (base_of s q))))) (sym needs) ∙ ap (λ n. Some (NoNextHop need n)) (sym frees)) is
+    ∙ ap (λ n. Some (NoNextHop n (length (events.free_tags (base_of s q))))) (sym needs) ∙ ap (λ n. Some (NoNextHop need n)) (sym frees))
 
 -- where there are enough, it is an edit
 pub edit_of : (s : State) (e : Event) (r : Routing) (is_rebuilt : Pair → Bool) (q : Request) → Leads s e r is_rebuilt q → HasEnoughTags (base_of s q) r → IsEdit s e (base_of s q) r is_rebuilt
@@ -122,16 +128,23 @@ names_alike : (r r1 : Routing) → r1.participants ≡ r.participants → pid_of
 names_alike r r1 same = ap (λ ms. pid_of (record r1 { participants = ms })) (sym same)
 
 -- the rules would be more than there is room for
-pub full_step : FullTablesAreRefused → (s : State) (e : Event) (r : Routing) (is_rebuilt : Pair → Bool) (q : Request) (reply : Reply) (rules capacity : ℕ) → Leads s e r is_rebuilt q → HasEnoughTags (base_of s q) r → AreWithinCells (retagged (base_of s q) r) rules
-    → capacity ≡ s.capacity → capacity < rules → reply ≡ bare (Refused (TableFull rules capacity)) → IsStep s e reply s
-full_step law s e r is_rebuilt q reply rules capacity leads enough within room over is =
+full_stops : FullTablesAreRefused → (s : State) (e : Event) (r : Routing) (is_rebuilt : Pair → Bool) (q : Request) (rules capacity : ℕ) → Leads s e r is_rebuilt q → HasEnoughTags (base_of s q) r → AreWithinCells (retagged (base_of s q) r) rules
+    → capacity ≡ s.capacity → capacity < rules → IsStop s e (Refused (TableFull rules capacity))
+full_stops law s e r is_rebuilt q rules capacity leads enough within room over =
     let read = leads.base.right.read in
     let ps : Policies = leads.base.right.policies in
     let policies : ArePolicies (retagged (base_of s q) r) ps = record { names = read.names ∙ names_alike s.routing r leads.alike.participants; outbound = read.outbound; inbound = read.inbound } in
-    let same : reply ≡ bare (Refused (TableFull rules s.capacity)) = is ∙ ap (λ n. bare (Refused (TableFull rules n))) room in record {
-      fits = subst (Fits s e) (sym same) (law s e (base_of s q) r is_rebuilt rules (edit_of s e r is_rebuilt q leads enough) ps policies within (omega (arith, room, over)));
-      next = sym (ap (next s e) is);
-    }
+    subst (λ n. Fits s e (bare (heads.Refused (TableFull rules n)))) (sym room) (law s e (base_of s q) r is_rebuilt rules (edit_of s e r is_rebuilt q leads enough) ps policies within (omega (arith, room, over)))
+
+-- what stops the plan of a request stops the line
+pub fault_stops : FullTablesAreRefused → (s : State) (e : Event) (r : Routing) (is_rebuilt : Pair → Bool) (q : Request) (fault : FastFault) → Leads s e r is_rebuilt q → IsFault (base_of s q) r fault → IsStop s e (fast_stop fault)
+fault_stops law s e r is_rebuilt q (faults.NoNextHop need free) leads is = short_stops s e r is_rebuilt q need free leads is.0 is.1 is.2
+fault_stops law s e r is_rebuilt q (faults.TableFull rules capacity) leads is = full_stops law s e r is_rebuilt q rules capacity leads is.0 is.1 is.2 is.3
+fault_stops law s e r is_rebuilt q faults.Memory leads is = tt
+
+-- want of memory stops any line
+pub memory_stops : (s : State) (q : Request) (result : Result Reply Stop) → IsErrAnd result (λ e. e ≡ Memory) → IfErr result (λ stop. (e : Event) (r : Routing) (is_rebuilt : Pair → Bool) → Leads s e r is_rebuilt q → IsStop s e stop)
+memory_stops s q result is = returned (λ x. IfErr x (λ stop. (e : Event) (r : Routing) (is_rebuilt : Pair → Bool) → Leads s e r is_rebuilt q → IsStop s e stop)) result Memory is (λ e r is_rebuilt leads. tt)
 
 -- ---- what is committed
 

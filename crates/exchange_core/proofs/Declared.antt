@@ -5,7 +5,6 @@ use Rattle.std.specs.FinMap.{FinMap, empty, values}
 use Rattle.std.specs.List.{list_any}
 use Rattle.std.proofs.lemmas.Bool.{lt-leb}
 use Rattle.std.proofs.lemmas.List.{length-append}
-use Rattle.events.proofs.Reached.{declared_pid}
 use Rattle.events.specs.After.{with_known, with_participant, with_port}
 use Rattle.events.specs.Forms.{IsWellFormed}
 use Rattle.events.specs.Fits.{IsStep, bare}
@@ -15,7 +14,7 @@ use Rattle.events.specs.Tags as events
 use Rattle.events.specs.declared.Entry.{Entry}
 use Rattle.events.specs.declared.Event.{Event}
 use Rattle.events.specs.declared.Event.TheVariants.{Exchange, Participant as DeclaresParticipant, Port as DeclaresPort}
-use Rattle.events.specs.declared.Head.TheVariants.{Fine, Refused}
+use Rattle.events.specs.declared.Head.TheVariants.{Fine}
 use Rattle.events.specs.declared.Phase.{Phase}
 use Rattle.events.specs.declared.Phase.TheVariants.{Start, Declaring, Running}
 use Rattle.exchange_laws.specs.Steady.{IsNew}
@@ -24,7 +23,6 @@ use Rattle.block_build.specs.Installed.{Installed}
 use Rattle.prefix_classes.specs.Classes.{Classes}
 use Rattle.registry.specs.Registered as registered
 use Rattle.registry.specs.Registered.{Registered}
-use Rattle.route_server.specs.Rows.{ruled}
 use Rattle.route_server.specs.Served.{Served}
 use Rattle.net_types.proofs.SetLemmas.{map-append}
 use Rattle.events.specs.declared.Refusal.{Refusal}
@@ -48,7 +46,11 @@ use Rattle.next_hop_pool.proofs.FreeLemmas.{free_by_place, free_from}
 use Rattle.next_hop_pool.specs.Free.{Tags, all_free, tag}
 use Rattle.exchange_core.proofs.Compiled.{dropping_compiled, joined_compiled}
 use Rattle.exchange_core.proofs.Present.{all_nothing, same_more}
-use Rattle.exchange_core.proofs.Steps.{kept_after, quiet_step, refused_step, steady_after}
+use Rattle.exchange_core.proofs.Steps.{kept_after, quiet_step, steady_after}
+use Rattle.exchange_core.proofs.Stops.{stops_at}
+use Rattle.exchange_core.specs.Stops.{IsStop}
+use Rattle.exchange_core.specs.declared.stop.Stop.{Stop}
+use Rattle.exchange_core.specs.declared.stop.Stop.TheVariants.{Refused}
 use Rattle.exchange_core.specs.Programs.{AreCompiled, IsDropping, inbound_texts, outbound_texts}
 use Rattle.exchange_core.specs.declared.programs.Programs.{Programs}
 use Rattle.exchange_core.specs.View.{IsKept, state_of}
@@ -163,25 +165,23 @@ participant_compiled {s} {pool} {all} kept declaring outbound inbound names b ou
     subst (AreCompiled names) (sym joined)
     (joined_compiled names all b (dropping_compiled s all outbound inbound new.drop (pid_of s.routing) names kept.compiled) (out_drops.compiled names) (in_drops.compiled names))
 
-pub name_refused : {s : State} {pool : Tags} {all : List Programs} → IsKept s pool all → s.phase ≡ Declaring → (st : State) → s ≡ st → (name : List ℕ) (asn : ℕ) (id : Ip) → is_name_taken s name ≡ true → (r : Reply) → r ≡ bare (Refused Clash)
-    → IsStep st (DeclaresParticipant name asn id) r st
-name_refused {s} kept declaring st is name asn id there r reply =
-    subst (λ x. IsStep x (DeclaresParticipant name asn id) r x) is
-    (refused_step s (DeclaresParticipant name asn id) r Clash (declaring_at s (DeclaresParticipant name asn id) (Some Clash) declaring refl
-    (ap (λ b. or_else (refused_if b Clash) (refused_if (nat_le 256 (length s.routing.participants)) Full)) there)) reply)
+-- the name is taken
+pub name_stops : (s st : State) → s ≡ st → s.phase ≡ Declaring → (name : List ℕ) (asn : ℕ) (id : Ip) → is_name_taken s name ≡ true → (stop : Stop) → stop ≡ Refused Clash → IsStop st (DeclaresParticipant name asn id) stop
+name_stops s st is declaring name asn id there stop says =
+    let e : Event = DeclaresParticipant name asn id in
+    stops_at s st e stop Clash is says
+    (declaring_at s e (Some Clash) declaring refl (ap (λ b. or_else (refused_if b Clash) (refused_if (nat_le 256 (length s.routing.participants)) Full)) there))
 
-pub full_refused : {s : State} {pool : Tags} {all : List Programs} → IsKept s pool all → s.phase ≡ Declaring → (st : State) → s ≡ st → (name : List ℕ) (asn : ℕ) (id : Ip) → is_name_taken s name ≡ false → nat_le 256 (length s.routing.participants) ≡ true
-    → (r : Reply) → r ≡ bare (Refused Full) → IsStep st (DeclaresParticipant name asn id) r st
-full_refused {s} kept declaring st is name asn id absent many r reply =
-    subst (λ x. IsStep x (DeclaresParticipant name asn id) r x) is
-    (refused_step s (DeclaresParticipant name asn id) r Full (declaring_at s (DeclaresParticipant name asn id) (Some Full) declaring refl
-    (ap (λ b. or_else (refused_if b Clash) (refused_if (nat_le 256 (length s.routing.participants)) Full)) absent ∙ ap (λ b. refused_if b Full) many)) reply)
+-- there are as many participants as there may be
+pub full_stops : (s st : State) → s ≡ st → s.phase ≡ Declaring → (name : List ℕ) (asn : ℕ) (id : Ip) → is_name_taken s name ≡ false → nat_le 256 (length s.routing.participants) ≡ true → (stop : Stop) → stop ≡ Refused Full
+    → IsStop st (DeclaresParticipant name asn id) stop
+full_stops s st is declaring name asn id absent many stop says =
+    let e : Event = DeclaresParticipant name asn id in
+    stops_at s st e stop Full is says
+    (declaring_at s e (Some Full) declaring refl
+    (ap (λ b. or_else (refused_if b Clash) (refused_if (nat_le 256 (length s.routing.participants)) Full)) absent ∙ ap (λ b. refused_if b Full) many))
 
 -- ---- a port
-
--- who has a name is declared
-pub named_within : (names : Registered) (name : List ℕ) (who : Pid) → registered.named names name ≡ Some who → who.0 < length names.participants
-named_within names name who e = declared_pid (ruled names []) name who e
 
 abbrev port_by : Pid → PortNo → Ip → Mac → PortInfo
 port_by who number ip mac = record { owner = who; number = number; ip = ip; mac = mac }
@@ -200,13 +200,14 @@ port_kept {s} {pool} kept declaring name who number ip mac formed known free =
     kept_after s (DeclaresPort name number ip mac) (bare Fine) (with_port s (port_by who number ip mac)) pool kept formed refl
     (port_step kept declaring name who number ip mac formed known free (bare Fine) refl) refl refl refl _ kept.compiled
 
-pub port_refused : {s : State} {pool : Tags} {all : List Programs} → IsKept s pool all → s.phase ≡ Declaring → (st : State) → s ≡ st → (name : List ℕ) (who : Pid) (number : PortNo) (ip : Ip) (mac : Mac)
-    → pid_of s.routing name ≡ Some who → is_port_taken s number ip mac ≡ true → (r : Reply) → r ≡ bare (Refused Clash) → IsStep st (DeclaresPort name number ip mac) r st
-port_refused {s} kept declaring st is name who number ip mac known taken r reply =
+-- the port's number or one of its addresses is taken, or reserved
+pub port_stops : (s st : State) → s ≡ st → s.phase ≡ Declaring → (name : List ℕ) (who : Pid) (number : PortNo) (ip : Ip) (mac : Mac) → pid_of s.routing name ≡ Some who → is_port_taken s number ip mac ≡ true → (stop : Stop) → stop ≡ Refused Clash
+    → IsStop st (DeclaresPort name number ip mac) stop
+port_stops s st is declaring name who number ip mac known taken stop says =
     let e : Event = DeclaresPort name number ip mac in
-    subst (λ x. IsStep x e r x) is
-    (refused_step s e r Clash (declaring_at s e (Some Clash) declaring refl
-    (ap (λ o. if_known o (λ w. refused_if (is_port_taken s number ip mac) Clash)) known ∙ ap (λ b. refused_if b Clash) taken)) reply)
+    stops_at s st e stop Clash is says
+    (declaring_at s e (Some Clash) declaring refl
+    (ap (λ o. if_known o (λ w. refused_if (is_port_taken s number ip mac) Clash)) known ∙ ap (λ b. refused_if b Clash) taken))
 
 -- ---- the parts after a line
 

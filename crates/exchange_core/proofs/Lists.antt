@@ -7,13 +7,12 @@ use Rattle.events.specs.Fits.{IsStep, all_flows, bare, by_table}
 use Rattle.events.specs.Refusals.{if_known}
 use Rattle.events.specs.State.{State, port_of}
 use Rattle.events.specs.declared.Event.TheVariants.{Frame, Table}
-use Rattle.events.specs.declared.Head.TheVariants.{Fine, Refused}
-use Rattle.events.specs.declared.Refusal.TheVariants.{Unknown}
+use Rattle.events.specs.declared.Head.TheVariants.{Fine}
 use Rattle.events.specs.declared.Reply.{Reply}
 use Rattle.net_types.specs.declared.address.PortNo.{PortNo}
 use Rattle.net_types.specs.declared.route.PortInfo.{PortInfo}
 use Rattle.next_hop_pool.specs.Free.{Tags}
-use Rattle.exchange_core.proofs.Steps.{in_place, kept_after, placed, quiet_step, refused_at}
+use Rattle.exchange_core.proofs.Steps.{in_place, kept_after, placed, quiet_step}
 use Rattle.exchange_core.specs.Placed.{is_declared}
 use Rattle.exchange_core.specs.declared.programs.Programs.{Programs}
 use Rattle.exchange_core.specs.View.{IsKept}
@@ -35,8 +34,3 @@ pub frame_kept : {s : State} {pool : Tags} {all : List Programs} → IsKept s po
 frame_kept {s} {pool} kept ready port bytes q formed found =
     let r : Reply = record (bare Fine) { frames = by_table s q bytes } in
     kept_after s (Frame port bytes) r (running s) pool kept formed refl (frame_step kept ready port bytes q formed found r refl) refl refl refl _ kept.compiled
-
--- a port that isn't declared
-pub frame_refused : {s : State} {pool : Tags} {all : List Programs} → IsKept s pool all → is_declared s.phase ≡ true → (st : State) → s ≡ st → (port : PortNo) (bytes : List ℕ) → port_of s port ≡ None → (r : Reply) → r ≡ bare (Refused Unknown) → IsStep st (Frame port bytes) r st
-frame_refused {s} kept ready st is port bytes none r reply =
-    refused_at s st (Frame port bytes) r Unknown is (placed (Frame port bytes) refl refl s.phase ready) (ap (λ o. if_known o (λ x. None)) none) reply

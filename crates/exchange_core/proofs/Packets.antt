@@ -12,8 +12,8 @@ use Rattle.events.specs.Resolving.{is_resolved, tag_address}
 use Rattle.events.specs.State.{State, port_of, told_to}
 use Rattle.events.specs.declared.Entry.{Entry}
 use Rattle.events.specs.declared.Event.TheVariants.{Packet}
-use Rattle.events.specs.declared.Head.TheVariants.{Fine, Refused, Unresolved, Unrouted}
-use Rattle.events.specs.declared.Refusal.TheVariants.{BadPacket, Unknown}
+use Rattle.events.specs.declared.Head.TheVariants.{Fine, Unresolved, Unrouted}
+use Rattle.events.specs.declared.Refusal.TheVariants.{BadPacket}
 use Rattle.events.specs.declared.Reply.{Reply}
 use Rattle.net_types.specs.Frames.{destination, framed, headers_of, tag_mac}
 use Rattle.net_types.specs.Keys.{prefix_cmp}
@@ -31,18 +31,19 @@ use Rattle.exchange_core.specs.View.{IsKept}
 use Rattle.exchange_laws.proofs.PoolTags.{told_small}
 use Rattle.exchange_laws.proofs.Forwarded.{forwarded}
 use Rattle.exchange_laws.proofs.Framing.{destination_is, is_datagram-none, is_datagram-some, readdressed, tagged_octets}
-use Rattle.exchange_core.proofs.Steps.{in_place, kept_after, placed, quiet_step, refused_at}
-
-pub packet_refused : {s : State} {pool : Tags} {all : List Programs} → IsKept s pool all → is_declared s.phase ≡ true → (st : State) → s ≡ st → (port : PortNo) (bytes : List ℕ) → port_of s port ≡ None → (r : Reply) → r ≡ bare (Refused Unknown) → IsStep st (Packet port bytes) r st
-packet_refused {s} kept ready st is port bytes none r reply =
-    refused_at s st (Packet port bytes) r Unknown is (placed (Packet port bytes) refl refl s.phase ready) (ap (λ o. if_known o (λ x. refused_if (not (is_datagram bytes)) BadPacket)) none) reply
+use Rattle.exchange_core.proofs.Steps.{in_place, kept_after, placed, quiet_step}
+use Rattle.exchange_core.proofs.Stops.{stops_at}
+use Rattle.exchange_core.specs.Stops.{IsStop}
+use Rattle.exchange_core.specs.declared.stop.Stop.{Stop}
+use Rattle.exchange_core.specs.declared.stop.Stop.TheVariants.{Refused}
 
 -- a datagram that isn't one is refused
-pub no_packet : {s : State} {pool : Tags} {all : List Programs} → IsKept s pool all → is_declared s.phase ≡ true → (st : State) → s ≡ st → (port : PortNo) (bytes : List ℕ) (q : PortInfo) → port_of s port ≡ Some q → (to : Mac) → length to.0 ≡ 6 → length q.mac.0 ≡ 6
-    → (frame : List ℕ) → frame ≡ framed to q.mac bytes → headers_of port frame ≡ None → (r : Reply) → r ≡ bare (Refused BadPacket) → IsStep st (Packet port bytes) r st
-no_packet {s} kept ready st is port bytes q found to six_to six_from frame is_framed none r reply =
-    refused_at s st (Packet port bytes) r BadPacket is (placed (Packet port bytes) refl refl s.phase ready)
-    (ap (λ o. if_known o (λ x. refused_if (not (is_datagram bytes)) BadPacket)) found ∙ ap (λ b. refused_if (not b) BadPacket) (is_datagram-none port to q.mac bytes six_to six_from (ap (headers_of port) (sym is_framed) ∙ none))) reply
+pub no_packet : (s st : State) → s ≡ st → is_declared s.phase ≡ true → (port : PortNo) (bytes : List ℕ) (q : PortInfo) → port_of s port ≡ Some q → (to : Mac) → length to.0 ≡ 6 → length q.mac.0 ≡ 6
+    → (frame : List ℕ) → frame ≡ framed to q.mac bytes → headers_of port frame ≡ None → (stop : Stop) → stop ≡ Refused BadPacket → IsStop st (Packet port bytes) stop
+no_packet s st is ready port bytes q found to six_to six_from frame is_framed none stop says =
+    stops_at s st (Packet port bytes) stop BadPacket is says
+    (in_place s (Packet port bytes) (placed (Packet port bytes) refl refl s.phase ready) ∙ ap (λ o. if_known o (λ x. refused_if (not (is_datagram bytes)) BadPacket)) found
+    ∙ ap (λ b. refused_if (not b) BadPacket) (is_datagram-none port to q.mac bytes six_to six_from (ap (headers_of port) (sym is_framed) ∙ none)))
 
 -- the reply by what was found
 abbrev pub reply_by : State → PortInfo → List ℕ → Option Entry → Reply

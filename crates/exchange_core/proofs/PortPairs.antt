@@ -13,13 +13,13 @@ use Rattle.exchange_laws.proofs.Lists.{numbers_range}
 use Rattle.exchange_laws.proofs.LivePairs.{live_tag}
 use Rattle.exchange_laws.proofs.OwnHops.{numbered_port}
 use Rattle.exchange_laws.specs.Steady.{IsSteady, PortsDiffer}
-use Rattle.fast_path.proofs.PortsAndTags.{tie}
 use Rattle.fast_path.proofs.TagOrder.{less_from}
 use Rattle.net_types.proofs.FindLemmas.{find-IsFound, find_none}
 use Rattle.net_types.proofs.OrderLemmas.{pairs_total}
 use Rattle.net_types.proofs.OrderedLemmas.{member_any, ordered_is}
 use Rattle.net_types.proofs.RisingLemmas.{Member-filter, before, filter-IsRising, filter-Member, keys-IsRising}
 use Rattle.net_types.proofs.SetLemmas.{Member-map, Member-union, map-Member, union-Member}
+use Rattle.net_types.proofs.TieLemmas.{pair_tie}
 use Rattle.net_types.specs.Keys.{pair_cmp}
 use Rattle.net_types.specs.Maps.{ordered}
 use Rattle.net_types.specs.Sets.{IsRising, Member, union_over}
@@ -181,7 +181,7 @@ other_port last p (x ∷ ks) rises e port =
 
 module _ (table : FinMap pair_cmp (List Rule)) where
   table_key : (pair : Pair) → Member pair (keys table) → is_some (get table pair) ≡ true
-  table_key pair m = contains_key-keys table pair ∙ member_any pair_cmp pairs_total tie pair (keys table) m
+  table_key pair m = contains_key-keys table pair ∙ member_any pair_cmp pairs_total pair_tie pair (keys table) m
 
   -- all have a greater tag than none
   pub all_later : (port : PortNo) (last : Pair) → last.port ≡ port → last.tag.0 ≡ 0 → AreTagged table → filter (is_later last) (keys table) ≡ filter (is_at port) (keys table)
@@ -226,7 +226,7 @@ module _ (table : FinMap pair_cmp (List Rule)) where
 
     -- in order they are those of the table that are the participant's
     pub theirs_are : ordered pair_cmp theirs ≡ filter (is_from names who) (keys table)
-    theirs_are = sym (ordered_is pair_cmp pairs_total tie (filter (is_from names who) (keys table)) theirs (filter-IsRising (before pair_cmp) (is_from names who) (keys table) (keys-IsRising pair_cmp table)) (record { onto = onto; back = back }))
+    theirs_are = sym (ordered_is pair_cmp pairs_total pair_tie (filter (is_from names who) (keys table)) theirs (filter-IsRising (before pair_cmp) (is_from names who) (keys table) (keys-IsRising pair_cmp table)) (record { onto = onto; back = back }))
 
 -- the pairs of the table of an exchange have tags of the pool
 pub table_tagged : (s : State) → IsSteady s → AreTagged s.table

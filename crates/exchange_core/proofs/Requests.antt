@@ -1,9 +1,8 @@
 -- What lines that build rules ask for leads to what they do.
 use Rattle.std.proofs.Common.{◌≡◌, ℕ, ◌+◌, ◌*◌, ◌<◌, ◌≤◌, Bool, true, false, cond, ◌&&◌, List, [], ◌∷◌, length, filter, sym, ap, subst, ◌∙◌, refl, ⊎_elim, arith}
-use Rattle.std.specs.Prelude.{Option, Some, None, Result, Ok, Err, IfOk, is_some, nat_lt}
+use Rattle.std.specs.Prelude.{Option, Some, None, Result, Ok, Err, MatchResult, is_some, nat_lt}
 use Rattle.std.specs.Option.{option_map_or}
 use Rattle.std.specs.FinMap.{contains_key-keys, get, keys}
-use Rattle.std.specs.Ordering.{eq_by_cmp}
 use Rattle.std.proofs.lemmas.Bool.{and_from, and_parts, false_from_ne_true, ltb-true}
 use Rattle.events.proofs.Reached.{declared_pid}
 use Rattle.events.specs.After.{after, with_named, with_outbound}
@@ -14,7 +13,7 @@ use Rattle.events.specs.Tags.{Group, free_tags, groups, is_live_pair, live_pairs
 use Rattle.events.specs.declared.Event.{Event}
 use Rattle.events.specs.declared.Event.TheVariants.{Bad, Exchange, Participant as DeclaresParticipant, Port as DeclaresPort, Update, Down, Export, Outbound as Out, Inbound as In, Take, Drain, Arp, Resolve, Packet, Frame, Recompile, Work, Table}
 use Rattle.events.specs.declared.Refusal.{Refusal}
-use Rattle.events.specs.declared.Refusal.TheVariants.{NoNextHop, TextLong, TooWide}
+use Rattle.events.specs.declared.Refusal.TheVariants.{Isolate, NoNextHop, TextLong, TooWide}
 use Rattle.exchange_laws.proofs.Lists.{key_Member}
 use Rattle.exchange_laws.proofs.SameRoutes.{no_groups}
 use Rattle.exchange_laws.specs.Editing.{IsBase, IsEdit, InboundBases, InboundsAreChanges, InboundsAreEdits, OutboundBases, OutboundsAreEdits, ReroutingsAreEdits, SteadyAreBases, inbound_base, outbound_base}
@@ -28,7 +27,7 @@ use Rattle.grammar.specs.TextReading.{Fault as Misread}
 use Rattle.net_types.proofs.OrderLemmas.{pairs_total}
 use Rattle.net_types.proofs.OrderedLemmas.{member_any}
 use Rattle.net_types.proofs.RisingLemmas.{Member-filter, before, filter-IsRising, filter-Member, keys-IsRising}
-use Rattle.net_types.proofs.TieLemmas.{pair_cmp-IsAntisymmetric, same_from_tie}
+use Rattle.net_types.proofs.TieLemmas.{pair_tie}
 use Rattle.net_types.specs.Exports.{Routing, pid_of}
 use Rattle.net_types.specs.Isolation.{first_of, in_faults, out_faults}
 use Rattle.net_types.specs.Keys.{pair_cmp}
@@ -38,31 +37,31 @@ use Rattle.net_types.specs.PolicyReading.{policy_of_text}
 use Rattle.net_types.specs.Widths.{is_too_wide}
 use Rattle.net_types.specs.declared.address.Pid.{Pid}
 use Rattle.net_types.specs.declared.isolation.IsolateFault.{IsolateFault}
-use Rattle.net_types.specs.declared.memory.Memory.{Memory}
 use Rattle.net_types.specs.declared.rule.Pair.{Pair}
 use Rattle.route_server.specs.Proposed.{IsProposal, Proposed, named_with}
 use Rattle.exchange_core.proofs.Bounds.{built_few}
 use Rattle.exchange_core.proofs.Steps.{in_place, placed}
-use Rattle.exchange_core.specs.Building.{Asks, IsOfKind, IsReceiving, IsSending, Leads, base_by, base_of}
-use Rattle.exchange_core.specs.Changing.{IsSender, Proposes, Reroutes}
-use Rattle.exchange_core.specs.PolicyTexts.{or_misread, policy_or_refusal}
+use Rattle.exchange_core.specs.Building.{IsOfKind, IsReceiving, IsSending, Leads, base_by, base_of}
+use Rattle.exchange_core.specs.Changing.{IsSender, Reroutes}
+use Rattle.exchange_core.specs.PolicyTexts.{HasRead, or_misread, policy_or_refusal}
 use Rattle.exchange_core.specs.Programs.{IsChangeCompiled, IsChangeOf}
 use Rattle.exchange_core.specs.Steps.{built_count, fresh_count, live_among, sent_count}
 use Rattle.exchange_core.specs.declared.programs.PolicyChange.TheVariants.{Stay}
+use Rattle.exchange_core.specs.Stops.{IsFirst, IsStop, isolate_stop}
 use Rattle.exchange_core.specs.declared.request.Request.{Request}
+use Rattle.exchange_core.specs.declared.stop.Stop.{Stop}
+use Rattle.exchange_core.specs.declared.stop.Stop.TheVariants.{Refused, Memory}
+use Rattle.exchange_core.proofs.Stops.{first_of_two, first_stops, refusal_stops}
 use Rattle.exchange_laws.proofs.AcceptedChanges.{rerouting_builds}
 use Rattle.exchange_laws.proofs.Rerouted.{enough_tags}
-
-tie : (x y : Pair) → eq_by_cmp pair_cmp x y ≡ true → x ≡ y
-tie = same_from_tie pair_cmp pair_cmp-IsAntisymmetric
 
 -- the pairs of the table that pass a test are the live ones that do, in order
 pub those_live : (s : State) (test : Pair → Bool) → ((pair : Pair) → is_some (get s.table pair) ≡ is_live_pair s pair) → AreThose (is_rebuilt_live s test) (filter test (keys s.table))
 those_live s test has = record {
   rising = filter-IsRising (before pair_cmp) test (keys s.table) (keys-IsRising pair_cmp s.table);
   each = λ pair m. let left = filter-Member test (keys s.table) pair m in
-      and_from (is_live_pair s pair) (test pair) (sym (has pair) ∙ contains_key-keys s.table pair ∙ member_any pair_cmp pairs_total tie pair (keys s.table) left.stands) left.passes;
-  all = λ pair e. let parts = and_parts (is_live_pair s pair) (test pair) e in Member-filter test (keys s.table) pair (key_Member pair_cmp pairs_total tie s.table pair (has pair ∙ parts.0)) parts.1;
+      and_from (is_live_pair s pair) (test pair) (sym (has pair) ∙ contains_key-keys s.table pair ∙ member_any pair_cmp pairs_total pair_tie pair (keys s.table) left.stands) left.passes;
+  all = λ pair e. let parts = and_parts (is_live_pair s pair) (test pair) e in Member-filter test (keys s.table) pair (key_Member pair_cmp pairs_total pair_tie s.table pair (has pair ∙ parts.0)) parts.1;
 }
 
 -- where there are enough tags, they refuse nothing
@@ -140,19 +139,18 @@ rerouting_leads bases edits s e r p q steady reroutes proposal rebuild change =
           (built_within s r none_rebuilt (bases s steady) reroutes.alike (sym reroutes.refuses ∙ none)) (count ∙ with_none (fresh_count s r) (live_among (retagged s r) none_rebuilt) none_anew);
     }
 
--- what is proposed asks for it
-pub rerouting_asks : SteadyAreBases → ReroutingsAreEdits → (s : State) (e : Event) (p : Proposed) (proposed : Result Proposed Refusal) (q : Request) → IsSteady s → proposed ≡ Ok p → Proposes s e proposed
-    → q.proposal ≡ p → q.rebuild.items ≡ [] → q.change ≡ Stay → Asks s e (Ok q)
-rerouting_asks bases edits s e p proposed q steady is proposes proposal rebuild change =
-    let reroutes = subst (Proposes s e) is proposes in (reroutes.0, none_rebuilt, rerouting_leads bases edits s e reroutes.0 p q steady reroutes.1 proposal rebuild change)
-
 -- ---- policies
 
 -- a policy without faults is refused at most for its width
-pub width_passes : (faults : List IsolateFault) (p : Policy) → first_of faults ≡ Ok tt → (result : Result (Option Refusal) Memory) → IfOk result (λ why. why ≡ refused_if (is_too_wide p) TooWide) → IfOk result (λ why. why ≡ policy_refusal faults p)
-width_passes [] p e (Ok why) is = is
-width_passes [] p e (Err m) is = tt
+pub width_passes : (faults : List IsolateFault) (p : Policy) → first_of faults ≡ Ok tt → (result : Result (Unit {0}) Stop) → MatchResult result (λ _. refused_if (is_too_wide p) TooWide ≡ None) (IsFirst (refused_if (is_too_wide p) TooWide))
+    → MatchResult result (λ _. policy_refusal faults p ≡ None) (IsFirst (policy_refusal faults p))
+width_passes [] p e result is = is
 width_passes (fault ∷ faults) p e result is = absurd (cc)
+
+-- a policy with faults is refused for the first
+pub fault_stops : (faults : List IsolateFault) (p : Policy) (fault : IsolateFault) → first_of faults ≡ Err fault → IsFirst (policy_refusal faults p) (isolate_stop fault)
+fault_stops [] p fault e = absurd (cc)
+fault_stops (x ∷ faults) p fault e = let same : x ≡ fault = cc in ap (λ (y : IsolateFault). Some (Isolate y.kind y.span.start y.span.end)) same
 
 -- a text that was read is short, and was read so
 pub read_of : (text : List ℕ) (p : Policy) → policy_or_refusal text ≡ Ok p → (nat_lt 8192 (length text) ≡ false) × (policy_of_text text ≡ Ok p)
@@ -183,7 +181,7 @@ module _ (s : State) (name text : List ℕ) (who : Pid) (sender : IsSender s nam
       in_place s (Out name text) (placed (Out name text) refl refl s.phase sender.ready)
       ∙ ap (λ o. if_known o (λ w. if_short text (outbound_refusal s w text (policy_of_text text)))) sender.known
 
-  pub out_misread : (why : Refusal) → policy_or_refusal text ≡ Err why → refusal s (Out name text) ≡ Some why
+  out_misread : (why : Refusal) → policy_or_refusal text ≡ Err why → refusal s (Out name text) ≡ Some why
   out_misread why e = out_refused ∙ misread text why (outbound_refusal s who text) (λ fault. refl) e
 
   abbrev new_names : Policy → List Pid
@@ -194,8 +192,17 @@ module _ (s : State) (name text : List ℕ) (who : Pid) (sender : IsSender s nam
   out_read p e = let read = read_of text p e in
       out_refused ∙ ap (λ b. cond b (Some TextLong) (outbound_refusal s who text (policy_of_text text))) read.0 ∙ ap (outbound_refusal s who text) read.1
 
-  pub out_faulty : (p : Policy) (why : Refusal) → policy_or_refusal text ≡ Ok p → policy_refusal (out_faults (pid_of s.routing) (owner_of s) who p) p ≡ Some why → refusal s (Out name text) ≡ Some why
-  out_faulty p why e faulty = out_read p e ∙ ap (λ o. or_else o (tags_refusal (with_outbound s who text (new_names p)) (with_named s.routing who (new_names p)))) faulty
+  -- a text that is no policy
+  pub out_unread : (stop : Stop) → HasRead text (Err stop) → IsStop s (Out name text) stop
+  out_unread (Refused why) e = refusal_stops s (Out name text) why (out_misread why e)
+  out_unread Memory e = tt
+
+  -- a policy that the participant may not have
+  pub out_faulty : (p : Policy) (stop : Stop) → policy_or_refusal text ≡ Ok p → IsFirst (policy_refusal (out_faults (pid_of s.routing) (owner_of s) who p) p) stop → IsStop s (Out name text) stop
+  out_faulty p stop e faulty =
+      let first = policy_refusal (out_faults (pid_of s.routing) (owner_of s) who p) p in
+      let later = tags_refusal (with_outbound s who text (new_names p)) (with_named s.routing who (new_names p)) in
+      first_stops s (Out name text) stop (subst (λ o. IsFirst o stop) (sym (out_read p e)) (first_of_two first later stop faulty))
 
   pub sending_leads : OutboundBases → OutboundsAreEdits → IsSteady s → (p : Policy) → policy_or_refusal text ≡ Ok p → policy_refusal (out_faults (pid_of s.routing) (owner_of s) who p) p ≡ None
       → (q : Request) → IsSending s who text p q → Leads s (Out name text) (with_named s.routing who (new_names p)) (is_senders s who) q
@@ -236,15 +243,21 @@ module _ (s : State) (name text : List ℕ) (who : Pid) (sender : IsSender s nam
       in_place s (In name text) (placed (In name text) refl refl s.phase sender.ready)
       ∙ ap (λ o. if_known o (λ w. if_short text (inbound_refusal s w (policy_of_text text)))) sender.known
 
-  pub in_misread : (why : Refusal) → policy_or_refusal text ≡ Err why → refusal s (In name text) ≡ Some why
+  in_misread : (why : Refusal) → policy_or_refusal text ≡ Err why → refusal s (In name text) ≡ Some why
   in_misread why e = in_refused ∙ misread text why (inbound_refusal s who) (λ fault. refl) e
 
   in_read : (p : Policy) → policy_or_refusal text ≡ Ok p → refusal s (In name text) ≡ policy_refusal (in_faults (owner_of s) who p) p
   in_read p e = let read = read_of text p e in
       in_refused ∙ ap (λ b. cond b (Some TextLong) (inbound_refusal s who (policy_of_text text))) read.0 ∙ ap (inbound_refusal s who) read.1
 
-  pub in_faulty : (p : Policy) (why : Refusal) → policy_or_refusal text ≡ Ok p → policy_refusal (in_faults (owner_of s) who p) p ≡ Some why → refusal s (In name text) ≡ Some why
-  in_faulty p why e faulty = in_read p e ∙ faulty
+  -- a text that is no policy
+  pub in_unread : (stop : Stop) → HasRead text (Err stop) → IsStop s (In name text) stop
+  in_unread (Refused why) e = refusal_stops s (In name text) why (in_misread why e)
+  in_unread Memory e = tt
+
+  -- a policy that the participant may not have
+  pub in_faulty : (p : Policy) (stop : Stop) → policy_or_refusal text ≡ Ok p → IsFirst (policy_refusal (in_faults (owner_of s) who p) p) stop → IsStop s (In name text) stop
+  in_faulty p stop e faulty = first_stops s (In name text) stop (subst (λ o. IsFirst o stop) (sym (in_read p e)) faulty)
 
   pub receiving_leads : InboundBases → InboundsAreEdits → InboundsAreChanges → IsSteady s → (p : Policy) → policy_or_refusal text ≡ Ok p → policy_refusal (in_faults (owner_of s) who p) p ≡ None
       → (q : Request) → IsReceiving s who text q → Leads s (In name text) s.routing (is_receivers s who) q
@@ -292,8 +305,3 @@ nothing_proposed r p is = subst (IsProposal r r) (sym is) (record {
   named = refl;
   owned = λ own. own;
 })
-
--- what is not something is nothing
-pub none_of : {A : Type 0} (o : Option A) → ((x : A) → o ≡ Some x → ⊥) → o ≡ None
-none_of None never = refl
-none_of (Some x) never = absurd (never x refl)

@@ -19,9 +19,8 @@ use Rattle.events.specs.State.{State, port_of, told_to}
 use Rattle.events.specs.Tags.{same_tag}
 use Rattle.events.specs.declared.Entry.{Entry}
 use Rattle.events.specs.declared.Event.TheVariants.{Arp, Resolve}
-use Rattle.events.specs.declared.Head.TheVariants.{Fine, Refused, Silent}
+use Rattle.events.specs.declared.Head.TheVariants.{Fine, Silent}
 use Rattle.events.specs.declared.Phase.TheVariants.{Running}
-use Rattle.events.specs.declared.Refusal.TheVariants.{Unknown}
 use Rattle.events.specs.declared.Reply.{Reply}
 use Rattle.net_types.proofs.OrderedLemmas.{ordered_is, ordered_rises, ordered_same}
 use Rattle.net_types.specs.Arp.{asked_ip, asker_ip, asker_mac}
@@ -46,21 +45,11 @@ use Rattle.exchange_core.specs.Resolved.{exchange_for, missing_hops, pool_reques
 use Rattle.exchange_core.specs.declared.programs.Programs.{Programs}
 use Rattle.exchange_core.specs.View.{IsKept}
 use Rattle.exchange_core.proofs.AddressSets.{ips_tie}
-use Rattle.fast_path.proofs.TagOrder.{less_from, tag_tie}
+use Rattle.fast_path.proofs.TagOrder.{less_from}
+use Rattle.net_types.proofs.TieLemmas.{tag_tie}
 use Rattle.exchange_laws.proofs.PoolTags.{live_small, told_live}
-use Rattle.exchange_laws.proofs.Forwarded.{numbered}
-use Rattle.exchange_core.proofs.Ports.{found_nowhere, own_place}
-use Rattle.exchange_core.proofs.Steps.{in_place, kept_after, placed, quiet_step, refused_at}
-
--- ---- ports that aren't declared
-
-pub arp_refused : {s : State} {pool : Tags} {all : List Programs} → IsKept s pool all → is_declared s.phase ≡ true → (st : State) → s ≡ st → (port : PortNo) (bytes : List ℕ) → port_place s port ≡ None → (r : Reply) → r ≡ bare (Refused Unknown) → IsStep st (Arp port bytes) r st
-arp_refused {s} kept ready st is port bytes none r reply =
-    refused_at s st (Arp port bytes) r Unknown is (placed (Arp port bytes) refl refl s.phase ready) (ap (λ o. if_known o (λ x. None)) (found_nowhere (numbered port) 0 s.routing.ports none)) reply
-
-pub resolve_refused : {s : State} {pool : Tags} {all : List Programs} → IsKept s pool all → is_declared s.phase ≡ true → (st : State) → s ≡ st → (port : PortNo) → port_place s port ≡ None → (r : Reply) → r ≡ bare (Refused Unknown) → IsStep st (Resolve port) r st
-resolve_refused {s} kept ready st is port none r reply =
-    refused_at s st (Resolve port) r Unknown is (placed (Resolve port) refl refl s.phase ready) (ap (λ o. if_known o (λ x. None)) (found_nowhere (numbered port) 0 s.routing.ports none)) reply
+use Rattle.exchange_core.proofs.Ports.{own_place}
+use Rattle.exchange_core.proofs.Steps.{in_place, kept_after, placed, quiet_step}
 
 -- ---- steps
 

@@ -4,16 +4,14 @@ use Rattle.std.specs.Prelude.{Some, None}
 use Rattle.std.specs.FinMap.{FinMap, empty}
 use Rattle.events.specs.After.{after, next}
 use Rattle.events.specs.Forms.{IsWellFormed}
-use Rattle.events.specs.Fits.{FitsBy, IsAnswer, IsStep, bare, is_of_job}
+use Rattle.events.specs.Fits.{IsAnswer, IsStep, is_of_job}
 use Rattle.events.specs.Refusals.{is_placed, refusal, refusal_in_place, suits_job}
 use Rattle.events.specs.State.{State, first}
 use Rattle.events.specs.Tags as events
 use Rattle.events.specs.declared.Entry.{Entry}
 use Rattle.events.specs.declared.Event.{Event}
-use Rattle.events.specs.declared.Head.TheVariants.{Refused}
 use Rattle.events.specs.declared.Phase.{Phase}
 use Rattle.events.specs.declared.Phase.TheVariants.{Start, Declaring, Running}
-use Rattle.events.specs.declared.Refusal.{Refusal}
 use Rattle.events.specs.declared.Refusal.TheVariants.{Misplaced}
 use Rattle.events.specs.declared.Reply.{Reply}
 use Rattle.exchange_laws.proofs.QuietLines.{quiet_lines_are_accepted}
@@ -33,13 +31,6 @@ use Rattle.exchange_core.specs.Programs.{AreCompiled, inbound_texts, outbound_te
 use Rattle.exchange_core.specs.View.{IsKept, state_of}
 use Rattle.exchange_core.specs.declared.programs.Programs.{Programs}
 
--- a refusal, which leaves all as it was
-pub refused_step : (s : State) (e : Event) (r : Reply) (why : Refusal) → refusal s e ≡ Some why → r ≡ bare (Refused why) → IsStep s e r s
-refused_step s e r why holds is = record {
-  fits = subst (λ o. FitsBy o s e r) (sym holds) is;
-  next = sym (ap (next s e) is);
-}
-
 -- a step from an equal state
 pub step_from : (s st : State) (e : Event) (r : Reply) (s' : State) → s ≡ st → IsStep s e r s' → IsStep st e r s'
 step_from s st e r s' is step = subst (λ x. IsStep x e r s') is step
@@ -52,10 +43,6 @@ placed e one two Running ready = two
 
 pub in_place : (s : State) (e : Event) → (suits_job s.owed e && is_placed s.phase e) ≡ true → refusal s e ≡ refusal_in_place s e
 in_place s e here = ap (λ b. cond b (refusal_in_place s e) (Some Misplaced)) here
-
--- a line in place is refused
-pub refused_at : (s st : State) (e : Event) (r : Reply) (why : Refusal) → s ≡ st → (suits_job s.owed e && is_placed s.phase e) ≡ true → refusal_in_place s e ≡ Some why → r ≡ bare (Refused why) → IsStep st e r st
-refused_at s st e r why is here refuses reply = subst (λ x. IsStep x e r x) is (refused_step s e r why (in_place s e here ∙ refuses) reply)
 
 -- a line that changes no routes and by which nobody takes anything is a step with its answer
 pub quiet_step : (s : State) (e : Event) (r : Reply) → IsSteady s → IsWellFormed e → is_of_job e ≡ false → refusal s e ≡ None → is_quiet e ≡ true → IsAnswer s e r (next s e r) → IsStep s e r (after s e)

@@ -21,13 +21,13 @@ use Rattle.exchange_laws.specs.Telling.{told_anew}
 use Rattle.advert_queue.proofs.PendingLemmas.{told_among}
 use Rattle.advert_queue.specs.Taken.{gone_tags}
 use Rattle.advert_queue.specs.Telling.{tags_of}
-use Rattle.fast_path.proofs.PortsAndTags.{IsPortOf, found_number, has_prefix_of, number_listed, port_listed, prefix_with, tie}
+use Rattle.fast_path.proofs.PortsAndTags.{IsPortOf, found_number, has_prefix_of, number_listed, port_listed, prefix_with}
 use Rattle.fast_path.specs.LiveOnly.{AreDead, has_prefix, registered}
 use Rattle.fast_path.specs.Pairs.{is_told, pair_at, untold}
 use Rattle.net_types.proofs.OrderLemmas.{pairs_total, tags_total}
 use Rattle.net_types.proofs.RisingLemmas.{Member-filter, filter-Member}
 use Rattle.net_types.proofs.SetLemmas.{Member-map, Member-union, map-Member, union-Member}
-use Rattle.fast_path.proofs.TagOrder.{tag_tie}
+use Rattle.net_types.proofs.TieLemmas.{pair_tie, tag_tie}
 use Rattle.net_types.specs.Keys.{pair_cmp, prefix_cmp, tag_cmp}
 use Rattle.net_types.specs.Sets.{Member, union_over}
 use Rattle.net_types.specs.declared.address.Pid.{Pid}
@@ -138,9 +138,9 @@ module _ (s : State) (who : Pid) (then : FinMap prefix_cmp Entry) (apart : Ports
   -- exactly the pairs that are live no more
   pub pairs_go : AreLiveOnly s s1 (all_pairs ports gone)
   pairs_go = record {
-    rising = ordered_rises pair_cmp pairs_total tie (union_over (pairs_at ports) gone);
-    each = λ pair m. each_pair pair ((ordered_same pair_cmp pairs_total tie (union_over (pairs_at ports) gone)).onto pair m);
-    all = λ pair live dead. (ordered_same pair_cmp pairs_total tie (union_over (pairs_at ports) gone)).back pair (all_gone pair live dead);
+    rising = ordered_rises pair_cmp pairs_total pair_tie (union_over (pairs_at ports) gone);
+    each = λ pair m. each_pair pair ((ordered_same pair_cmp pairs_total pair_tie (union_over (pairs_at ports) gone)).onto pair m);
+    all = λ pair live dead. (ordered_same pair_cmp pairs_total pair_tie (union_over (pairs_at ports) gone)).back pair (all_gone pair live dead);
   }
 
   -- ---- the tags that go

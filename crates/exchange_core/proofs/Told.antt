@@ -4,7 +4,7 @@ use Rattle.std.specs.Prelude.{Option, Some, None, Result, Ok, Err, IfOk, OnErr, 
 use Rattle.std.specs.FinMap.{FinMap}
 use Rattle.std.proofs.lemmas.List.{length-map}
 use Rattle.events.specs.After.{next}
-use Rattle.events.specs.Fits.{Fits, IsStep, bare, is_building, is_of_job}
+use Rattle.events.specs.Fits.{Fits, IsStep, is_building, is_of_job}
 use Rattle.events.specs.Forms.{IsWellFormed}
 use Rattle.events.specs.State.{State}
 use Rattle.events.specs.Tags.{capped}
@@ -12,8 +12,6 @@ use Rattle.block_build.specs.Installed.{Installed}
 use Rattle.events.specs.declared.Entry.{Entry}
 use Rattle.events.specs.declared.Event.{Event}
 use Rattle.events.specs.declared.Phase.{Phase}
-use Rattle.events.specs.declared.Head.TheVariants.{Refused}
-use Rattle.events.specs.declared.Refusal.{Refusal}
 use Rattle.events.specs.declared.Reply.{Reply}
 use Rattle.exchange_laws.proofs.LineSteps.{building_other}
 use Rattle.exchange_laws.specs.Editing.{IsEdit}
@@ -40,18 +38,15 @@ use Rattle.route_server.specs.Served.{Served}
 use Rattle.exchange_core.specs.Programs.{inbound_texts, outbound_texts}
 use Rattle.exchange_core.specs.View.{state_of}
 use Rattle.exchange_core.specs.declared.programs.Programs.{Programs}
-use Rattle.exchange_core.specs.Building.{Asks, IsOfKind, Leads, base_by, base_of}
+use Rattle.exchange_core.specs.Building.{IsOfKind, Leads, base_by, base_of}
 use Rattle.exchange_core.specs.Jobs.{IsTold, IsToldBy, IsToldChanges, IsToldPolicy, KeepsJob}
 use Rattle.exchange_core.specs.declared.programs.PolicyChange.{PolicyChange}
 use Rattle.exchange_core.specs.declared.programs.PolicyChange.TheVariants.{Inbound, Outbound, Stay}
 use Rattle.exchange_core.specs.declared.request.Request.{Request}
+use Rattle.exchange_core.specs.declared.stop.Stop.{Stop}
 use Rattle.exchange_core.proofs.Builds.{edit_of, planned_of}
 
 -- ---- lines that leave the job as it is
-
--- a refused line leaves the state as it is
-pub refused_keeps : (s : State) (e : Event) (why : Refusal) (reply : Reply) (old new : Option Underway) → reply ≡ bare (Refused why) → new ≡ old → KeepsJob s e reply old new
-refused_keeps s e why reply old new is same = λ w core has. subst (HasJob (next w e reply)) (sym same) (subst (λ (r : Reply). HasJob (next w e r) old) (sym is) has)
 
 -- a line that builds no rules, with a reply that fits
 pub quiet_keeps : QuietLinesKeepJobs → (s : State) (e : Event) (reply : Reply) (s' : State) (old new : Option Underway) → IsSteady s → IsWellFormed e → is_of_job e ≡ false → is_building e ≡ false → IsStep s e reply s' → new ≡ old
@@ -60,10 +55,13 @@ quiet_keeps law s e reply s' old new steady formed line quiet step same = λ w c
     subst (HasJob (next w e reply)) (sym same) (law w e reply old (subst IsSteady (sym core) steady) formed line quiet (subst (λ (x : State). Fits x e reply) (sym core) step.fits) has)
 
 -- so it is where the line is one of these
-pub quiet_result : QuietLinesKeepJobs → (s : State) (e d : Event) → e ≡ d → is_building d ≡ false → IsSteady s → IsWellFormed e → is_of_job e ≡ false → (result : Result Reply Memory) (s' : State) (job : Option Underway)
+pub quiet_line : QuietLinesKeepJobs → (s : State) (e d : Event) → e ≡ d → is_building d ≡ false → IsSteady s → IsWellFormed e → is_of_job e ≡ false → (reply : Reply) (s' : State) (job : Option Underway) → IsStep s d reply s' → KeepsJob s e reply job job
+quiet_line law s e d is quiet steady formed line reply s' job step = quiet_keeps law s e reply s' job job steady formed line (ap is_building is ∙ quiet) (subst (λ x. IsStep s x reply s') (sym is) step) refl
+
+pub quiet_result : QuietLinesKeepJobs → (s : State) (e d : Event) → e ≡ d → is_building d ≡ false → IsSteady s → IsWellFormed e → is_of_job e ≡ false → (result : Result Reply Stop) (s' : State) (job : Option Underway)
     → IfOk result (λ reply. IsStep s d reply s') → IfOk result (λ reply. KeepsJob s e reply job job)
-quiet_result law s e d is quiet steady formed line (Ok reply) s' job step = quiet_keeps law s e reply s' job job steady formed line (ap is_building is ∙ quiet) (subst (λ x. IsStep s x reply s') (sym is) step) refl
-quiet_result law s e d is quiet steady formed line (Err m) s' job step = tt
+quiet_result law s e d is quiet steady formed line (Ok reply) s' job step = quiet_line law s e d is quiet steady formed line reply s' job step
+quiet_result law s e d is quiet steady formed line (Err stop) s' job step = tt
 
 -- ---- lines that build rules
 
@@ -138,19 +136,11 @@ module _ (s : State) (e : Event) (r : Routing) (is_rebuilt : Pair → Bool) (q :
   told_keeps reroutings policies none steady formed reply is old new told = λ w core has.
       subst (λ (x : Reply). HasJob (next w e x) new) (sym is) (told_has reroutings policies none steady formed w core old new told has)
 
--- ---- what is asked
-
--- what is asked for is answered for each line that asks for it
-pub keeps_asked : (s : State) (q : Request) (asked : Result Request Refusal) → asked ≡ Ok q → (result : Result Reply Memory) (old new : Option Underway)
-    → IfOk result (λ reply. (e : Event) (r : Routing) (is_rebuilt : Pair → Bool) → IsWellFormed e → Leads s e r is_rebuilt q → KeepsJob s e reply old new) → IfOk result (λ reply. (e : Event) → IsWellFormed e → Asks s e asked → KeepsJob s e reply old new)
-keeps_asked s q asked is (Ok reply) old new done = λ e formed asks. let leads = subst (Asks s e) is asks in done e leads.0 leads.1 formed leads.2
-keeps_asked s q asked is (Err m) old new done = tt
-
--- what is answered for each line is answered for this one
-pub keeps_line : (s : State) (e : Event) (asked : Result Request Refusal) (result : Result Reply Memory) (old new : Option Underway) → IfOk result (λ reply. (e : Event) → IsWellFormed e → Asks s e asked → KeepsJob s e reply old new) → IsWellFormed e → Asks s e asked
-    → IfOk result (λ reply. KeepsJob s e reply old new)
-keeps_line s e asked (Ok reply) old new done formed asks = done e formed asks
-keeps_line s e asked (Err m) old new done formed asks = tt
+-- what is told for each line that asks for a request is told for this one
+pub line_keeps : (s : State) (e : Event) (r : Routing) (is_rebuilt : Pair → Bool) (q : Request) (result : Result Reply Stop) (old new : Option Underway) → IsWellFormed e → Leads s e r is_rebuilt q
+    → IfOk result (λ reply. (d : Event) (t : Routing) (test : Pair → Bool) → IsWellFormed d → Leads s d t test q → KeepsJob s d reply old new) → IfOk result (λ reply. KeepsJob s e reply old new)
+line_keeps s e r is_rebuilt q (Ok reply) old new formed leads done = done e r is_rebuilt formed leads
+line_keeps s e r is_rebuilt q (Err stop) old new formed leads done = tt
 
 -- ---- room
 

@@ -27,14 +27,14 @@ use Rattle.exchange_laws.specs.Telling.{AreKnownTo, told_anew}
 use Rattle.fast_path.proofs.CommittedMaps.{get_without_others, get_without_those, without_all}
 use Rattle.fast_path.proofs.CommittedPool.{AreTags, is_tag, marked_all_base, marked_all_length, marked_others, marked_those, same_free, taken_in_turn, taken_is_live}
 use Rattle.fast_path.proofs.CommittedSignatures.{nothing}
-use Rattle.fast_path.proofs.TagOrder.{rising_tags, tag_tie}
+use Rattle.fast_path.proofs.TagOrder.{rising_tags}
 use Rattle.fast_path.specs.Committing.{AreTaken, kept_without, marked_all}
 use Rattle.fast_path.specs.Planned.{IsPoolOf, is_tag_below}
 use Rattle.fast_path.specs.LiveOnly.{AreDead, registered}
 use Rattle.fast_path.specs.Pairs.{is_told, untold}
 use Rattle.net_types.proofs.OrderLemmas.{tags_total}
 use Rattle.net_types.proofs.RisingLemmas.{before, filter-IsRising}
-use Rattle.net_types.proofs.TieLemmas.{tag_cmp-IsAntisymmetric}
+use Rattle.net_types.proofs.TieLemmas.{tag_cmp-IsAntisymmetric, tag_tie}
 use Rattle.net_types.specs.Exports.{pid_of}
 use Rattle.net_types.specs.Keys.{prefix_cmp, tag_cmp}
 use Rattle.net_types.specs.Sets.{IsRising, Member}
@@ -128,17 +128,17 @@ unrefused s name who None sender = in_place s (Drain name) (placed (Drain name) 
 unrefused s name who (Some count) sender = in_place s (Take name count) (placed (Take name count) refl refl s.phase sender.ready) ∙ ap (λ o. if_known o (λ w. None)) sender.known
 
 -- each participant that sends a line has a place
-pub place : (s : State) (who : Pid) (pool : Tags) {all : List Programs} (name : List ℕ) → IsKept s pool all → IsSender s name who → who.0 < length s.told
-place s who pool name kept sender =
+pub place : (s : State) (who : Pid) (name : List ℕ) → IsSteady s → IsSender s name who → who.0 < length s.told
+place s who name steady sender =
     let within : who.0 < length s.routing.participants = declared_pid s.routing name who sender.known in
-    let same : length s.told ≡ length s.routing.participants = kept.steady.told in
+    let same : length s.told ≡ length s.routing.participants = steady.told in
     omega (arith, within, same)
 
 -- what it is told, and the pairs that go
 abbrev pub taking_reply : State → Pid → Option ℕ → Reply
 taking_reply s who limit = record (bare Fine) { drops = all_pairs (ports_of (registered s) who) (gone_by s who limit); adverts = adverts s who (taken_of s who limit) }
 
-module _ (s : State) (who : Pid) (pool : Tags) {all : List Programs} (kept : IsKept s pool all) (name : List ℕ) (limit : Option ℕ) (sender : IsSender s name who) where
+module _ (s : State) (who : Pid) (steady : IsSteady s) (name : List ℕ) (limit : Option ℕ) (sender : IsSender s name who) where
   abbrev s2 : State
   s2 = told_anew s who (told_after s who limit)
 
@@ -146,13 +146,13 @@ module _ (s : State) (who : Pid) (pool : Tags) {all : List Programs} (kept : IsK
   drops = all_pairs (ports_of (registered s) who) (gone_by s who limit)
 
   sound2 : IsSound s2
-  sound2 = telling_stays_sound s who (told_after s who limit) kept.steady.sound (known_then s who limit)
+  sound2 = telling_stays_sound s who (told_after s who limit) steady.sound (known_then s who limit)
 
   taken : IsTaken s s2 who (taken_of s who limit) (taking_reply s who limit)
   taken = record {
     head = refl;
     tags = refl;
-    drops = sym (gone_are_dropped s s2 none_rebuilt drops kept.steady.sound.pairs sound2.pairs (those_gone s s2 drops (pairs_go s who (told_after s who limit) kept.steady.apart (place s who pool name kept sender))));
+    drops = sym (gone_are_dropped s s2 none_rebuilt drops steady.sound.pairs sound2.pairs (those_gone s s2 drops (pairs_go s who (told_after s who limit) steady.apart (place s who name steady sender))));
     adds = refl;
     adverts = refl;
     asks = refl;
@@ -160,7 +160,7 @@ module _ (s : State) (who : Pid) (pool : Tags) {all : List Programs} (kept : IsK
   }
 
   law : (next s (line_of name limit) (taking_reply s who limit) ≡ s2) × IsAccepted s (line_of name limit) (taking_reply s who limit)
-  law = accepted s name who limit (taking_reply s who limit) kept.steady.sound sender.known taken
+  law = accepted s name who limit (taking_reply s who limit) steady.sound sender.known taken
 
   -- the reply is a step to the state in which the participant was told anew
   pub take_step : IsStep s (line_of name limit) (taking_reply s who limit) s2
@@ -190,11 +190,11 @@ module _ (s : State) (who : Pid) (limit : Option ℕ) (pool : Tags) {all : List 
   dead = dead_tags s.tag s.told who.0 (gone_by s who limit)
 
   pub takers_place : who.0 < length s.told
-  takers_place = place s who pool taker.name kept taker.sender
+  takers_place = place s who taker.name kept.steady taker.sender
 
   -- without the pairs that go the rules are those afterwards
   pub table_then : without_pairs s.table (all_pairs (ports_of (registered s) who) (gone_by s who limit)) ≡ s3.table
-  table_then = rules_left s who pool kept taker.name limit taker.sender
+  table_then = rules_left s who kept.steady taker.name limit taker.sender
 
   are_dead : AreDead s s3 dead
   are_dead = tags_go s who entries kept.steady.apart takers_place
@@ -223,7 +223,7 @@ module _ (s : State) (who : Pid) (limit : Option ℕ) (pool : Tags) {all : List 
 
   steady_then : IsSteady s3
   steady_then =
-      steady_after s (line_of taker.name limit) (taking_reply s who limit) s3 kept.steady taker.formed (take_own taker.name limit) (take_step s who pool kept taker.name limit taker.sender)
+      steady_after s (line_of taker.name limit) (taking_reply s who limit) s3 kept.steady taker.formed (take_own taker.name limit) (take_step s who kept.steady taker.name limit taker.sender)
 
   -- what is kept holds of the state afterwards
   pub telling_kept : IsKept s3 (marked_all pool dead false) all

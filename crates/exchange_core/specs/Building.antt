@@ -6,7 +6,6 @@ use Rattle.events.specs.Fits.{is_building, is_receivers, is_senders}
 use Rattle.events.specs.Refusals.{refusal, tags_refusal}
 use Rattle.events.specs.State.{State}
 use Rattle.events.specs.declared.Event.{Event}
-use Rattle.events.specs.declared.Refusal.{Refusal}
 use Rattle.exchange_laws.specs.Editing.{IsBase, IsEdit, both}
 use Rattle.exchange_laws.specs.Listed.{AreThose}
 use Rattle.exchange_laws.specs.Rerouting.{is_rerouting}
@@ -21,10 +20,12 @@ use Rattle.net_types.specs.declared.rule.Pair.{Pair}
 use Rattle.route_server.specs.Proposed.{IsProposal, named_with}
 use Rattle.exchange_core.specs.Programs.{IsChangeCompiled, IsChangeOf, IsCompiled, inbound_after, outbound_after}
 use Rattle.exchange_core.specs.Steps.{built_count}
+use Rattle.exchange_core.specs.Stops.{IsStop}
 use Rattle.exchange_core.specs.declared.programs.PolicyChange.{PolicyChange}
 use Rattle.exchange_core.specs.declared.programs.PolicyChange.TheVariants.{Stay, Outbound, Inbound}
 use Rattle.exchange_core.specs.declared.programs.Program.{Program}
 use Rattle.exchange_core.specs.declared.request.Request.{Request}
+use Rattle.exchange_core.specs.declared.stop.Stop.{Stop}
 
 -- whom the outbound policies name, where that of a participant comes to name others: of those that it named, the ones that
 -- it names still
@@ -67,10 +68,10 @@ pub record Leads (s : State) (e : Event) (r : Routing) (is_rebuilt : Pair → Bo
   pub compiled : IsChangeCompiled (pid_of s.routing) q.change
   pub bound : refusal s e ≡ None → build_count (base_of s q) r is_rebuilt ≤ built_count s e
 
--- a line asks for what it leads to, or is refused
-abbrev pub Asks : State → Event → Result Request Refusal → Type 0
+-- a line asks for what it leads to, or isn't carried out
+abbrev pub Asks : State → Event → Result Request Stop → Type 0
 Asks s e (Ok q) = (r : Routing) × (is_rebuilt : Pair → Bool) × Leads s e r is_rebuilt q
-Asks s e (Err why) = refusal s e ≡ Some why
+Asks s e (Err stop) = IsStop s e stop
 
 -- What another outbound policy asks for: it is compiled, the routing has whom it names, and the pairs of the participant's
 -- ports are built anew.

@@ -13,19 +13,10 @@ use Rattle.events.specs.State.{State}
 use Rattle.events.specs.Tags.{retagged}
 use Rattle.events.specs.declared.Event.{Event}
 use Rattle.events.specs.declared.Refusal.{Refusal}
-use Rattle.events.specs.declared.Refusal.TheVariants.{Misplaced, Syntax, TextLong, Unknown}
+use Rattle.events.specs.declared.Refusal.TheVariants.{Syntax, TextLong, Unknown}
 use Rattle.exchange_laws.specs.Rules.{IsDeclaredAlike}
 use Rattle.route_server.specs.Proposed.{IsProposal, Proposed}
 use Rattle.exchange_core.specs.Placed.{is_declared}
-
--- the participant of a name, or why there is none
-abbrev pub known_or : Option Pid → Result Pid Refusal
-known_or None = Err Unknown
-known_or (Some who) = Ok who
-
--- the participant that sends a line, once the pool is declared
-abbrev pub session : State → List ℕ → Result Pid Refusal
-session s name = if is_declared s.phase then known_or (pid_of s.routing name) else Err Misplaced
 
 -- the sender is declared under the name, and the line is in place
 pub record IsSender (s : State) (name : List ℕ) (who : Pid) : Type 0 where
@@ -40,11 +31,6 @@ pub record Reroutes (s : State) (e : Event) (r : Routing) (p : Proposed) : Type 
   pub alike : IsDeclaredAlike s.routing r
   pub proposes : IsProposal s.routing r p
   pub unnamed : p.named ≡ None
-
--- a line proposes routes to which it leads, or is refused
-abbrev pub Proposes : State → Event → Result Proposed Refusal → Type 0
-Proposes s e (Ok p) = (r : Routing) × Reroutes s e r p
-Proposes s e (Err why) = refusal s e ≡ Some why
 
 -- rules that are bound, or a name in them isn't declared
 abbrev pub bound_or : Option (List ExportRule) → Result (List ExportRule) Refusal

@@ -12,7 +12,9 @@ mod change;
 mod declare;
 mod forward;
 mod job;
+mod known;
 mod lend;
+mod line;
 mod program;
 mod resolve;
 mod show;
@@ -21,9 +23,9 @@ mod take;
 use crate::address_set::AddressSet;
 use crate::programs::Programs;
 use crate::replies::refused;
+use crate::stop::Stop;
 use advert_queue::Adverts;
-use events::{Event, Phase, Refusal, Reply};
-use job_upkeep::quiet_lines_keep_jobs;
+use events::{Event, Phase, Reply};
 use match_switch::Switch;
 use net_types::{Ip, Memory, Steps};
 use next_hop_pool::Pool;
@@ -124,36 +126,10 @@ impl Core {
         ensures job_unchanged { OnErr result (job.new ≡ job.old) }
         ensures steps { steps.new ≤ steps.old + step_bound self.old event.now }
     {
-        quiet_lines_keep_jobs();
-        self.is_steady();
-        match event {
-            Event::Bad => Ok(refused(self.alloc, Refusal::BadLine)),
-            Event::Exchange {
-                base,
-                size,
-                capacity,
-            } => self.exchange(*base, *size, *capacity),
-            Event::Participant { name, asn, id } => self.participant(name, *asn, *id),
-            Event::Port {
-                name,
-                number,
-                ip,
-                mac,
-            } => self.port(name, *number, *ip, *mac),
-            Event::Update { name, bytes } => self.update(name, bytes, job, steps),
-            Event::Down { name } => self.down(name, job, steps),
-            Event::Export { name, text } => self.export(name, text, job, steps),
-            Event::Outbound { name, text } => self.outbound(name, text, job, steps),
-            Event::Inbound { name, text } => self.inbound(name, text, job, steps),
-            Event::Take { name, count } => self.take(name, Some(*count)),
-            Event::Drain { name } => self.take(name, None),
-            Event::Arp { port, bytes } => self.arp(*port, bytes),
-            Event::Resolve { port } => self.resolve(*port),
-            Event::Packet { port, bytes } => self.packet(*port, bytes),
-            Event::Frame { port, bytes } => self.frame(*port, bytes),
-            Event::Table => self.table(),
-            // These lines are the job's.
-            Event::Recompile | Event::Work { .. } => unreachable!(),
+        match self.line(event, job, steps) {
+            Ok(reply) => Ok(reply),
+            Err(Stop::Refused(refusal)) => Ok(refused(self.alloc, refusal)),
+            Err(Stop::Memory) => Err(Memory),
         }
     }
 }

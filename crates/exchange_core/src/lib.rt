@@ -13,6 +13,7 @@ mod programs;
 mod rebuilt;
 mod replies;
 mod request;
+mod stop;
 mod taking;
 mod telling;
 

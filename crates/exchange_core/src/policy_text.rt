@@ -1,6 +1,6 @@
 //! The texts of policies: as they are read, why they are refused, and what they are compiled to.
 
-ghost use Rattle.std.specs.Prelude.{◌≡◌, Ok, IfOk, IsTrue};
+ghost use Rattle.std.specs.Prelude.{◌≡◌, None, Ok, IfOk, IsTrue, MatchResult};
 ghost use Rattle.events.specs.Lines.{is_utf8};
 ghost use Rattle.events.specs.Refusals.{refused_if};
 ghost use Rattle.events.specs.declared.Refusal.TheVariants.{TooWide};
@@ -8,56 +8,41 @@ ghost use Rattle.net_types.specs.PolicyReading.{policy_of_text};
 ghost use Rattle.net_types.specs.Widths.{is_too_wide};
 ghost use Rattle.policy_syntax.specs.Views.{policy_of};
 ghost use Rattle.registry.specs.Registered.{named};
-ghost use Rattle.exchange_core.specs.PolicyTexts.{HasRead, fault_refusal};
+ghost use Rattle.exchange_core.specs.PolicyTexts.{HasRead};
 ghost use Rattle.exchange_core.specs.Programs.{IsCompiled};
+ghost use Rattle.exchange_core.specs.Stops.{IsFirst};
 
 use crate::programs::Program;
+use crate::stop::Stop;
 use bumpalo::Bump;
 use events::Refusal;
-use net_types::{IsolateFault, Memory, Text, TryCopy};
+use net_types::{Memory, Text, TryCopy};
 use policy_compile::{compile, too_wide};
-use policy_syntax::{SyntaxFault, Tree, parse};
+use policy_syntax::{Tree, parse};
 use registry::Registry;
 use std::alloc::Global;
 
 /// The policy of a text, with its nodes in the arena, or why the text is refused.
-pub fn read_policy<'a>(
-    alloc: Global,
-    arena: &'a Bump,
-    text: &'a Text,
-) -> Result<Result<Tree<'a>, Refusal>, Memory>
+pub fn read_policy<'a>(alloc: Global, arena: &'a Bump, text: &'a Text) -> Result<Tree<'a>, Stop>
     requires { IsTrue (is_utf8 text.now) }
-    ensures { IfOk result (HasRead text.now) }
+    ensures { HasRead text.now result }
 {
     let Ok(text) = std::str::from_utf8(text.items()) else {
         unreachable!()
     };
-    match parse(alloc, arena, text) {
-        Ok(tree) => Ok(Ok(tree)),
-        Err(SyntaxFault::TextLong) => Ok(Err(Refusal::TextLong)),
-        Err(SyntaxFault::Syntax { at }) => Ok(Err(Refusal::Syntax { at })),
-        Err(SyntaxFault::TooDeep { at }) => Ok(Err(Refusal::TooDeep { at })),
-        Err(SyntaxFault::Memory) => Err(Memory),
-    }
+    let tree = parse(alloc, arena, text)?;
+    Ok(tree)
 }
 
-/// The refusal of a policy that breaks isolation.
-pub fn fault_refusal(fault: IsolateFault) -> Refusal
-    ensures { result ≡ fault_refusal fault }
+/// A policy isn't too wide, or is refused.
+pub fn narrow(alloc: Global, tree: &Tree<'_>) -> Result<(), Stop>
+    ensures { let first = refused_if (is_too_wide (policy_of tree.now)) TooWide in MatchResult result (λ _. first ≡ None) (IsFirst first) }
 {
-    Refusal::Isolate {
-        kind: fault.kind,
-        start: fault.span.start,
-        end: fault.span.end,
+    if too_wide(alloc, tree)? {
+        Err(Refusal::TooWide.into())
+    } else {
+        Ok(())
     }
-}
-
-/// The refusal of a policy that is too wide; none of another.
-pub fn width_refusal(alloc: Global, tree: &Tree<'_>) -> Result<Option<Refusal>, Memory>
-    ensures { IfOk result (λ refusal. refusal ≡ refused_if (is_too_wide (policy_of tree.now)) TooWide) }
-{
-    let wide = too_wide(alloc, tree)?;
-    Ok(if wide { Some(Refusal::TooWide) } else { None })
 }
 
 /// What a text is compiled to that was read so.

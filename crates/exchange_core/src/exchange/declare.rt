@@ -1,35 +1,35 @@
 //! The lines that declare: the pool and the table, participants and their ports.
 
-ghost use Rattle.std.specs.Prelude.{◌≡◌, ◌||◌, ◌∷◌, [], take, replicate, IfOk, OnErr};
+ghost use Rattle.std.specs.Prelude.{◌≡◌, ◌||◌, ◌∷◌, [], List, ℕ, Some, take, replicate, IfErr, IfOk, OnErr};
 ghost use Rattle.std.specs.FinMap as map;
 ghost use Rattle.events.specs.Forms.{IsWellFormed};
 ghost use Rattle.events.specs.Fits.{IsStep};
 ghost use Rattle.events.specs.declared.Event.TheVariants as lines;
+ghost use Rattle.events.specs.declared.Phase.TheVariants.{Declaring, Start};
+ghost use Rattle.net_types.specs.Exports.{pid_of};
 ghost use Rattle.net_types.specs.Octets.{same_octets};
 ghost use Rattle.exchange_core.specs.Placed.{lies_in};
+ghost use Rattle.exchange_core.specs.Stops.{IsStop};
 
 use super::Core;
 use crate::address_set::AddressSet;
 use crate::pool_range::is_in_pool;
 use crate::programs::both_dropping;
-use crate::replies::{bare_reply, refused};
+use crate::replies::bare_reply;
+use crate::stop::Stop;
 use advert_queue::Adverts;
 use events::{Head, Phase, Refusal, Reply};
-use net_types::{Ip, Mac, Memory, Name, PortNo};
+use net_types::{Ip, Mac, Memory, Name, Pid, PortNo};
 use next_hop_pool::Pool;
 use std::alloc::Global;
 
 impl Core {
     pub(super) fn exchange(&mut self, base: Ip, size: u32, capacity: u32) -> Result<Reply, Memory>
-        requires { IsWellFormed (lines.Exchange base size capacity) }
+        requires formed { IsWellFormed (lines.Exchange base size capacity) }
+        requires first { self.old.phase ≡ Start }
         ensures step { IfOk result (λ reply. IsStep self.old (lines.Exchange base size capacity) reply self.new) }
         ensures unchanged { OnErr result (self.new ≡ self.old) }
     {
-        match self.phase {
-            Phase::Start => {}
-            Phase::Declaring => return Ok(refused(self.alloc, Refusal::Misplaced)),
-            Phase::Running => return Ok(refused(self.alloc, Refusal::Misplaced)),
-        }
         let pool = Pool::new(self.alloc, base, size)?;
         self.pool = pool;
         self.switch.set_capacity(capacity as usize);
@@ -39,22 +39,19 @@ impl Core {
         Ok(bare_reply(self.alloc, Head::Fine))
     }
 
-    pub(super) fn participant(&mut self, name: &Name, asn: u32, id: Ip) -> Result<Reply, Memory>
-        requires { IsWellFormed (lines.Participant name.now asn id) }
+    pub(super) fn participant(&mut self, name: &Name, asn: u32, id: Ip) -> Result<Reply, Stop>
+        requires formed { IsWellFormed (lines.Participant name.now asn id) }
+        requires declaring { self.old.phase ≡ Declaring }
         ensures step { IfOk result (λ reply. IsStep self.old (lines.Participant name.now asn id) reply self.new) }
+        ensures stop { IfErr result (IsStop self.old (lines.Participant name.now asn id)) }
         ensures unchanged { OnErr result (self.new ≡ self.old) }
     {
-        match self.phase {
-            Phase::Declaring => {}
-            Phase::Start => return Ok(refused(self.alloc, Refusal::Misplaced)),
-            Phase::Running => return Ok(refused(self.alloc, Refusal::Misplaced)),
-        }
         if self.registry.find_octets(name.items()).is_some() {
-            return Ok(refused(self.alloc, Refusal::Clash));
+            return Err(Refusal::Clash.into());
         }
         let declared = self.registry.participants().len();
         if declared >= 256 {
-            return Ok(refused(self.alloc, Refusal::Full));
+            return Err(Refusal::Full.into());
         }
         let programs = both_dropping(self.alloc)?;
         let adverts = nothing_told(self.alloc, declared + 1)?;
@@ -64,7 +61,7 @@ impl Core {
             Ok(_) => {}
             Err(_) => {
                 self.server.drop_last();
-                return Err(Memory);
+                return Err(Stop::Memory);
             }
         }
         self.adverts = adverts;
@@ -76,33 +73,27 @@ impl Core {
 
     pub(super) fn port(
         &mut self,
-        name: &Name,
+        owner: Pid,
         number: PortNo,
         ip: Ip,
         mac: Mac,
-    ) -> Result<Reply, Memory>
-        requires { IsWellFormed (lines.Port name.now number ip mac) }
-        ensures step { IfOk result (λ reply. IsStep self.old (lines.Port name.now number ip mac) reply self.new) }
+    ) -> Result<Reply, Stop>
+        requires declaring { self.old.phase ≡ Declaring }
+        requires line { (name : List ℕ) × IsWellFormed (lines.Port name number ip mac) × (pid_of self.old.routing name ≡ Some owner) }
+        ensures step { IfOk result (λ reply. (name : List ℕ) → IsWellFormed (lines.Port name number ip mac) → pid_of self.old.routing name ≡ Some owner → IsStep self.old (lines.Port name number ip mac) reply self.new) }
+        ensures stop { IfErr result (λ stop. (name : List ℕ) → pid_of self.old.routing name ≡ Some owner → IsStop self.old (lines.Port name number ip mac) stop) }
         ensures unchanged { OnErr result (self.new ≡ self.old) }
     {
-        match self.phase {
-            Phase::Declaring => {}
-            Phase::Start => return Ok(refused(self.alloc, Refusal::Misplaced)),
-            Phase::Running => return Ok(refused(self.alloc, Refusal::Misplaced)),
-        }
-        let Some(owner) = self.registry.find_octets(name.items()) else {
-            return Ok(refused(self.alloc, Refusal::Unknown));
-        };
         let in_use = self.registry.is_taken(number, ip, mac);
         if is_barred(in_use, self.base, self.size, ip, mac) {
-            return Ok(refused(self.alloc, Refusal::Clash));
+            return Err(Refusal::Clash.into());
         }
         self.resolved.push(AddressSet::new(self.alloc))?;
         match self.registry.add_port(owner, number, ip, mac) {
             Ok(()) => Ok(bare_reply(self.alloc, Head::Fine)),
             Err(_) => {
                 self.resolved.pop();
-                Err(Memory)
+                Err(Stop::Memory)
             }
         }
     }

@@ -1,16 +1,19 @@
 //! The lines that send a datagram from the router at a port, or a frame as it is.
 
-ghost use Rattle.std.specs.Prelude.{◌≡◌, ◌≤◌, IfOk, OnErr, Some, length};
+ghost use Rattle.std.specs.Prelude.{◌≡◌, ◌≤◌, true, IfErr, IfOk, OnErr, Some, length};
 ghost use Rattle.events.specs.Forms.{IsWellFormed};
 ghost use Rattle.events.specs.Fits.{IsStep};
 ghost use Rattle.events.specs.Resolving.{is_resolved};
+ghost use Rattle.events.specs.State.{port_of};
 ghost use Rattle.events.specs.declared.Event.TheVariants as lines;
 ghost use Rattle.exchange_core.specs.Leaving.{sent_by};
+ghost use Rattle.exchange_core.specs.Placed.{is_declared};
+ghost use Rattle.exchange_core.specs.Stops.{IsStop};
 
 use super::Core;
-use crate::line_order::is_declared;
 use crate::octets::{NOBODY, are_octets, known, readdress};
-use crate::replies::{bare_reply, refused};
+use crate::replies::bare_reply;
+use crate::stop::Stop;
 use events::{Head, Phase, Refusal, Reply};
 use ip_frame::{headers, wrap};
 use net_types::{Bytes, Ip, Memory, PortInfo, PortNo, Tag};
@@ -18,22 +21,19 @@ use next_hop_pool::vmac;
 
 impl Core {
     /// A datagram comes from the router at the port; it leaves by what the router was told.
-    pub(super) fn packet(&mut self, port: PortNo, bytes: &Bytes) -> Result<Reply, Memory>
-        requires { IsWellFormed (lines.Packet port bytes.now) }
-        ensures step { IfOk result (λ reply. IsStep self.old (lines.Packet port bytes.now) reply self.new) }
+    pub(super) fn packet(&mut self, source: PortInfo, bytes: &Bytes) -> Result<Reply, Stop>
+        requires formed { IsWellFormed (lines.Packet source.number bytes.now) }
+        requires ready { is_declared self.old.phase ≡ true }
+        requires known { port_of self.old source.number ≡ Some source }
+        ensures step { IfOk result (λ reply. IsStep self.old (lines.Packet source.number bytes.now) reply self.new) }
+        ensures stop { IfErr result (IsStop self.old (lines.Packet source.number bytes.now)) }
         ensures unchanged { OnErr result (self.new ≡ self.old) }
     {
-        if !is_declared(self.phase) {
-            return Ok(refused(self.alloc, Refusal::Misplaced));
-        }
-        let Some(source) = self.registry.port(port).copied() else {
-            return Ok(refused(self.alloc, Refusal::Unknown));
-        };
         known(source.mac);
         let frame = wrap(self.alloc, bytes.items(), source.mac, NOBODY)?;
         are_octets(frame.as_slice());
-        let Some(fields) = headers(port, frame.as_slice()) else {
-            return Ok(refused(self.alloc, Refusal::BadPacket));
+        let Some(fields) = headers(source.number, frame.as_slice()) else {
+            return Err(Refusal::BadPacket.into());
         };
         let reply = match self.adverts.longest(source.owner, fields.dst) {
             Some((_, entry)) => self.sent(&source, entry.tag, frame)?,
@@ -44,17 +44,13 @@ impl Core {
     }
 
     /// A frame comes in at the port as it is.
-    pub(super) fn frame(&mut self, port: PortNo, bytes: &Bytes) -> Result<Reply, Memory>
-        requires { IsWellFormed (lines.Frame port bytes.now) }
-        ensures step { IfOk result (λ reply. IsStep self.old (lines.Frame port bytes.now) reply self.new) }
+    pub(super) fn frame(&mut self, source: PortInfo, bytes: &Bytes) -> Result<Reply, Memory>
+        requires formed { IsWellFormed (lines.Frame source.number bytes.now) }
+        requires ready { is_declared self.old.phase ≡ true }
+        requires known { port_of self.old source.number ≡ Some source }
+        ensures step { IfOk result (λ reply. IsStep self.old (lines.Frame source.number bytes.now) reply self.new) }
         ensures unchanged { OnErr result (self.new ≡ self.old) }
     {
-        if !is_declared(self.phase) {
-            return Ok(refused(self.alloc, Refusal::Misplaced));
-        }
-        let Some(source) = self.registry.port(port).copied() else {
-            return Ok(refused(self.alloc, Refusal::Unknown));
-        };
         let names = &self.registry;
         let frames = self
             .switch

@@ -2,13 +2,14 @@
 
 ghost use Rattle.std.specs.Prelude.{◌≡◌, true, filter, length};
 ghost use Rattle.events.specs.After.{running};
+ghost use Rattle.events.specs.Refusals.{is_placed};
 ghost use Rattle.events.specs.Tags.{is_live, tags};
 ghost use Rattle.exchange_core.specs.Placed.{is_declared};
 ghost use Rattle.exchange_laws.specs.Steady.{IsSteady};
 
 use super::Core;
-use crate::line_order::is_declared;
-use events::Phase;
+use crate::line_order::{is_declared, is_placed};
+use events::{Event, Phase};
 use exchange_laws::tags_are_counted;
 
 impl Core {
@@ -24,6 +25,13 @@ impl Core {
         ensures { result ≡ is_declared self.now.phase }
     {
         is_declared(self.phase)
+    }
+
+    /// Whether a line is in place.
+    pub(super) fn is_placed(&self, event: &Event) -> bool
+        ensures { result ≡ is_placed self.now.phase event.now }
+    {
+        is_placed(self.phase, event)
     }
 
     /// The declarations have ended: a job's line ends them too.

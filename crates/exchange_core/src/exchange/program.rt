@@ -1,8 +1,6 @@
 //! The lines that say a participant's policies.
 
-ghost use Rattle.std.specs.Prelude.{◌≡◌, ◌≤◌, ◌<◌, ◌+◌, Ok, IfOk, OnErr, IsTrue, length};
-ghost use Rattle.events.specs.Forms.{IsWellFormed};
-ghost use Rattle.events.specs.Fits.{IsStep};
+ghost use Rattle.std.specs.Prelude.{◌≡◌, ◌<◌, List, ℕ, Ok, None, IfOk, IsTrue, MatchResult, length};
 ghost use Rattle.events.specs.Lines.{is_utf8};
 ghost use Rattle.events.specs.Refusals.{policy_refusal};
 ghost use Rattle.events.specs.State.{owner_of};
@@ -12,126 +10,66 @@ ghost use Rattle.net_types.specs.Isolation.{in_faults, out_faults};
 ghost use Rattle.net_types.specs.PolicyReading.{policy_of_text};
 ghost use Rattle.policy_syntax.specs.Views.{policy_of};
 ghost use Rattle.exchange_core.specs.Building.{Asks, IsReceiving, IsSending};
-ghost use Rattle.exchange_core.specs.Jobs.{KeepsJob};
-ghost use Rattle.exchange_core.specs.Steps.{step_bound};
+ghost use Rattle.exchange_core.specs.Changing.{IsSender};
+ghost use Rattle.exchange_core.specs.Stops.{IsFirst};
 
 use super::Core;
-use crate::policy_text::{compiled, fault_refusal, read_policy, width_refusal};
+use crate::policy_text::{compiled, narrow, read_policy};
 use crate::programs::PolicyChange;
 use crate::rebuilt::{pairs_from, pairs_to};
 use crate::request::Request;
+use crate::stop::Stop;
 use bumpalo::Bump;
-use events::{Refusal, Reply};
 use exchange_laws::{edits_are_changes, inbounds_are_edits, outbounds_are_edits};
-use net_types::{Memory, Name, Pid, Steps, Text};
+use net_types::{Memory, Pid, Text};
 use policy_isolate::{check_in, check_out, named};
 use policy_syntax::Tree;
-use recompile::Job;
 use route_server::Proposal;
-use std::sync::ledger::Ledger;
 
 impl Core {
-    /// The outbound policy of a participant becomes that of the text.
-    pub(super) fn outbound<L: Ledger>(
-        &mut self,
-        name: &Name,
-        text: &Text,
-        job: &mut Option<Job>,
-        steps: &mut Steps<L>,
-    ) -> Result<Reply, Memory>
-        requires { IsWellFormed (lines.Outbound name.now text.now) }
-        ensures step { IfOk result (λ reply. IsStep self.old (lines.Outbound name.now text.now) reply self.new) }
-        ensures unchanged { OnErr result (self.new ≡ self.old) }
-        ensures job { IfOk result (λ reply. KeepsJob self.old (lines.Outbound name.now text.now) reply job.old job.new) }
-        ensures job_unchanged { OnErr result (job.new ≡ job.old) }
-        ensures steps { steps.new ≤ steps.old + step_bound self.old (lines.Outbound name.now text.now) }
+    /// What it asks for that the outbound policy of a participant becomes that of the text, which is parsed into an arena of
+    /// the line's own.
+    pub(super) fn outbound(&self, who: Pid, text: &Text) -> Result<Request, Stop>
+        requires known { who.0 < length self.now.routing.participants }
+        requires utf8 { IsTrue (is_utf8 text.now) }
+        ensures { (name : List ℕ) → IsSender self.now name who → Asks self.now (lines.Outbound name text.now) result }
     {
-        let asked = self.outbound_asked(name, text)?;
-        self.answer(asked, job, steps)
-    }
-
-    /// The inbound policy of a participant becomes that of the text.
-    pub(super) fn inbound<L: Ledger>(
-        &mut self,
-        name: &Name,
-        text: &Text,
-        job: &mut Option<Job>,
-        steps: &mut Steps<L>,
-    ) -> Result<Reply, Memory>
-        requires { IsWellFormed (lines.Inbound name.now text.now) }
-        ensures step { IfOk result (λ reply. IsStep self.old (lines.Inbound name.now text.now) reply self.new) }
-        ensures unchanged { OnErr result (self.new ≡ self.old) }
-        ensures job { IfOk result (λ reply. KeepsJob self.old (lines.Inbound name.now text.now) reply job.old job.new) }
-        ensures job_unchanged { OnErr result (job.new ≡ job.old) }
-        ensures steps { steps.new ≤ steps.old + step_bound self.old (lines.Inbound name.now text.now) }
-    {
-        let asked = self.inbound_asked(name, text)?;
-        self.answer(asked, job, steps)
-    }
-
-    /// What `out` asks for. The text is parsed into an arena of the line's own.
-    fn outbound_asked(&self, name: &Name, text: &Text) -> Result<Result<Request, Refusal>, Memory>
-        requires { IsTrue (is_utf8 text.now) }
-        ensures { IfOk result (Asks self.now (lines.Outbound name.now text.now)) }
-    {
-        let who = match self.session(name) {
-            Ok(who) => who,
-            Err(refusal) => return Ok(Err(refusal)),
-        };
         let arena = Bump::new(self.alloc);
-        let tree = match read_policy(self.alloc, &arena, text)? {
-            Ok(tree) => tree,
-            Err(refusal) => return Ok(Err(refusal)),
-        };
+        let tree = read_policy(self.alloc, &arena, text)?;
         outbounds_are_edits();
-        if let Some(refusal) = self.outbound_refusal(who, &tree)? {
-            return Ok(Err(refusal));
-        }
+        self.may_send(who, &tree)?;
         let request = self.sending(who, text, &tree)?;
-        Ok(Ok(request))
+        Ok(request)
     }
 
-    /// What `in` asks for. The text is parsed into an arena of the line's own.
-    fn inbound_asked(&self, name: &Name, text: &Text) -> Result<Result<Request, Refusal>, Memory>
+    /// What it asks for that the inbound policy becomes that of the text.
+    pub(super) fn inbound(&self, who: Pid, text: &Text) -> Result<Request, Stop>
         requires { IsTrue (is_utf8 text.now) }
-        ensures { IfOk result (Asks self.now (lines.Inbound name.now text.now)) }
+        ensures { (name : List ℕ) → IsSender self.now name who → Asks self.now (lines.Inbound name text.now) result }
     {
-        let who = match self.session(name) {
-            Ok(who) => who,
-            Err(refusal) => return Ok(Err(refusal)),
-        };
         let arena = Bump::new(self.alloc);
-        let tree = match read_policy(self.alloc, &arena, text)? {
-            Ok(tree) => tree,
-            Err(refusal) => return Ok(Err(refusal)),
-        };
+        let tree = read_policy(self.alloc, &arena, text)?;
         inbounds_are_edits();
         edits_are_changes();
-        if let Some(refusal) = self.inbound_refusal(who, &tree)? {
-            return Ok(Err(refusal));
-        }
+        self.may_receive(who, &tree)?;
         let request = self.receiving(who, text, &tree)?;
-        Ok(Ok(request))
+        Ok(request)
     }
 
-    /// Why a participant may not have a policy as its outbound one; none where it may.
-    fn outbound_refusal(&self, who: Pid, tree: &Tree<'_>) -> Result<Option<Refusal>, Memory>
-        ensures { IfOk result (λ refusal. refusal ≡ policy_refusal (out_faults (pid_of self.now.routing) (owner_of self.now) who (policy_of tree.now)) (policy_of tree.now)) }
+    /// A participant may have a policy as its outbound one, or is refused.
+    fn may_send(&self, who: Pid, tree: &Tree<'_>) -> Result<(), Stop>
+        ensures { let first = policy_refusal (out_faults (pid_of self.now.routing) (owner_of self.now) who (policy_of tree.now)) (policy_of tree.now) in MatchResult result (λ _. first ≡ None) (IsFirst first) }
     {
-        match check_out(tree, &self.registry, who) {
-            Ok(()) => width_refusal(self.alloc, tree),
-            Err(fault) => Ok(Some(fault_refusal(fault))),
-        }
+        check_out(tree, &self.registry, who)?;
+        narrow(self.alloc, tree)
     }
 
-    /// Why a participant may not have a policy as its inbound one; none where it may.
-    fn inbound_refusal(&self, who: Pid, tree: &Tree<'_>) -> Result<Option<Refusal>, Memory>
-        ensures { IfOk result (λ refusal. refusal ≡ policy_refusal (in_faults (owner_of self.now) who (policy_of tree.now)) (policy_of tree.now)) }
+    /// A participant may have a policy as its inbound one, or is refused.
+    fn may_receive(&self, who: Pid, tree: &Tree<'_>) -> Result<(), Stop>
+        ensures { let first = policy_refusal (in_faults (owner_of self.now) who (policy_of tree.now)) (policy_of tree.now) in MatchResult result (λ _. first ≡ None) (IsFirst first) }
     {
-        match check_in(tree, &self.registry, who) {
-            Ok(()) => width_refusal(self.alloc, tree),
-            Err(fault) => Ok(Some(fault_refusal(fault))),
-        }
+        check_in(tree, &self.registry, who)?;
+        narrow(self.alloc, tree)
     }
 
     /// What another outbound policy asks for, by its text and as it was read.

@@ -1,17 +1,17 @@
 //! The lines by which a participant takes what is pending for it.
 
-ghost use Rattle.std.specs.Prelude.{◌≡◌, ◌<◌, IfOk, OnErr, length};
-ghost use Rattle.events.specs.Forms.{IsWellFormed};
+ghost use Rattle.std.specs.Prelude.{◌≡◌, ◌<◌, List, ℕ, IfOk, OnErr, length};
 ghost use Rattle.events.specs.Fits.{IsStep, bare};
 ghost use Rattle.exchange_laws.specs.Telling.{told_anew};
+ghost use Rattle.exchange_core.specs.Changing.{IsSender};
 ghost use Rattle.exchange_core.specs.Taking.{IsTaker, IsTaking, line_of, told_after};
 
 use super::Core;
-use crate::replies::{bare_reply, refused};
+use crate::replies::bare_reply;
 use crate::taking::{dead_among, pairs_of};
 use events::{Head, Messages, Phase, Reply};
 use fast_path::{forget_all, give_all, remove_all};
-use net_types::{Items, Memory, Name, Pairs, Pid, Tags};
+use net_types::{Items, Memory, Pairs, Pid, Tags};
 
 /// By what a participant is told some of what is pending, and what goes with what it was told before.
 #[derive(Drop)]
@@ -26,15 +26,12 @@ struct Taking {
 impl Core {
     /// The participant takes the first of what is pending, at most so many, or all where there is no limit. All memory is
     /// taken before anything changes, and the work follows what is taken.
-    pub(super) fn take(&mut self, name: &Name, limit: Option<u32>) -> Result<Reply, Memory>
-        requires { IsWellFormed (line_of name.now limit) }
-        ensures step { IfOk result (λ reply. IsStep self.old (line_of name.now limit) reply self.new) }
+    pub(super) fn take(&mut self, who: Pid, limit: Option<u32>) -> Result<Reply, Memory>
+        requires { IsTaker self.old who limit }
+        ensures step { IfOk result (λ reply. (name : List ℕ) → IsSender self.old name who → IsStep self.old (line_of name limit) reply self.new) }
         ensures unchanged { OnErr result (self.new ≡ self.old) }
     {
-        let who = match self.session(name) {
-            Ok(who) => who,
-            Err(refusal) => return Ok(refused(self.alloc, refusal)),
-        };
+        self.is_steady();
         let taking = self.taking(who, limit)?;
         Ok(self.tell(who, limit, taking))
     }

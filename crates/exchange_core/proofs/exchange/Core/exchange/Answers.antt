@@ -1,4 +1,4 @@
-use Rattle.std.proofs.Common.{subst, sym}
+use Rattle.std.proofs.Common.{ap, subst, sym, ◌∙◌}
 use Rattle.events.specs.Fits.{IsStep}
 use Rattle.events.specs.State.{State}
 use Rattle.events.specs.declared.Event.{Event}
@@ -14,7 +14,7 @@ pub invariant_of-self : goal.invariant_of-self
 invariant_of-self c =
     let a = c.self.inside in record {
       kept = subst (λ (x : Installed). IsKept (state_of Declaring c.args.base c.args.size a.registry a.server a.resolved.items a.classes a.adverts.told x a.programs.items) c.in_ok-pool.pool a.programs.items) (sym c.set_capacity.ensures)
-          (exchange_kept c.self.invariant.kept c.in-Start.is c.args.base c.args.size c.args.capacity c.requires c.in_ok-pool.pool c.in_ok-pool.ensures);
+          (exchange_kept c.self.invariant.kept (ap (λ (x : State). x.phase) c.self.view_is ∙ c.requires.first) c.args.base c.args.size c.args.capacity c.requires.formed c.in_ok-pool.pool c.in_ok-pool.ensures);
       present = c.self.invariant.present;
     }
 
@@ -25,4 +25,4 @@ returns-clause-step c =
     let s : State = state_of a.phase a.base a.size a.registry a.server a.resolved.items a.classes a.adverts.told a.switch a.programs.items in
     step_from s c.args.self.now e c.bare_reply.result _ c.self.view_is
     (subst (λ (x : Installed). IsStep s e c.bare_reply.result (state_of Declaring c.args.base c.args.size a.registry a.server a.resolved.items a.classes a.adverts.told x a.programs.items)) (sym c.set_capacity.ensures)
-    (exchange_step c.self.invariant.kept c.in-Start.is c.args.base c.args.size c.args.capacity c.requires c.bare_reply.result c.bare_reply.ensures))
+    (exchange_step c.self.invariant.kept (ap (λ (x : State). x.phase) c.self.view_is ∙ c.requires.first) c.args.base c.args.size c.args.capacity c.requires.formed c.bare_reply.result c.bare_reply.ensures))
