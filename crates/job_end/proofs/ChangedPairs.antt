@@ -9,7 +9,6 @@ use Rattle.exchange_laws.proofs.Lists.{clash, key_Member}
 use Rattle.exchange_laws.specs.Listed.{AreLiveOnly, AreThose, comes, goes}
 use Rattle.exchange_laws.specs.Rules.{is_new}
 use Rattle.exchange_laws.specs.Steady.{IsSteady}
-use Rattle.fast_path.proofs.PortsAndTags.{tie}
 use Rattle.fast_path.specs.Pairs.{dropped_pairs, is_among}
 use Rattle.job_end.specs.Ends.{is_other}
 use Rattle.job_end.specs.Rebuilt.{changed_pairs, has_others}
@@ -24,6 +23,7 @@ use Rattle.net_types.specs.Keys.{pair_cmp}
 use Rattle.net_types.specs.Sets.{Member}
 use Rattle.net_types.specs.declared.rule.Pair.{Pair}
 use Rattle.recompile.specs.Underway.{BuiltPairs}
+use Rattle.net_types.proofs.TieLemmas.{pair_tie}
 
 -- what is so by the second of two tests, where the first is met
 pub second : (a b : Bool) → a ≡ true → (not a || b) ≡ true → b ≡ true
@@ -48,7 +48,7 @@ module _ (s : State) (steady : IsSteady (without_job s)) (built : BuiltPairs) (g
     where
       by : (b : Bool) → is_live_pair s1 pair ≡ b → is_live_pair s1 pair ≡ true
       by true now = now
-      by false now = absurd (clash (member_any pair_cmp pairs_total tie pair gone (are.all pair live now)) none)
+      by false now = absurd (clash (member_any pair_cmp pairs_total pair_tie pair gone (are.all pair live now)) none)
 
   changed_each : (pair : Pair) → Member pair (changed_pairs s.table built gone (keys s.table)) → comes s s1 other pair ≡ true
   changed_each pair m =
@@ -61,8 +61,8 @@ module _ (s : State) (steady : IsSteady (without_job s)) (built : BuiltPairs) (g
   changed_all pair e =
       let parts = and_parts (is_live_pair s1 pair) (is_new s other pair) e in
       let live : is_live_pair s pair ≡ true = pair_was_live s steady pair parts.0 in
-      let none : is_among gone pair ≡ false = false_from_ne_true (is_among gone pair) (λ any. clash parts.0 (are.each pair (any_member pair_cmp pairs_total tie pair gone any)).1) in
-      Member-filter test (keys s.table) pair (key_Member pair_cmp pairs_total tie s.table pair (steady.sound.pairs pair ∙ live))
+      let none : is_among gone pair ≡ false = false_from_ne_true (is_among gone pair) (λ any. clash parts.0 (are.each pair (any_member pair_cmp pairs_total pair_tie pair gone any)).1) in
+      Member-filter test (keys s.table) pair (key_Member pair_cmp pairs_total pair_tie s.table pair (steady.sound.pairs pair ∙ live))
       (and_from (not (is_among gone pair)) (has_others s.table built pair) (ap not none) (second (is_live_pair s pair) (other pair) live parts.1))
 
   pub changed_are : AreThose (comes s s1 other) (changed_pairs s.table built gone (keys s.table))
@@ -76,7 +76,7 @@ module _ (s : State) (steady : IsSteady (without_job s)) (built : BuiltPairs) (g
 
   module _ (changed : List Pair) (those : AreThose (comes s s1 other) changed) where
     drops_each : (pair : Pair) → Member pair (dropped_pairs gone changed) → goes s s1 other pair ≡ true
-    drops_each pair m = elim (Member-append_cases gone changed pair ((ordered_same pair_cmp pairs_total tie (gone ++ changed)).onto pair m)) [
+    drops_each pair m = elim (Member-append_cases gone changed pair ((ordered_same pair_cmp pairs_total pair_tie (gone ++ changed)).onto pair m)) [
       | inl k ↦
           let is = are.each pair k in
           and_from (is_live_pair s pair) (not (is_live_pair s1 pair) || other pair) is.0 (or_left (not (is_live_pair s1 pair)) (other pair) (ap not is.1))
@@ -89,7 +89,7 @@ module _ (s : State) (steady : IsSteady (without_job s)) (built : BuiltPairs) (g
     drops_all : (pair : Pair) → goes s s1 other pair ≡ true → Member pair (dropped_pairs gone changed)
     drops_all pair e =
         let parts = and_parts (is_live_pair s pair) (not (is_live_pair s1 pair) || other pair) e in
-        (ordered_same pair_cmp pairs_total tie (gone ++ changed)).back pair (by (is_live_pair s1 pair) refl parts.0 parts.1)
+        (ordered_same pair_cmp pairs_total pair_tie (gone ++ changed)).back pair (by (is_live_pair s1 pair) refl parts.0 parts.1)
       where
         by : (b : Bool) → is_live_pair s1 pair ≡ b → is_live_pair s pair ≡ true → (not (is_live_pair s1 pair) || other pair) ≡ true → Member pair (gone ++ changed)
         by true now live more =
@@ -98,4 +98,4 @@ module _ (s : State) (steady : IsSteady (without_job s)) (built : BuiltPairs) (g
         by false now live more = Member-append_left gone changed pair (are.all pair live now)
 
     pub drops_are : AreThose (goes s s1 other) (dropped_pairs gone changed)
-    drops_are = record { rising = ordered_rises pair_cmp pairs_total tie (gone ++ changed); each = drops_each; all = drops_all }
+    drops_are = record { rising = ordered_rises pair_cmp pairs_total pair_tie (gone ++ changed); each = drops_each; all = drops_all }

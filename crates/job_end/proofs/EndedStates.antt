@@ -14,10 +14,9 @@ use Rattle.exchange_laws.proofs.Lists.{clash}
 use Rattle.exchange_laws.specs.Listed.{AreThose, HasLivePairs, comes}
 use Rattle.fast_path.proofs.CommittedMaps.{get_without_others, get_without_those, without_all}
 use Rattle.fast_path.proofs.CommittedPool.{is_tag, marked_all_base, marked_all_length, marked_others, marked_those, same_free, taken_in_turn, taken_is_live}
-use Rattle.fast_path.proofs.CommittedSignatures.{nothing, without_is}
+use Rattle.fast_path.proofs.CommittedSignatures.{without_is}
 use Rattle.fast_path.proofs.OfferedPresent.{offered_present}
 use Rattle.fast_path.proofs.PortsAndTags.{has_prefix_of}
-use Rattle.fast_path.proofs.TagOrder.{tag_tie}
 use Rattle.fast_path.specs.Committing.{AreTaken, AreUnused, kept_without, marked_all}
 use Rattle.fast_path.specs.LiveOnly.{has_prefix}
 use Rattle.fast_path.specs.Offers.{AreTo, HaveRoom, offered_all}
@@ -33,7 +32,7 @@ use Rattle.job_laws.proofs.MergedStates.{kept_is, tag_was_live}
 use Rattle.job_laws.specs.Jobs.{IsSteadyInJob}
 use Rattle.net_types.proofs.OrderLemmas.{tags_total}
 use Rattle.net_types.proofs.SetLemmas.{union-map}
-use Rattle.net_types.proofs.TieLemmas.{tag_cmp-IsAntisymmetric}
+use Rattle.net_types.proofs.TieLemmas.{tag_cmp-IsAntisymmetric, tag_tie}
 use Rattle.net_types.specs.Keys.{tag_cmp}
 use Rattle.net_types.specs.Sets.{Member}
 use Rattle.net_types.specs.declared.address.Tag.{Tag}
@@ -48,6 +47,7 @@ use Rattle.recompile.specs.Underway.{others_of}
 use Rattle.recompile.specs.Working.{IsSwap}
 use Rattle.recompile.specs.declared.swap.Swap.{Swap}
 use Rattle.std.specs.List.{list_any}
+use Rattle.net_types.proofs.FindLemmas.{nothing}
 
 module _ (s : State) (swap : Swap) (end : End) (steady : IsSteadyInJob s) (is_swap : IsSwap (setting_of s) swap) (is : IsEnd s swap end) where
   abbrev s1 : State

@@ -16,9 +16,7 @@ use Rattle.exchange_laws.proofs.ReadPolicies.{policies_are_one}
 use Rattle.exchange_laws.specs.Listed.{comes, goes, is_pair_before}
 use Rattle.exchange_laws.specs.Rules.{IsRightAt, is_new}
 use Rattle.fast_path.proofs.CommittedMaps.{AreApart, apart_from_rising, get_with_others, get_with_those, get_without_others, get_without_those}
-use Rattle.fast_path.proofs.CommittedSignatures.{nothing}
 use Rattle.fast_path.proofs.CommittedTable.{with_is, without_is}
-use Rattle.fast_path.proofs.PortsAndTags.{tie}
 use Rattle.fast_path.specs.Committing.{Block}
 use Rattle.fast_path.specs.Plans.{pair_of}
 use Rattle.job_end.proofs.ChangedPairs.{second}
@@ -45,6 +43,8 @@ use Rattle.recompile.specs.Underway.{BuiltPairs, others_of}
 use Rattle.recompile.specs.Working.{IsSwap}
 use Rattle.recompile.specs.declared.swap.Swap.{Swap}
 use Rattle.std.proofs.lemmas.Option.{same_Some}
+use Rattle.net_types.proofs.TieLemmas.{pair_tie}
+use Rattle.net_types.proofs.FindLemmas.{nothing}
 
 -- the blocks of pairs are theirs
 pub block_pairs : (built : BuiltPairs) (pairs : List Pair) → map pair_of (blocks_of built pairs) ≡ pairs
@@ -111,18 +111,18 @@ module _ (s : State) (swap : Swap) (end : End) (steady : IsSteadyInJob s) (is_sw
 
   -- a pair that stays live isn't taken out
   pub left_at : (pair : Pair) → is_live_pair s1 pair ≡ true → get left pair ≡ get s.table pair
-  left_at pair now = ap (λ t. get t pair) (without_is s.table end.gone) ∙ get_without_others pair_cmp pairs_total tie end.gone s.table pair (λ m. clash now (is.gone.each pair m).1)
+  left_at pair now = ap (λ t. get t pair) (without_is s.table end.gone) ∙ get_without_others pair_cmp pairs_total pair_tie end.gone s.table pair (λ m. clash now (is.gone.each pair m).1)
 
   pub changed_at : (pair : Pair) → Member pair end.changed → get table pair ≡ Some (unwrap_or (others_of swap.built pair) [])
   changed_at pair m =
       let b : Block = (pair, unwrap_or (others_of swap.built pair) []) in
       ap (λ t. get t pair) (with_is left blocks)
-      ∙ get_with_those pair_cmp pairs_total tie blocks left blocks_apart b (Member-map (λ q. let c : Block = (q, unwrap_or (others_of swap.built q) []) in c) end.changed pair m)
+      ∙ get_with_those pair_cmp pairs_total pair_tie blocks left blocks_apart b (Member-map (λ q. let c : Block = (q, unwrap_or (others_of swap.built q) []) in c) end.changed pair m)
 
   unchanged_at : (pair : Pair) → (Member pair end.changed → ⊥) → get table pair ≡ get left pair
   unchanged_at pair none =
       ap (λ t. get t pair) (with_is left blocks)
-      ∙ get_with_others pair_cmp pairs_total tie blocks left pair (λ b m at. none (subst (λ ps. Member pair ps) (block_pairs swap.built end.changed) (subst (λ q. Member q (map pair_of blocks)) at (Member-map pair_of blocks b m))))
+      ∙ get_with_others pair_cmp pairs_total pair_tie blocks left pair (λ b m at. none (subst (λ ps. Member pair ps) (block_pairs swap.built end.changed) (subst (λ q. Member q (map pair_of blocks)) at (Member-map pair_of blocks b m))))
 
   -- the other rules of a live pair
   others_at : (pair : Pair) (built : HasBuilt pair) → others_of swap.built pair ≡ built.made
@@ -157,10 +157,10 @@ module _ (s : State) (swap : Swap) (end : End) (steady : IsSteadyInJob s) (is_sw
   dead_at_end pair gone = unchanged_at pair (λ m. clash (and_parts (is_live_pair s1 pair) (is_new s other pair) (is.changed.each pair m)).0 gone) ∙ by (is_live_pair s pair) refl
     where
       by : (b : Bool) → is_live_pair s pair ≡ b → get left pair ≡ None
-      by true live = ap (λ t. get t pair) (without_is s.table end.gone) ∙ get_without_those pair_cmp pairs_total tie end.gone s.table pair (is.gone.all pair live gone)
+      by true live = ap (λ t. get t pair) (without_is s.table end.gone) ∙ get_without_those pair_cmp pairs_total pair_tie end.gone s.table pair (is.gone.all pair live gone)
       by false never =
           ap (λ t. get t pair) (without_is s.table end.gone)
-          ∙ get_without_others pair_cmp pairs_total tie end.gone s.table pair (λ m. clash (is.gone.each pair m).0 never)
+          ∙ get_without_others pair_cmp pairs_total pair_tie end.gone s.table pair (λ m. clash (is.gone.each pair m).0 never)
           ∙ nothing (get s.table pair) (λ has. clash (sym (steady.steady.sound.pairs pair) ∙ has) never)
 
   -- ---- it is a table for the end

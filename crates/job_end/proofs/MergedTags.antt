@@ -14,11 +14,10 @@ use Rattle.exchange_laws.proofs.FreshTags.{carried_listed}
 use Rattle.exchange_laws.proofs.Lists.{clash, is_some_of}
 use Rattle.exchange_laws.specs.Listed.{AreLiveOnly}
 use Rattle.exchange_laws.specs.Steady.{IsSteady}
-use Rattle.fast_path.proofs.CommittedSignatures.{nothing}
 use Rattle.fast_path.proofs.DeadTags.{untold_die}
 use Rattle.fast_path.proofs.GonePairs.{gone_live_only}
 use Rattle.fast_path.proofs.PortsAndTags.{has_prefix_of, prefix_with}
-use Rattle.fast_path.proofs.TagOrder.{rising_tags, tag_tie}
+use Rattle.fast_path.proofs.TagOrder.{rising_tags}
 use Rattle.fast_path.specs.Emptied.{old_tags}
 use Rattle.fast_path.specs.LiveOnly.{AreDead, has_prefix, registered}
 use Rattle.fast_path.specs.Pairs.{gone_pairs, untold}
@@ -48,6 +47,8 @@ use Rattle.prefix_classes.proofs.TabulatedLemmas.{merged_tabulated}
 use Rattle.prefix_classes.specs.MergeLaws.{HaveSignatures}
 use Rattle.prefix_classes.specs.Merging.{IsMergeOf, moved}
 use Rattle.std.proofs.lemmas.Option.{same_Some}
+use Rattle.net_types.proofs.TieLemmas.{tag_tie}
+use Rattle.net_types.proofs.FindLemmas.{nothing}
 
 -- moves in order are changes in order
 changes_rise : (ms : List (Prefix × Tag)) → IsRising is_before (map (λ m. m.0) ms) → IsRising is_change_before (map told_change ms)

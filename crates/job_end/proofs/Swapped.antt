@@ -7,7 +7,6 @@ use Rattle.std.proofs.lemmas.Bool.{false_from_ne_true}
 use Rattle.exchange_laws.proofs.Lists.{TableOf}
 use Rattle.exchange_laws.specs.Listed.{is_pair_before}
 use Rattle.fast_path.proofs.Loops.{rest_is}
-use Rattle.fast_path.proofs.PortsAndTags.{tie}
 use Rattle.fast_path.specs.Committing.{Block, with_blocks}
 use Rattle.job_end.specs.Rebuilt.{IsFewer, blocks_of}
 use Rattle.net_types.proofs.OrderLemmas.{pairs_total}
@@ -16,10 +15,11 @@ use Rattle.net_types.specs.Keys.{pair_cmp}
 use Rattle.net_types.specs.Sets.{IsRising, Member}
 use Rattle.net_types.specs.declared.rule.Pair.{Pair}
 use Rattle.recompile.specs.Underway.{BuiltPairs, others_of}
+use Rattle.net_types.proofs.TieLemmas.{pair_tie}
 
 -- what comes later is another pair
 apart : (pair q : Pair) → is_pair_before pair q ≡ true → eq_by_cmp pair_cmp q pair ≡ false
-apart pair q above = false_from_ne_true (eq_by_cmp pair_cmp q pair) (λ ties. before_itself pair_cmp pairs_total pair (subst (λ k. is_pair_before pair k ≡ true) (tie q pair ties) above))
+apart pair q above = false_from_ne_true (eq_by_cmp pair_cmp q pair) (λ ties. before_itself pair_cmp pairs_total pair (subst (λ k. is_pair_before pair k ≡ true) (pair_tie q pair ties) above))
 
 -- what was built for another pair stays, where a pair is taken out
 others_stay : (b : BuiltPairs) (pair q : Pair) → eq_by_cmp pair_cmp q pair ≡ false → others_of (remove b pair) q ≡ others_of b q

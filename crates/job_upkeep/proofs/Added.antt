@@ -19,14 +19,13 @@ use Rattle.exchange_laws.specs.Rerouting.{is_rerouting}
 use Rattle.exchange_laws.specs.Rules.{is_new}
 use Rattle.fast_path.proofs.CommittedReplies.{change}
 use Rattle.fast_path.proofs.NewPairs.{made, new_pairs_all}
-use Rattle.fast_path.proofs.PortsAndTags.{port_listed, tie}
+use Rattle.fast_path.proofs.PortsAndTags.{port_listed}
 use Rattle.fast_path.specs.LiveOnly.{registered}
 use Rattle.fast_path.specs.Pairs.{class_pairs, pair_at, sender_pairs}
 use Rattle.fast_path.specs.declared.planned.Class.{Class}
-use Rattle.job_upkeep.proofs.Listed.{rising_once}
 use Rattle.job_upkeep.specs.Upkeep.{AddedAreFew}
 use Rattle.net_types.proofs.OrderLemmas.{pairs_total}
-use Rattle.net_types.proofs.RisingLemmas.{Member-filter, before_itself, filter-Member}
+use Rattle.net_types.proofs.RisingLemmas.{Member-filter, before_itself, filter-Member, rising_once}
 use Rattle.net_types.proofs.SetLemmas.{Member-map, Member-union, map-Member, union-Member}
 use Rattle.net_types.proofs.WidthLemmas.{no_longer}
 use Rattle.net_types.specs.Exports.{Routing}
@@ -35,6 +34,7 @@ use Rattle.net_types.specs.Sets.{IsRising, Member, union_over}
 use Rattle.net_types.specs.declared.route.PortInfo.{PortInfo}
 use Rattle.net_types.specs.declared.rule.Pair.{Pair}
 use Rattle.registry.specs.Registered.{ports_of}
+use Rattle.net_types.proofs.TieLemmas.{pair_tie}
 
 rerouting_built : (s s1 : State) (e : Event) (r : Reply) → is_rerouting e ≡ true → IsAnswer s e r s1 → IsBuilt s s1 none_rebuilt r
 rerouting_built s s1 (Update name bytes) r rerouting is = is
@@ -76,7 +76,7 @@ module _ (s : State) (e : Event) (r : Routing) (is_rebuilt : Pair → Bool) (rer
   not_rebuilt pair live =
       let there : is_some (get s.table pair) ≡ true = pairs pair ∙ live in
       let goes : is_rebuilt pair ≡ true → Member pair (dropped s s1 is_rebuilt) = λ again.
-      Member-filter (λ q. is_none (get s.table q) || is_rebuilt q) (keys s.table) pair (key_Member pair_cmp pairs_total tie s.table pair there) (or_right (is_none (get s.table pair)) (is_rebuilt pair) again) in
+      Member-filter (λ q. is_none (get s.table q) || is_rebuilt q) (keys s.table) pair (key_Member pair_cmp pairs_total pair_tie s.table pair there) (or_right (is_none (get s.table pair)) (is_rebuilt pair) again) in
       false_from_ne_true (is_rebuilt pair) (λ again.
       not_both (get s.table pair) there (filter-Member (λ q. is_none (get s.table q) || none_rebuilt q) (keys s.table) pair (subst (Member pair) drops_same (goes again))).passes)
 

@@ -13,7 +13,7 @@ use Rattle.exchange_laws.proofs.LivePairs.{live_at}
 use Rattle.exchange_laws.proofs.TagsAfter.{live_of}
 use Rattle.exchange_laws.specs.Replies.{RightRulesAreSome}
 use Rattle.exchange_laws.specs.Steady.{IsSteady}
-use Rattle.fast_path.proofs.PortsAndTags.{prefix_with, tie}
+use Rattle.fast_path.proofs.PortsAndTags.{prefix_with}
 use Rattle.job_upkeep.proofs.Tagged.{some_with}
 use Rattle.net_types.proofs.FindLemmas.{find-IsFound}
 use Rattle.net_types.proofs.OrderLemmas.{pairs_total}
@@ -25,6 +25,7 @@ use Rattle.net_types.specs.declared.rule.Pair.{Pair}
 use Rattle.net_types.specs.declared.rule.Rule.{Rule}
 use Rattle.recompile.specs.Covering.{AreFew}
 use Rattle.recompile.specs.Setting.{setting_of}
+use Rattle.net_types.proofs.TieLemmas.{pair_tie}
 
 some_rules : (rules : List Rule) → (rules ≡ [] → ⊥) → 1 ≤ length rules
 some_rules [] none = absurd (none refl)
@@ -69,5 +70,5 @@ module _ (some : RightRulesAreSome) (s : State) (steady : IsSteady s) where
         let room = steady.sized.room in
         omega (arith, count, pooled, pairs, rules, room);
     all_tags = λ t has. let with = prefix_with s t (some_with s t has) in steady.pooled t (live_of s with.prefix t with.tagged);
-    all_pairs = λ pair there. key_Member pair_cmp pairs_total tie s.table pair there;
+    all_pairs = λ pair there. key_Member pair_cmp pairs_total pair_tie s.table pair there;
   }

@@ -1,11 +1,7 @@
 -- Lists without repeats.
-use Rattle.std.proofs.Common.{◌≡◌, Bool, true, List, [], ◌∷◌, ◌++◌, refl, inl, inr}
+use Rattle.std.proofs.Common.{List, [], ◌∷◌, ◌++◌, refl, inl, inr}
 use Rattle.net_types.proofs.SetLemmas.{Member-append_cases}
-use Rattle.net_types.specs.Sets.{HasNoRepeats, IsRising, Member}
-
-pub rising_once : {A : Type 0} (below : A → A → Bool) → ((x : A) → below x x ≡ true → ⊥) → (xs : List A) → IsRising below xs → HasNoRepeats xs
-rising_once below never [] rises = tt
-rising_once below never (x ∷ xs) rises = (λ m. never x (rises.0 x m), rising_once below never xs rises.1)
+use Rattle.net_types.specs.Sets.{HasNoRepeats, Member}
 
 pub joined_once : {A : Type 0} (xs ys : List A) → HasNoRepeats xs → HasNoRepeats ys → ((x : A) → Member x xs → Member x ys → ⊥) → HasNoRepeats (xs ++ ys)
 joined_once [] ys first second apart = second

@@ -22,7 +22,6 @@ use Rattle.exchange_laws.specs.Rerouting.{is_rerouting}
 use Rattle.exchange_laws.specs.Rules.{is_new}
 use Rattle.exchange_laws.specs.Steady.{IsSteady, StepsStaySteady}
 use Rattle.fast_path.proofs.CommittedReplies.{is_table}
-use Rattle.fast_path.proofs.PortsAndTags.{tie}
 use Rattle.fast_path.specs.Carried.{IsPlanned, PlansFitLines, plan_reply}
 use Rattle.fast_path.specs.Pairs.{is_among, staying}
 use Rattle.fast_path.specs.Plans.{planned}
@@ -33,13 +32,13 @@ use Rattle.job_laws.specs.Jobs.{without_job}
 use Rattle.job_laws.specs.Steps.{JobsLeaveLines, UnitsStartAnew}
 use Rattle.job_upkeep.proofs.Carried.{entries_are, entries_carried}
 use Rattle.job_upkeep.proofs.QuietLines.{setting_without}
-use Rattle.job_upkeep.proofs.Listed.{joined_once, rising_once}
+use Rattle.job_upkeep.proofs.Listed.{joined_once}
 use Rattle.job_upkeep.proofs.Planned.{had_or_fresh}
 use Rattle.job_upkeep.proofs.Reroutings.{few_planned, refused_alike}
 use Rattle.job_upkeep.specs.Upkeep.{HasJob, PoliciesKeepJobs, fresh_of, pairs_after}
 use Rattle.net_types.proofs.OrderLemmas.{pairs_total}
 use Rattle.net_types.proofs.OrderedLemmas.{any_member, member_any, ordered_same}
-use Rattle.net_types.proofs.RisingLemmas.{Member-filter, before_itself, filter-IsRising, filter-Member, keys-IsRising}
+use Rattle.net_types.proofs.RisingLemmas.{Member-filter, before_itself, filter-IsRising, filter-Member, keys-IsRising, rising_once}
 use Rattle.net_types.proofs.SetLemmas.{Member-append_cases, Member-append_left, Member-append_right}
 use Rattle.net_types.proofs.WidthLemmas.{no_longer}
 use Rattle.net_types.specs.Exports.{Routing, pid_of}
@@ -54,6 +53,7 @@ use Rattle.recompile.specs.Changing.{CoversListed, IsListed}
 use Rattle.recompile.specs.Covering.{AreFew, Covers}
 use Rattle.recompile.specs.Setting.{setting_of}
 use Rattle.recompile.specs.Underway.{Underway}
+use Rattle.net_types.proofs.TieLemmas.{pair_tie}
 
 -- ---- the carried prefixes stay
 
@@ -116,9 +116,9 @@ module _ (s : State) (e : Event) (s0 : State) (r : Routing) (is_rebuilt : Pair �
   stayed : (pair : Pair) → Member pair stay → (is_live_pair s0 pair ≡ true) × (goes s0 s1 is_rebuilt pair ≡ false)
   stayed pair m =
       let left = filter-Member (λ q. not (is_among plan.drops q)) (keys s.table) pair m in
-      let there : is_some (get s0.table pair) ≡ true = ap (λ t. is_some (get t pair)) edit.table ∙ contains_key-keys s.table pair ∙ member_any pair_cmp pairs_total tie pair (keys s.table) left.stands in (
+      let there : is_some (get s0.table pair) ≡ true = ap (λ t. is_some (get t pair)) edit.table ∙ contains_key-keys s.table pair ∙ member_any pair_cmp pairs_total pair_tie pair (keys s.table) left.stands in (
         sym (is.base.tagged.pairs pair) ∙ there,
-        false_from_ne_true (goes s0 s1 is_rebuilt pair) (λ gone. clash left.passes (ap not (member_any pair_cmp pairs_total tie pair plan.drops (is.planned.gone.all pair gone)))),
+        false_from_ne_true (goes s0 s1 is_rebuilt pair) (λ gone. clash left.passes (ap not (member_any pair_cmp pairs_total pair_tie pair plan.drops (is.planned.gone.all pair gone)))),
       )
 
   pub live_listed : (pair : Pair) → is_live_pair s1 pair ≡ true → Member pair all
@@ -129,9 +129,9 @@ module _ (s : State) (e : Event) (s0 : State) (r : Routing) (is_rebuilt : Pair �
       by false same =
           let parts = parts_of (is_live_pair s0 pair) (is_rebuilt pair) same in
           let there : is_some (get s0.table pair) ≡ true = is.base.tagged.pairs pair ∙ parts.0 in
-          let key : Member pair (keys s.table) = key_Member pair_cmp pairs_total tie s.table pair (sym (ap (λ t. is_some (get t pair)) edit.table) ∙ there) in
+          let key : Member pair (keys s.table) = key_Member pair_cmp pairs_total pair_tie s.table pair (sym (ap (λ t. is_some (get t pair)) edit.table) ∙ there) in
           let stays : goes s0 s1 is_rebuilt pair ≡ false = λ i. parts.0 i && (not (live i) || parts.1 i) in
-          let apart : is_among plan.drops pair ≡ false = false_from_ne_true (is_among plan.drops pair) (λ among. clash (is.planned.gone.each pair (any_member pair_cmp pairs_total tie pair plan.drops among)) stays) in
+          let apart : is_among plan.drops pair ≡ false = false_from_ne_true (is_among plan.drops pair) (λ among. clash (is.planned.gone.each pair (any_member pair_cmp pairs_total pair_tie pair plan.drops among)) stays) in
           Member-append_left stay plan.added pair (Member-filter (λ q. not (is_among plan.drops q)) (keys s.table) pair key (ap not apart))
 
   listed_live : (pair : Pair) → Member pair all → is_live_pair s1 pair ≡ true
@@ -163,7 +163,7 @@ module _ (s : State) (e : Event) (s0 : State) (r : Routing) (is_rebuilt : Pair �
   pub listed_count : length all ≡ length (live_pairs s1)
   listed_count =
       let most = no_longer all (live_pairs s1) listed_once (λ pair m. live_Member s1 (tags_stay_pooled s0 r is.base.pooled) pair (listed_live pair m)) in
-      let least = no_longer (live_pairs s1) all (rising_once is_pair_before (before_itself pair_cmp pairs_total) (live_pairs s1) (live_rise s1)) (λ pair m. live_listed pair (filter-Member (is_live_pair s1) (pairs s1) pair ((ordered_same pair_cmp pairs_total tie (filter (is_live_pair s1) (pairs s1))).onto pair m)).passes) in
+      let least = no_longer (live_pairs s1) all (rising_once is_pair_before (before_itself pair_cmp pairs_total) (live_pairs s1) (live_rise s1)) (λ pair m. live_listed pair (filter-Member (is_live_pair s1) (pairs s1) pair ((ordered_same pair_cmp pairs_total pair_tie (filter (is_live_pair s1) (pairs s1))).onto pair m)).passes) in
       omega (arith, most, least)
 
 -- ---- the line

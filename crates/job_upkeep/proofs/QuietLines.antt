@@ -12,7 +12,6 @@ use Rattle.exchange_laws.proofs.Lists.{key_Member}
 use Rattle.exchange_laws.specs.Counts.{PairsAreLive}
 use Rattle.exchange_laws.specs.Replies.{RightRulesAreSome}
 use Rattle.exchange_laws.specs.Steady.{StepsStaySteady}
-use Rattle.fast_path.proofs.PortsAndTags.{tie}
 use Rattle.job_laws.specs.Jobs.{without_job}
 use Rattle.job_laws.specs.Steps.{JobsLeaveLines, UnitsStay}
 use Rattle.job_upkeep.proofs.Carried.{entries_carried, no_more}
@@ -25,6 +24,7 @@ use Rattle.recompile.specs.Changing.{IsListed, QuietChangesKeepJobs}
 use Rattle.recompile.specs.Covering.{Covers}
 use Rattle.recompile.specs.Setting.{setting_of}
 use Rattle.recompile.specs.Underway.{Underway}
+use Rattle.net_types.proofs.TieLemmas.{pair_tie}
 
 pub settings_are_few : RightRulesAreSome → SteadySettingsAreFew
 settings_are_few some s steady = few_steady some (without_job s) steady
@@ -64,7 +64,7 @@ begin some live s j steady covers owed = (units, (ap Some (sym units), covers (s
     listed = let few = few_steady some (without_job s) steady in record {
       prefixes = no_more (length (entries s.tag));
       tags = λ t has. inl has;
-      pairs = λ pair there. key_Member pair_cmp pairs_total tie s.table pair there;
+      pairs = λ pair there. key_Member pair_cmp pairs_total pair_tie s.table pair there;
       few = few;
     }
 

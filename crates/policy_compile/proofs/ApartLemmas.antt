@@ -18,7 +18,7 @@ use Rattle.policy_compile.specs.Narrow.{HasWideMeets}
 use Rattle.policy_compile.specs.Apart.{SomeIsMany, EachHas, IsShared, IsCommon, IsNoted, IsNarrowed}
 use Rattle.policy_compile.proofs.CountLemmas.{few_cubes}
 use Rattle.policy_compile.proofs.SetsLemmas.{any-Member, Member-any}
-use Rattle.policy_compile.proofs.AtomLemmas.{same_count, atoms-then, meets-left, meets-right, itself, wide-left, wide-right}
+use Rattle.policy_compile.proofs.AtomLemmas.{HasParts, atoms-then, itself, meets-left, meets-right, same_count, wide-left, wide-right}
 
 -- ---- some set has too many
 
@@ -172,9 +172,6 @@ leaf-narrowed p sets keys same none = record {
   sound = λ m. inl m;
   decides = λ r stands many. elim (subst (Member r) none stands) [ inl here ↦ inl (subst HasManyMeets here many) | inr nothing ↦ elim nothing [ ] ];
 }
-
-abbrev HasParts : Policy → Policy → Policy → Type 0
-HasParts w p q = parts w ≡ w ∷ (parts p ++ parts q)
 
 -- what is known of two parts, and of the sets that were noted in between and behind
 two-narrowed : {S : Type 0} (w p q : Policy) (old mid new last : List (HashSet Cube S)) (ks ls whole : List Cube) → HasParts w p q → SameMembers whole (atoms w) → IsNarrowed p old mid ks → IsNarrowed q mid new ls

@@ -100,7 +100,7 @@ same_count xs ys same = omega (arith, meets-fewer xs ys same.onto, meets-fewer y
 
 -- ---- parts that decide
 
-abbrev HasParts : Policy → Policy → Policy → Type 0
+abbrev pub HasParts : Policy → Policy → Policy → Type 0
 HasParts w p q = parts w ≡ w ∷ (parts p ++ parts q)
 
 pub wide-left : (w p q : Policy) → HasParts w p q → HasWideMeets p → HasWideMeets w

@@ -1,7 +1,7 @@
 -- The first of the cells with some headers lies within each atom that has them.
 use Rattle.std.proofs.Common.{◌≡◌, true, false, ◌&&◌, cond, Option, Some, None, List, [], ◌∷◌, ◌++◌, append_assoc, refl, inl, inr, sym, ap, ◌∙◌, subst}
 use Rattle.std.specs.List.{list_any}
-use Rattle.std.proofs.lemmas.Bool.{cases_Bool, and_parts, and_from, or_cases, false≢true, false_from_ne_true}
+use Rattle.std.proofs.lemmas.Bool.{cases_Bool, and_parts, and_from, false≢true, false_from_ne_true}
 use Rattle.indexmap.specs.IndexSet.{insert_key}
 use Rattle.net_types.specs.declared.cube.Cube.{Cube}
 use Rattle.net_types.specs.declared.headers.Headers.{Headers}
@@ -16,11 +16,6 @@ use Rattle.classifier.proofs.SeenLemmas.{cube_eq_exact, cube_eq_refl}
 use Rattle.policy_compile.specs.Sets.{adds}
 use Rattle.policy_compile.specs.Cells.{first_of, AreCells, met_by, outside, cut}
 use Rattle.policy_compile.proofs.SetsLemmas.{any-Member, cubes-same}
-
--- a cube that the test finds is there
-pub any-there : (xs : List Cube) (x : Cube) → list_any (λ y. cube_eq y x) xs ≡ true → Member x xs
-any-there [] x h = absurd (false≢true h)
-any-there (y ∷ ys) x h = elim (or_cases (cube_eq y x) (list_any (λ z. cube_eq z x) ys) h) [ inl here ↦ inl (sym (cube_eq_exact y x here)) | inr later ↦ inr (any-there ys x later) ]
 
 -- ---- cubes put last, each once
 

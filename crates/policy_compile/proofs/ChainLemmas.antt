@@ -1,6 +1,5 @@
 -- Chains whose brackets stand otherwise.
-use Rattle.std.proofs.Common.{◌≡◌, ℕ, Option, Some, None, List, [], ◌∷◌, ◌++◌, map, refl, inl, inr, sym, ap, ◌∙◌, subst}
-use Rattle.std.specs.Option.{option_or}
+use Rattle.std.proofs.Common.{◌≡◌, ℕ, Option, List, [], ◌∷◌, ◌++◌, map, refl, inl, inr, sym, ap, ◌∙◌, subst}
 use Rattle.net_types.specs.declared.address.Pid.{Pid}
 use Rattle.net_types.specs.declared.cube.Cube.{Cube}
 use Rattle.net_types.specs.declared.headers.Assign.{Assign}
@@ -15,6 +14,7 @@ use Rattle.classifier.specs.declared.classifier.Classifier.{Classifier}
 use Rattle.classifier.specs.Compiled.{IsCompiled}
 use Rattle.classifier.proofs.SumLemmas.{union-append}
 use Rattle.policy_compile.proofs.AtomLemmas.{behind-onto}
+use Rattle.classifier.proofs.DecideLemmas.{or_assoc}
 
 -- what a function gives of each of what another gives
 union-union : {A B C : Type 0} (f : B → List C) (g : A → List B) (xs : List A) → union_over (λ x. union_over f (g x)) xs ≡ union_over f (union_over g xs)
@@ -22,16 +22,12 @@ union-union f g [] = refl
 union-union f g (x ∷ xs) = ap (λ zs. union_over f (g x) ++ zs) (union-union f g xs) ∙ sym (union-append f (g x) (union_over g xs))
 
 -- three assignments, one after another
-or-regrouped : {A : Type 0} (a b c : Option A) → option_or (option_or c b) a ≡ option_or c (option_or b a)
-or-regrouped a b None = refl
-or-regrouped a b (Some x) = refl
-
 pub followed-regrouped : (first second third : Assign) → followed_by first (followed_by second third) ≡ followed_by (followed_by first second) third
 followed-regrouped a b c =
-    let src = or-regrouped a.src b.src c.src in
-    let dst = or-regrouped a.dst b.dst c.dst in
-    let sport = or-regrouped a.sport b.sport c.sport in
-    let dport = or-regrouped a.dport b.dport c.dport in
+    let src = or_assoc c.src b.src a.src in
+    let dst = or_assoc c.dst b.dst a.dst in
+    let sport = or_assoc c.sport b.sport a.sport in
+    let dport = or_assoc c.dport b.dport a.dport in
     rw (src, dst, sport, dport) refl
 
 -- the assignments of a chain

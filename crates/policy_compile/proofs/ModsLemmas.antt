@@ -15,6 +15,7 @@ use Rattle.policy_compile.specs.declared.fields.Fields.{Fields}
 use Rattle.policy_compile.specs.Sets.{same_fields, assign_of, assigns_of, after, followed}
 use Rattle.policy_compile.specs.Narrow.{HasFewMods, HasWideMods, IsFewOf, IsModsOf}
 use Rattle.policy_compile.proofs.SetsLemmas.{distinct-assigns}
+use Rattle.policy_compile.proofs.AtomLemmas.{HasParts}
 
 -- ---- sets of fields
 
@@ -39,10 +40,6 @@ few-of (Some s) keys all same m = record {
 }
 
 -- ---- parts of policies
-
--- a policy with two parts
-abbrev HasParts : Policy → Policy → Policy → Type 0
-HasParts w p q = parts w ≡ w ∷ (parts p ++ parts q)
 
 pub wide-left : (w p q : Policy) → HasParts w p q → HasWideMods p → HasWideMods w
 wide-left w p q e m = record { part = m.part; stands = subst (Member m.part) (sym e) (inr (SetLemmas.Member-append_left (parts p) (parts q) m.part m.stands)); many = m.many }

@@ -1,6 +1,5 @@
 -- The rules of cells, each with what the policy makes there, do what the policy does.
-use Rattle.std.proofs.Common.{◌≡◌, ℕ, true, cond, Option, Some, None, unwrap_or, List, [], ◌∷◌, ◌++◌, map, refl, inl, inr, sym, ap, ◌∙◌, subst}
-use Rattle.std.specs.Option.{option_or}
+use Rattle.std.proofs.Common.{◌≡◌, ℕ, true, cond, Option, Some, unwrap_or, List, [], ◌∷◌, ◌++◌, map, refl, inl, inr, sym, ap, ◌∙◌, subst}
 use Rattle.std.proofs.lemmas.Bool.{cases_Bool, false≢true, false_from_ne_true}
 use Rattle.net_types.specs.declared.address.Pid.{Pid}
 use Rattle.net_types.specs.declared.cube.Cube.{Cube}
@@ -8,7 +7,7 @@ use Rattle.net_types.specs.declared.headers.Headers.{Headers}
 use Rattle.net_types.specs.declared.headers.Loc.{Loc}
 use Rattle.net_types.specs.declared.headers.Assign.{Assign}
 use Rattle.net_types.specs.Headers.{followed_by, no_change}
-use Rattle.net_types.specs.Cubes.{has, everything, pull_cube, lies_within_cube}
+use Rattle.net_types.specs.Cubes.{has, everything, lies_within_cube}
 use Rattle.net_types.specs.Meets.{IsMeet}
 use Rattle.net_types.specs.Sets.{Member, SameMembers}
 use Rattle.net_types.specs.Policies as model
@@ -22,11 +21,12 @@ use Rattle.classifier.specs.Lines.{add_lines}
 use Rattle.classifier.specs.Meaning.{carried, cubes_of, decide}
 use Rattle.classifier.specs.Classifiers.{lines_of, meaning}
 use Rattle.classifier.specs.Compiled.{IsCompiled}
-use Rattle.classifier.proofs.DecideLemmas.{decide-add_lines}
+use Rattle.classifier.proofs.DecideLemmas.{decide-add_lines, or_none}
 use Rattle.classifier.proofs.LineLemmas.{EachLine, each-add_lines}
 use Rattle.classifier.proofs.ShapeLemmas.{cubes-push}
 use Rattle.policy_compile.specs.Cells.{first_of, AreCells}
 use Rattle.policy_compile.specs.Paths.{taken_into, within_found, Decided, sets_of, IsVisit, AreAt, begun}
+use Rattle.classifier.proofs.CompileLemmas.{pull-no_change}
 
 -- ---- rules put last
 
@@ -83,13 +83,9 @@ first-has (c ∷ cs) h = elim (cases_Bool (has c h)) [
   | inr away ↦ ap (λ b. has (cond b c (first_of cs h)) h) away ∙ first-has cs h
 ]
 
-pull-nothing : (c : Cube) → pull_cube c no_change ≡ Some c
-unfolding pull_cube
-pull-nothing c = refl
-
 -- in its cube each atom is decided
 cell-decides : (all : List Cube) (cubes : List Cube) (h : Headers) → AreCells all cubes → (a : Cube) → Member a all → taken_into (first_of cubes h) no_change (Some a) ≡ has a h
-cell-decides all cubes h f a k = ap (within_found (first_of cubes h)) (pull-nothing a) ∙ elim (cases_Bool (has a h)) [
+cell-decides all cubes h f a k = ap (within_found (first_of cubes h)) (pull-no_change a) ∙ elim (cases_Bool (has a h)) [
   | inl t ↦ f.narrow h a k t ∙ sym t
   | inr away ↦ false_from_ne_true (lies_within_cube (first_of cubes h) a) (λ w. false≢true (sym away ∙ has-within (first_of cubes h) a h w (first-has cubes h))) ∙ sym away
 ]
@@ -99,10 +95,6 @@ cell-decides all cubes h f a k = ap (within_found (first_of cubes h)) (pull-noth
 begun-next : (m next : Assign) → m ≡ followed_by no_change next → m ≡ next
 begun-next m next e = e ∙ none_first next
   where
-    or_none : {A : Type 0} (o : Option A) → option_or o None ≡ o
-    or_none None = refl
-    or_none (Some x) = refl
-
     none_first : (n : Assign) → followed_by no_change n ≡ n
     none_first n = let src = or_none n.src in let dst = or_none n.dst in let sport = or_none n.sport in let dport = or_none n.dport in rw (src, dst, sport, dport) refl
 

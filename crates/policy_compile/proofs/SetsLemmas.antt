@@ -18,10 +18,8 @@ use Rattle.classifier.proofs.ItemLemmas.{option_eq_exact, option_eq_refl}
 use Rattle.classifier.proofs.SeenLemmas.{cube_eq_exact, cube_eq_refl, cube_eq_is}
 use Rattle.policy_compile.specs.declared.fields.Fields.{Fields}
 use Rattle.policy_compile.specs.Sets.{adds, same_fields, assign_of, assigns_of, fields_of}
-
-or_true : (b : Bool) → (b || true) ≡ true
-or_true true = refl
-or_true false = refl
+use Rattle.std.proofs.Math.Bool.{or-true, and_comm}
+use Rattle.net_types.proofs.WidthTests.{ip_right}
 
 module _ {A : Type 0} (eq : A → A → Bool) (exact : (x y : A) → eq x y ≡ true → x ≡ y) (reflexive : (x : A) → eq x x ≡ true) where
   pub any-Member : (ks : List A) (x : A) → list_any (eq x) ks ≡ true → Member x ks
@@ -31,7 +29,7 @@ module _ {A : Type 0} (eq : A → A → Bool) (exact : (x y : A) → eq x y ≡ 
   pub Member-any : (ks : List A) (x : A) → Member x ks → list_any (eq x) ks ≡ true
   Member-any [] x h = elim h [ ]
   Member-any (k ∷ ks) x (inl e) = ap (λ b. b || list_any (eq x) ks) (ap (eq x) (sym e) ∙ reflexive x)
-  Member-any (k ∷ ks) x (inr h) = ap (λ b. eq x k || b) (Member-any ks x h) ∙ or_true (eq x k)
+  Member-any (k ∷ ks) x (inr h) = ap (λ b. eq x k || b) (Member-any ks x h) ∙ or-true (eq x k)
 
   -- what is there and the new value, and nothing else, is there afterwards
   insert-same : (ks : List A) (x : A) → SameMembers (insert_key eq ks x) (ks ++ x ∷ [])
@@ -94,16 +92,10 @@ adds_append eq ks (x ∷ xs) ys = adds_append eq (insert_key eq ks x) xs ys
 pub cubes-same : (ks xs : List Cube) → SameMembers (adds cube_eq ks xs) (ks ++ xs)
 cubes-same = adds-same cube_eq cube_eq_exact cube_eq_refl
 
-and_swap : (x y : Bool) → (x && y) ≡ (y && x)
-and_swap true true = refl
-and_swap true false = refl
-and_swap false true = refl
-and_swap false false = refl
-
 any-has_cube : (ks : List Cube) (c : Cube) → list_any (cube_eq c) ks ≡ has_cube ks c
 any-has_cube [] c = refl
 any-has_cube (k ∷ ks) c =
-    ap (λ b. b || list_any (cube_eq c) ks) (cube_eq_is c k ∙ and_swap (lies_within_cube c k) (lies_within_cube k c))
+    ap (λ b. b || list_any (cube_eq c) ks) (cube_eq_is c k ∙ and_comm (lies_within_cube c k) (lies_within_cube k c))
     ∙ ap (λ b. (lies_within_cube k c && lies_within_cube c k) || b) (any-has_cube ks c)
 
 -- cubes that no test finds equal, put into an empty set
@@ -126,9 +118,6 @@ all-Member set (x ∷ others) h c k =
 
 -- ---- sets of fields
 
-ips_exact : (a b : Ip) → same_ip a b ≡ true → a ≡ b
-ips_exact a b h = ap (λ n. let ip : Ip = record { 0 = n } in ip) (eqb-true a.0 b.0 h)
-
 abbrev built : Option Ip → Option Ip → Option ℕ → Option ℕ → Fields
 built src dst sport dport = record { src = src; dst = dst; sport = sport; dport = dport }
 
@@ -141,8 +130,8 @@ fields_exact a b h =
     let s = and_parts (option_eq same_ip a.src b.src) (option_eq same_ip a.dst b.dst && (option_eq eqb a.sport b.sport && option_eq eqb a.dport b.dport)) h in
     let d = and_parts (option_eq same_ip a.dst b.dst) (option_eq eqb a.sport b.sport && option_eq eqb a.dport b.dport) s.1 in
     let p = and_parts (option_eq eqb a.sport b.sport) (option_eq eqb a.dport b.dport) d.1 in
-    ap (λ x. built x a.dst a.sport a.dport) (option_eq_exact same_ip ips_exact a.src b.src s.0)
-    ∙ ap (λ x. built b.src x a.sport a.dport) (option_eq_exact same_ip ips_exact a.dst b.dst d.0)
+    ap (λ x. built x a.dst a.sport a.dport) (option_eq_exact same_ip ip_right a.src b.src s.0)
+    ∙ ap (λ x. built b.src x a.sport a.dport) (option_eq_exact same_ip ip_right a.dst b.dst d.0)
     ∙ ap (λ x. built b.src b.dst x a.dport) (option_eq_exact eqb eqb-true a.sport b.sport p.0)
     ∙ ap (λ x. built b.src b.dst b.sport x) (option_eq_exact eqb eqb-true a.dport b.dport p.1)
 

@@ -1,7 +1,6 @@
 -- Lines that are run one behind the other, and their replies, of which some are written and the last ones wait.
 use Rattle.std.proofs.Common.{◌≡◌, ℕ, ◌+◌, ◌≤◌, Bool, true, false, ◌||◌, List, [], ◌∷◌, ◌++◌, take, sym, ap, subst, ◌∙◌, append_assoc, append-nil, refl, inl, inr}
-use Rattle.std.specs.Prelude.{Option, ◌⊎◌}
-use Rattle.std.specs.Io.KnownBytes.{Appends}
+use Rattle.std.specs.Prelude.{Option}
 use Rattle.events.specs.Lines.{event_of}
 use Rattle.events.specs.State.{State, first}
 use Rattle.replay_run.specs.Bounds.{line_bound}
@@ -52,12 +51,12 @@ runs_line a b waited w waits p p' t t' mid after part said open_part few sent ru
   sent.front,
   sent.appends,
   (let all = octets ++ (part ++ 10 ∷ []) in
-  let text = (u ++ sent.front) ++ waits in
-  subst (λ l. Ran s all text l p'.number p'.refused t' before after) (sym line)
-  (subst (λ n. Ran s all text [] n p'.refused t' before after) (sym number)
-  (subst (λ r. Ran s all text [] (p.number + 1) r t' before after) (sym refused)
-  (subst (λ x. Ran s all x [] (p.number + 1) (p.refused || said) t' before after) (append-nil text)
-  (ran_line a b waited w waits [] p t t' mid after part open_part few sent said runs s octets u before h))))),
+      let text = (u ++ sent.front) ++ waits in
+      subst (λ l. Ran s all text l p'.number p'.refused t' before after) (sym line)
+      (subst (λ n. Ran s all text [] n p'.refused t' before after) (sym number)
+      (subst (λ r. Ran s all text [] (p.number + 1) r t' before after) (sym refused)
+      (subst (λ x. Ran s all x [] (p.number + 1) (p.refused || said) t' before after) (append-nil text)
+      (ran_line a b waited w waits [] p t t' mid after part open_part few sent said runs s octets u before h))))),
 )
 
 -- a part of a line that has no end yet
@@ -67,11 +66,11 @@ runs_part a waits p p' t mid part open_part line number refused s octets u befor
   [],
   Appends_none a,
   (let text = (u ++ []) ++ waits in
-  subst (λ l. Ran s (octets ++ part) text l p'.number p'.refused t before mid) (sym line)
-  (subst (λ n. Ran s (octets ++ part) text (take kept_octets (p.line ++ part)) n p'.refused t before mid) (sym number)
-  (subst (λ r. Ran s (octets ++ part) text (take kept_octets (p.line ++ part)) p.number r t before mid) (sym refused)
-  (subst (λ x. Ran s (octets ++ part) x (take kept_octets (p.line ++ part)) p.number p.refused t before mid) (ap (λ x. x ++ waits) (sym (append-nil u)))
-  (inside_line s octets (u ++ waits) p.line p.number p.refused t before mid part open_part h))))),
+      subst (λ l. Ran s (octets ++ part) text l p'.number p'.refused t before mid) (sym line)
+      (subst (λ n. Ran s (octets ++ part) text (take kept_octets (p.line ++ part)) n p'.refused t before mid) (sym number)
+      (subst (λ r. Ran s (octets ++ part) text (take kept_octets (p.line ++ part)) p.number r t before mid) (sym refused)
+      (subst (λ x. Ran s (octets ++ part) x (take kept_octets (p.line ++ part)) p.number p.refused t before mid) (ap (λ x. x ++ waits) (sym (append-nil u)))
+      (inside_line s octets (u ++ waits) p.line p.number p.refused t before mid part open_part h))))),
 )
 
 -- ---- lines one behind the other
@@ -127,6 +126,7 @@ last_cut a b octets w p t u before mid after waited v waits rest none sent some 
   where
     all : w ++ v ≡ (w ++ sent.front) ++ (waits ++ rest)
     all = ap (λ x. x ++ v) (sym (append-nil w) ∙ ap (λ x. w ++ x) (sym none)) ∙ written_behind w waited v sent.front waits rest sent.whole ∙ append_assoc (w ++ sent.front) waits rest
+
     by : IsBegun (event_of p.line) t p.number v u → IsPartOf first octets (w ++ v) before after
     by (inl nothing) = subst (λ x. IsPartOf first octets x before after) (sym (append-nil w) ∙ ap (λ x. w ++ x) (sym nothing)) (last_stopped octets w p t before mid after some few h)
     by (inr run) =

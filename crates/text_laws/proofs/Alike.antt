@@ -10,6 +10,7 @@ use Rattle.std.proofs.lemmas.Fmt.{decimal_is_IsNumeral_wide, length-decimal-le_w
 use Rattle.std.proofs.lemmas.Nat.{le-div}
 use Rattle.std.proofs.lemmas.List.{append_cancel_left}
 use Rattle.std.proofs.lemmas.List.Folds.{list_all-append}
+use Rattle.exchange_laws.proofs.Lists.{clash}
 
 -- ---- octets
 
@@ -30,20 +31,17 @@ is_inside c = nat_lt 10 c
 abbrev pub is_hex : ℕ → Bool
 is_hex c = (nat_le 48 c && nat_le c 57) || (nat_le 97 c && nat_le c 102)
 
-pub true_false : (b : Bool) → b ≡ true → b ≡ false → ⊥
-true_false b is other = cc
-
-head_of : (c d : ℕ) (cs ds : List ℕ) → c ∷ cs ≡ d ∷ ds → c ≡ d
+pub head_of : {X : Type 0} (c d : X) (cs ds : List X) → c ∷ cs ≡ d ∷ ds → c ≡ d
 head_of c d cs ds e = cc
 
-rest_of : (c d : ℕ) (cs ds : List ℕ) → c ∷ cs ≡ d ∷ ds → cs ≡ ds
+pub rest_of : {X : Type 0} (c d : X) (cs ds : List X) → c ∷ cs ≡ d ∷ ds → cs ≡ ds
 rest_of c d cs ds e = cc
 
 -- two texts of octets that pass a test, and behind them none that does
 pub spans : (test : ℕ → Bool) (x y s t : List ℕ) → Over test x → Over test y → starts test s ≡ false → starts test t ≡ false → x ++ s ≡ y ++ t → (x ≡ y) × (s ≡ t)
 spans test [] [] s t over also ends stops e = (refl, e)
-spans test [] (d ∷ ys) s t over also ends stops e = absurd (true_false (test d) (and_parts (test d) (list_all test ys) also).0 (sym (ap (starts test) e) ∙ ends))
-spans test (c ∷ xs) [] s t over also ends stops e = absurd (true_false (test c) (and_parts (test c) (list_all test xs) over).0 (ap (starts test) e ∙ stops))
+spans test [] (d ∷ ys) s t over also ends stops e = absurd (clash (and_parts (test d) (list_all test ys) also).0 (sym (ap (starts test) e) ∙ ends))
+spans test (c ∷ xs) [] s t over also ends stops e = absurd (clash (and_parts (test c) (list_all test xs) over).0 (ap (starts test) e ∙ stops))
 spans test (c ∷ xs) (d ∷ ys) s t over also ends stops e =
     let rest = spans test xs ys s t (and_parts (test c) (list_all test xs) over).1 (and_parts (test d) (list_all test ys) also).1 ends stops (rest_of c d (xs ++ s) (ys ++ t) e) in
     let one : c ≡ d = head_of c d (xs ++ s) (ys ++ t) e in

@@ -10,8 +10,8 @@ use Rattle.net_types.specs.declared.address.PortNo.{PortNo}
 use Rattle.net_types.specs.declared.cube.Cube.{Cube}
 use Rattle.net_types.specs.declared.headers.Assign.{Assign}
 use Rattle.net_types.specs.declared.prefix.Prefix.{Prefix}
-use Rattle.text_laws.proofs.Fields.{each_append}
 use Rattle.std.proofs.lemmas.Option.{same_Some}
+use Rattle.net_types.proofs.MemberLemmas.{each_append}
 
 -- ---- fields
 

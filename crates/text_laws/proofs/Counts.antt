@@ -1,5 +1,5 @@
 -- The rules that a table would have have a number of at most 63 digits: there are only so many cubes, and so many pairs.
-use Rattle.std.proofs.Common.{◌≡◌, ℕ, zero, suc, ◌+◌, ◌*◌, ◌^◌, ◌<◌, ◌≤◌, List, [], ◌∷◌, inl, inr, length, map, refl, sym, ap, subst, arith}
+use Rattle.std.proofs.Common.{◌≡◌, ℕ, suc, ◌+◌, ◌*◌, ◌^◌, ◌<◌, ◌≤◌, List, [], ◌∷◌, inl, inr, length, map, refl, sym, ap, subst, arith}
 use Rattle.std.specs.Prelude.{IfSome, Option, Some, None, sum_by}
 use Rattle.std.specs.Option.{option_map_or}
 use Rattle.std.proofs.lemmas.List.{length-map}
@@ -8,10 +8,10 @@ use Rattle.net_types.proofs.OrderLemmas.{pairs_total}
 use Rattle.net_types.proofs.OrderedLemmas.{ordered_rises, ordered_same}
 use Rattle.net_types.proofs.PassLemmas.{place_member}
 use Rattle.net_types.proofs.PrefixLemmas.{prefix_ext}
-use Rattle.net_types.proofs.RisingLemmas.{before, before_itself, filter-Member}
+use Rattle.net_types.proofs.RisingLemmas.{before, before_itself, filter-Member, rising_once}
 use Rattle.net_types.proofs.MeetLemmas.{meets-IsMeet}
 use Rattle.net_types.proofs.SetLemmas.{map-Member, union-Member}
-use Rattle.net_types.proofs.TieLemmas.{pair_cmp-IsAntisymmetric, same_from_tie}
+use Rattle.net_types.proofs.TieLemmas.{pair_tie}
 use Rattle.net_types.proofs.WidthLemmas.{meets-HasNoRepeats, no_longer}
 use Rattle.net_types.specs.Answers.{Policies}
 use Rattle.net_types.specs.Cells.{cell_atoms}
@@ -19,7 +19,7 @@ use Rattle.net_types.specs.Cubes.{IsInRange}
 use Rattle.net_types.specs.Keys.{pair_cmp}
 use Rattle.net_types.specs.Meets.{IsMeet, meets}
 use Rattle.net_types.specs.Routes.{numbers}
-use Rattle.net_types.specs.Sets.{HasNoRepeats, IsRising, Member}
+use Rattle.net_types.specs.Sets.{HasNoRepeats, Member}
 use Rattle.net_types.specs.declared.address.PortNo.{PortNo}
 use Rattle.net_types.specs.declared.address.Tag.{Tag}
 use Rattle.net_types.specs.declared.cube.Cube.{Cube}
@@ -36,12 +36,9 @@ use Rattle.exchange_laws.specs.Steady.{PortsAreNumbered}
 use Rattle.text_laws.proofs.Numbers.{pair_is}
 use Rattle.text_laws.proofs.Ranges.{cells_in_range}
 use Rattle.text_laws.proofs.Rules.{cube_is}
+use Rattle.net_types.proofs.FindLemmas.{length-numbers}
 
 -- ---- lists without repeats
-
-numbers_length : (low count : ℕ) → length (numbers low count) ≡ count
-numbers_length low zero = refl
-numbers_length low (suc count) = ap suc (numbers_length (low + 1) count)
 
 mapped_same : (xs : List ℕ) → map (λ n. n) xs ≡ xs
 mapped_same [] = refl
@@ -50,7 +47,7 @@ mapped_same (x ∷ xs) = ap (λ ys. x ∷ ys) (mapped_same xs)
 -- different numbers below another one are no more than it
 few_below : (high : ℕ) (xs : List ℕ) → HasNoRepeats xs → ((x : ℕ) → Member x xs → x < high) → length xs ≤ high
 few_below high xs differ below =
-    subst (λ n. length xs ≤ n) (numbers_length 0 high)
+    subst (λ n. length xs ≤ n) (length-numbers 0 high)
     (no_longer xs (numbers 0 high) differ (λ x m. subst (λ ys. Member x ys) (mapped_same (numbers 0 high)) (place_member (λ n. n) 0 high x (omega arith) (let less = below x m in omega (arith, less)))))
 
 module _ {A : Type 0} (code : A → ℕ) (P : A → Type 0) (tells : (x y : A) → P x → P y → code x ≡ code y → x ≡ y) where
@@ -174,15 +171,10 @@ pair_low : (p : Pair) → IsSmall p → pair_code p < 2 ^ 34
 unfolding pair_code
 pair_low p is = omega (arith, is.port, is.tag)
 
--- a rising list has no repeats
-no_repeats : (ks : List Pair) → IsRising (before pair_cmp) ks → HasNoRepeats ks
-no_repeats [] rises = tt
-no_repeats (k ∷ ks) rises = (λ m. before_itself pair_cmp pairs_total k (rises.0 k m), no_repeats ks rises.1)
-
 module _ (s : State) (ports : PortsAreNumbered s.routing.ports) (size : s.size ≤ 65536) where
   pub small_pair : (pair : Pair) → Member pair (live_pairs s) → IsSmall pair
   small_pair pair m =
-      let same = ordered_same pair_cmp pairs_total (same_from_tie pair_cmp pair_cmp-IsAntisymmetric) in
+      let same = ordered_same pair_cmp pairs_total pair_tie in
       let listed = (filter-Member (is_live_pair s) (pairs s) pair ((same _).onto pair m)).stands in
       let at = union-Member (λ (q : PortInfo). map (λ t. let x : Pair = record { port = q.number; tag = t } in x) (tags s)) s.routing.ports pair listed in
       let tag = map-Member (λ t. let x : Pair = record { port = at.of.number; tag = t } in x) (tags s) pair at.gives in
@@ -192,7 +184,7 @@ module _ (s : State) (ports : PortsAreNumbered s.routing.ports) (size : s.size �
 
   few_pairs : length (live_pairs s) ≤ 2 ^ 34
   few_pairs =
-      few_coded pair_code IsSmall pair_tells (2 ^ 34) pair_low (live_pairs s) small_pair (no_repeats (live_pairs s) (ordered_rises pair_cmp pairs_total (same_from_tie pair_cmp pair_cmp-IsAntisymmetric) _))
+      few_coded pair_code IsSmall pair_tells (2 ^ 34) pair_low (live_pairs s) small_pair (rising_once (before pair_cmp) (before_itself pair_cmp pairs_total) (live_pairs s) (ordered_rises pair_cmp pairs_total pair_tie _))
 
   module _ (ps : Policies) (are : ArePolicies s ps) where
     few_cells : (pair : Pair) → cells ps s pair ≤ 2 ^ 144

@@ -34,10 +34,10 @@ use Rattle.net_types.specs.Cubes.{IsInRange}
 use Rattle.text_laws.specs.Naming.{IsOfNoPort}
 use Rattle.text_laws.specs.Widths.{IsAction, IsCube, IsNumber, IsPair}
 use Rattle.text_laws.proofs.Counts.{IsSmall, small_pair}
-use Rattle.text_laws.proofs.Fields.{each_append}
 use Rattle.text_laws.proofs.LegalRules.{sound_free}
 use Rattle.text_laws.proofs.Lines.{IsPlainFlow}
 use Rattle.text_laws.proofs.Ranges.{cells_in_range}
+use Rattle.net_types.proofs.MemberLemmas.{each_append, of_each}
 
 -- ---- rules
 
@@ -69,10 +69,6 @@ cube_fits c is = record { proto = in_8 c.proto is.proto; sport = in_16 c.sport i
 
 pair_fits : (pair : Pair) → IsSmall pair → IsPair pair
 pair_fits pair is = record { port = let low = is.port in omega (arith, low); tag = let low = is.tag in omega (arith, low) }
-
-all_of : {X : Type 0} (P : X → Type 0) (xs : List X) → ((x : X) → Member x xs → P x) → Each P xs
-all_of P [] has = tt
-all_of P (x ∷ xs) has = (has x (inl refl), all_of P xs (λ y m. has y (inr m)))
 
 both_fit : (rules : List Rule) → Each (λ (r : Rule). IsOfNoPort r.cube) rules → ((c : Cube) → Member c (cubes_of rules) → IsCube c) → Each RuleFits rules
 both_fit [] frees cubes = tt
@@ -119,7 +115,7 @@ module _ (s : State) (steady : IsSteady s) where
   dropped_fit : (new : State) (is_rebuilt : Pair → Bool) → Each IsPair (dropped s new is_rebuilt)
   dropped_fit new is_rebuilt =
       let test : Pair → Bool = λ (pair : Pair). is_none (get new.table pair) || is_rebuilt pair in
-      all_of IsPair (filter test (keys s.table))
+      of_each IsPair (filter test (keys s.table))
       (λ pair m. listed_fits pair (subst (λ ks. Member pair ks) (pairs_are_live s steady.sound steady.pooled) (filter-Member test (keys s.table) pair m).stands))
 
 -- ---- replies

@@ -58,10 +58,6 @@ module _ (test : ℕ → Bool) (digits : (c : ℕ) → 48 ≤ c → c ≤ 57 →
       by true = tt
       by false = (over_append test (name ++ codes "=") (prefix_text p) word (prefix_over p), tt)
 
-pub each_append : {X : Type 0} (P : X → Type 0) (xs ys : List X) → Each P xs → Each P ys → Each P (xs ++ ys)
-each_append P [] ys one two = two
-each_append P (x ∷ xs) ys one two = (one.0, each_append P xs ys one.1 two)
-
 -- the one text of a list
 only : (x y : List ℕ) → x ∷ [] ≡ y ∷ [] → x ≡ y
 only x y e = cc

@@ -4,13 +4,8 @@ use Rattle.std.proofs.lemmas.List.{append_cancel_left}
 use Rattle.std.proofs.lemmas.Bool.Decides.{nat_tests}
 use Rattle.events.specs.Text.{joined}
 use Rattle.net_types.specs.Sets.{Each}
-use Rattle.text_laws.proofs.Alike.{Over, spans, true_false}
-
-head_of : {X : Type 0} (c d : X) (cs ds : List X) → c ∷ cs ≡ d ∷ ds → c ≡ d
-head_of c d cs ds e = cc
-
-rest_of : {X : Type 0} (c d : X) (cs ds : List X) → c ∷ cs ≡ d ∷ ds → cs ≡ ds
-rest_of c d cs ds e = cc
+use Rattle.text_laws.proofs.Alike.{Over, head_of, rest_of, spans}
+use Rattle.exchange_laws.proofs.Lists.{clash}
 
 pub cons_is : {X : Type 0} (x y : X) (xs ys : List X) → x ≡ y → xs ≡ ys → x ∷ xs ≡ y ∷ ys
 cons_is x y xs ys e f = ap₂ (λ z zs. z ∷ zs) e f
@@ -23,7 +18,7 @@ module _ (test : ℕ → Bool) (c d : ℕ) (separator : List ℕ) (stops : test 
   same_head n = grind (arith, nat_tests)
 
   differ : c ≡ d → ⊥
-  differ e = true_false (nat_eq d d) (same_head d) (sym (ap (λ n. nat_eq n d) e) ∙ apart)
+  differ e = clash (same_head d) (sym (ap (λ n. nat_eq n d) e) ∙ apart)
 
   -- what stands between two texts and behind them, from the right
   moved : (x here s : List ℕ) → ((x ++ (c ∷ separator)) ++ here) ++ (d ∷ s) ≡ x ++ (c ∷ (separator ++ (here ++ (d ∷ s))))

@@ -1,5 +1,5 @@
 -- In a legal run no rule of a reply has a cube of a port: the tables that it passes have right rules of policies that passed.
-use Rattle.std.proofs.Common.{◌≡◌, ℕ, Bool, true, false, cond, T, ◌&&◌, List, [], ◌∷◌, ◌++◌, inl, inr, map, refl, sym, ap, subst, ◌∙◌}
+use Rattle.std.proofs.Common.{◌≡◌, ℕ, Bool, true, false, cond, T, List, [], ◌∷◌, ◌++◌, inl, inr, map, refl, sym, ap, subst, ◌∙◌}
 use Rattle.std.specs.Prelude.{Option, Some, None, MatchOption, filter, is_none, nat_lt, take, ◌||◌}
 use Rattle.std.specs.FinMap.{entries, entries_sorted, find, get, get-entries, is_sorted, keys}
 use Rattle.std.specs.FinMap.Entries.{below_all}
@@ -39,8 +39,9 @@ use Rattle.exchange_laws.proofs.ReadPolicies.{policies_are_one}
 use Rattle.run_laws.proofs.OneMore.{legal_more, state_more}
 use Rattle.run_laws.proofs.Passing.{policies_have_passed}
 use Rattle.text_laws.specs.Naming.{AddsNoPort, IsOfNoPort, LegalRulesAreOfNoPort}
-use Rattle.text_laws.proofs.Fields.{each_append}
 use Rattle.text_laws.proofs.Portless.{right_rules_are_of_no_port}
+use Rattle.net_types.proofs.TestLemmas.{both_hold}
+use Rattle.net_types.proofs.MemberLemmas.{each_append}
 
 -- ---- tables
 
@@ -59,17 +60,13 @@ sound_free s ps are passed sound pair rules there =
     let known = sound.right.2 pair rules there in
     right_rules_are_of_no_port s ps passed known.0 pair.port rules (subst (λ x. IsRight x known.0 pair.port rules) (policies_are_one sound.right.1 are) known.2)
 
-both : (a b : Bool) → T (a && b) → T a × T b
-both true b h = (tt, h)
-both false b h = absurd h
-
 -- an entry of a map is what the map has at its key
 entry_found : (es : List (Pair × List Rule)) → T (is_sorted pair_cmp es) → (e : Pair × List Rule) → Member e es → find pair_cmp e.0 es ≡ Some e.1
 entry_found [] sorted e m = elim m [ ]
 entry_found (d ∷ es) sorted e (inl same) =
     subst (λ x. cond (eq_by_cmp pair_cmp x.0 d.0) (Some d.1) (find pair_cmp x.0 es) ≡ Some x.1) (sym same) (ap (λ b. cond b (Some d.1) (find pair_cmp d.0 es)) (ties_itself pairs_total d.0))
 entry_found (d ∷ es) sorted e (inr m) =
-    let sorts = both (below_all pair_cmp d.0 es) (is_sorted pair_cmp es) sorted in
+    let sorts = both_hold (below_all pair_cmp d.0 es) (is_sorted pair_cmp es) sorted in
     let later = entry_found es sorts.1 e m in
     ap (λ b. cond b (Some d.1) (find pair_cmp e.0 es)) (later_apart pair_cmp pairs_total d.0 e.0 e.1 es sorts.0 later) ∙ later
 

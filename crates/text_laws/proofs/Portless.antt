@@ -1,5 +1,5 @@
 -- The cubes of right rules are of no port: inbound policies that passed test none, and a sender's own is freed.
-use Rattle.std.proofs.Common.{◌≡◌, ℕ, Bool, true, false, cond, nat_eq, List, [], ◌∷◌, ◌++◌, inl, inr, refl, sym, subst}
+use Rattle.std.proofs.Common.{◌≡◌, ℕ, Bool, true, false, cond, nat_eq, List, [], ◌∷◌, inl, inr, refl, sym, subst}
 use Rattle.std.specs.Prelude.{IfSome, Option, Some, None}
 use Rattle.net_types.specs.Answers.{policy_of}
 use Rattle.net_types.specs.Cells.{cell_atoms, freed, freed_from}
@@ -10,7 +10,6 @@ use Rattle.net_types.specs.declared.address.Pid.{Pid}
 use Rattle.net_types.specs.declared.address.PortNo.{PortNo}
 use Rattle.net_types.specs.declared.cube.Cube.{Cube}
 use Rattle.net_types.specs.declared.headers.Span.{Span}
-use Rattle.net_types.specs.declared.isolation.IsolateFault.{IsolateFault}
 use Rattle.net_types.specs.declared.route.Offer.{Offer}
 use Rattle.net_types.specs.declared.rule.Rule.{Rule}
 use Rattle.events.specs.Sound.{cubes_of}
@@ -18,13 +17,10 @@ use Rattle.events.specs.State.{owner_of}
 use Rattle.replay_text.proofs.Formed.{any_holds}
 use Rattle.text_laws.specs.Naming.{IsOfNoPort, RightRulesAreOfNoPort}
 use Rattle.text_laws.proofs.Atoms.{OfCube, OfPolicy, OfPred, OfTest, atoms_hold, meets_hold, union_holds}
-use Rattle.text_laws.proofs.Fields.{each_append}
+use Rattle.exchange_laws.proofs.OwnPorts.{empty_parts}
+use Rattle.net_types.proofs.MemberLemmas.{each_append}
 
 -- ---- policies that passed
-
-none_of : (a b : List IsolateFault) → a ++ b ≡ [] → (a ≡ []) × (b ≡ [])
-none_of [] b e = (refl, e)
-none_of (x ∷ a) b e = absurd (cc)
 
 -- no port is tested or met
 abbrev NoPort : PortNo → Type 0
@@ -46,8 +42,8 @@ tests_free : (p : Pred) → pred_faults in_test p ≡ [] → OfPred NoPort Any A
 tests_free Yes e = tt
 tests_free (Is test span) e = test_free test span e
 tests_free (Not p) e = tests_free p e
-tests_free (And p q) e = let none = none_of (pred_faults in_test p) (pred_faults in_test q) e in (tests_free p none.0, tests_free q none.1)
-tests_free (Or p q) e = let none = none_of (pred_faults in_test p) (pred_faults in_test q) e in (tests_free p none.0, tests_free q none.1)
+tests_free (And p q) e = let none = empty_parts (pred_faults in_test p) (pred_faults in_test q) e in (tests_free p none.0, tests_free q none.1)
+tests_free (Or p q) e = let none = empty_parts (pred_faults in_test p) (pred_faults in_test q) e in (tests_free p none.0, tests_free q none.1)
 
 matches_free : (owners : PortNo → Option Pid) (me : Pid) (p : Policy) → in_faults owners me p ≡ [] → OfPolicy NoPort Any Any Any p
 matches_free owners me Drop e = tt
@@ -56,8 +52,8 @@ matches_free owners me Block e = tt
 matches_free owners me (Fwd target span) e = tt
 matches_free owners me (Match p) e = tests_free p e
 matches_free owners me (Set set span) e = tt
-matches_free owners me (Both p q) e = let none = none_of (in_faults owners me p) (in_faults owners me q) e in (matches_free owners me p none.0, matches_free owners me q none.1)
-matches_free owners me (Then p q) e = let none = none_of (in_faults owners me p) (in_faults owners me q) e in (matches_free owners me p none.0, matches_free owners me q none.1)
+matches_free owners me (Both p q) e = let none = empty_parts (in_faults owners me p) (in_faults owners me q) e in (matches_free owners me p none.0, matches_free owners me q none.1)
+matches_free owners me (Then p q) e = let none = empty_parts (in_faults owners me p) (in_faults owners me q) e in (matches_free owners me p none.0, matches_free owners me q none.1)
 
 -- ---- cubes
 

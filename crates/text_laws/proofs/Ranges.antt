@@ -1,5 +1,5 @@
 -- The cubes of policies that are read have values in range, and so have those that are made of them.
-use Rattle.std.proofs.Common.{◌≡◌, ℕ, Bool, true, false, cond, nat_eq, List, [], ◌∷◌, inl, inr, refl, sym, subst, slice_get}
+use Rattle.std.proofs.Common.{◌≡◌, ℕ, Bool, true, false, cond, nat_eq, List, [], ◌∷◌, refl, slice_get}
 use Rattle.std.specs.Prelude.{Option, Some, None, unwrap_or}
 use Rattle.net_types.proofs.FindLemmas.{slice_get-Member}
 use Rattle.net_types.specs.Answers.{Policies, policy_of}
@@ -7,15 +7,15 @@ use Rattle.net_types.specs.Cells.{cell_atoms, freed, freed_from}
 use Rattle.net_types.specs.Cubes.{IsInRange}
 use Rattle.net_types.specs.Meets.{IsMeet}
 use Rattle.net_types.specs.Policies.{Policy, Drop, atoms}
-use Rattle.net_types.specs.Sets.{Each, Member, union_over}
+use Rattle.net_types.specs.Sets.{Each, union_over}
 use Rattle.net_types.specs.declared.address.PortNo.{PortNo}
 use Rattle.net_types.specs.declared.cube.Cube.{Cube}
 use Rattle.net_types.specs.declared.route.Offer.{Offer}
 use Rattle.net_types.specs.declared.route.Part.{Part}
 use Rattle.events.specs.State.{State, ArePolicies, AreRead}
 use Rattle.text_laws.proofs.Atoms.{OfCube, atoms_hold, meets_hold, union_holds}
-use Rattle.text_laws.proofs.Fields.{each_append}
 use Rattle.text_laws.proofs.Read.{OctetFits, PolicyFits, PortFits, WordFits, read_fits}
+use Rattle.net_types.proofs.MemberLemmas.{each_append, each_of}
 
 -- ---- policies
 
@@ -24,11 +24,6 @@ each_fits [] [] are = tt
 each_fits [] (p ∷ ps) are = absurd are
 each_fits (text ∷ texts) [] are = absurd are
 each_fits (text ∷ texts) (p ∷ ps) are = (read_fits text p are.0, each_fits texts ps are.1)
-
-pub each_of : {X : Type 0} (P : X → Type 0) (xs : List X) (x : X) → Each P xs → Member x xs → P x
-each_of P [] x each m = elim m [ ]
-each_of P (y ∷ ys) x each (inl e) = subst P (sym e) each.0
-each_of P (y ∷ ys) x each (inr m) = each_of P ys x each.1 m
 
 -- a policy that isn't there drops
 one_fits : (ps : List Policy) (k : ℕ) → Each PolicyFits ps → PolicyFits (unwrap_or (slice_get ps k) Drop)

@@ -11,9 +11,11 @@ use Rattle.net_types.specs.declared.cube.Cube.{Cube}
 use Rattle.net_types.specs.declared.prefix.Prefix.{Prefix}
 use Rattle.net_types.specs.declared.rule.Rule.{Rule}
 use Rattle.text_laws.specs.Widths.{IsAction, IsCube, IsRule}
-use Rattle.text_laws.proofs.Alike.{Alike, Begins, Nothing, Over, Stops, both, closed, decimals, gives, is_hex, next, number_starts, over_append, over_decimal, over_more, starts, true_false}
-use Rattle.text_laws.proofs.Fields.{address_field_over, address_told, closed_is, dark_digit, each_append, is_dark, is_plain, number_over, number_told, plain_digit, prefix_field_over, prefix_told}
+use Rattle.text_laws.proofs.Alike.{Alike, Begins, Nothing, Over, Stops, both, closed, decimals, gives, is_hex, next, number_starts, over_append, over_decimal, over_more, starts}
+use Rattle.text_laws.proofs.Fields.{address_field_over, address_told, closed_is, dark_digit, is_dark, is_plain, number_over, number_told, plain_digit, prefix_field_over, prefix_told}
 use Rattle.text_laws.proofs.Joined.{IsField, cons_is, field_told, first_rank, list_told, rank_over}
+use Rattle.net_types.proofs.MemberLemmas.{each_append}
+use Rattle.exchange_laws.proofs.Lists.{clash}
 
 -- ---- five fields
 
@@ -210,7 +212,7 @@ starts_so (d ∷ ds) s is = is
 not_none : (a : Action) (xs : List (List ℕ)) → codes "none" ∷ [] ≡ action_text a ∷ xs → ⊥
 not_none a xs e =
     let same : codes "none" ≡ action_text a = cc in
-    true_false (starts is_hex (action_text a)) (starts_so (decimal a.port.0) (in_brackets (set_fields a)) (number_starts a.port.0)) (sym (ap (starts is_hex) same))
+    clash (starts_so (decimal a.port.0) (in_brackets (set_fields a)) (number_starts a.port.0)) (sym (ap (starts is_hex) same))
 
 brackets_over : (test : ℕ → Bool) (fs : List (List ℕ)) → test 91 ≡ true → test 44 ≡ true → test 93 ≡ true → Each (Over test) fs → Over test (in_brackets fs)
 brackets_over test [] one two three over = refl

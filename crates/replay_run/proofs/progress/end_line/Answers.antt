@@ -1,4 +1,4 @@
-use Rattle.std.proofs.Common.{◌+◌, ◌||◌, ap, ◌∙◌}
+use Rattle.std.proofs.Common.{◌+◌, ◌||◌, ap}
 use Rattle.replay_run.proofs.SentLines.{runs_line, stops_line}
 use Rattle.replay_run.proofs.progress.end_line.Goals as goal
 

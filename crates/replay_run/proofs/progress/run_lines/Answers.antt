@@ -1,4 +1,4 @@
-use Rattle.std.proofs.Common.{◌≡◌, ◌++◌, ◌∷◌, [], sym, ap, ◌∙◌, append-nil, append_assoc, refl, arith, length, length-append, subst}
+use Rattle.std.proofs.Common.{◌++◌, ◌∷◌, [], sym, ap, ◌∙◌, append-nil, append_assoc, refl, arith, length, length-append, subst}
 use Rattle.replay_run.specs.Progress.{RunsOn}
 use Rattle.replay_run.specs.declared.progress.Progress.{Progress}
 use Rattle.replay_run.proofs.SentLines.{runs_none, runs_part, runs_then, stops_here, stops_then}

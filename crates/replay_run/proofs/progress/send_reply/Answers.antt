@@ -1,5 +1,4 @@
-use Rattle.std.proofs.Common.{◌≡◌, [], List, ℕ, ◌++◌, sym, ap, ◌∙◌, append_assoc, arith}
-use Rattle.replay_run.specs.Sending.{IsSent}
+use Rattle.std.proofs.Common.{[], ◌++◌, sym, ap, ◌∙◌, append_assoc, arith}
 use Rattle.replay_run.proofs.Sendings.{none_sent, sent_along, sent_before, sent_then}
 use Rattle.replay_run.proofs.progress.send_reply.Goals as goal
 
@@ -32,7 +31,7 @@ returns-in-Err-send_piece-clause-err g c =
     let left = c.piece.new.self in
     let lost = c.in-Err-send_piece.ensures.err in
     let both = sent_then _ _ _ c.args.text.now.items i.0 c.loop-piece.text.items p c.send_piece.new.text.items lost.0 i.2
-        (sent_along _ _ c.loop-piece.text.items c.items.result.now p c.send_piece.new.text.items lost.0 c.items.ensures lost.1) in (
+    (sent_along _ _ c.loop-piece.text.items c.items.result.now p c.send_piece.new.text.items lost.0 c.items.ensures lost.1) in (
       lost.0 ++ left,
       sent_along _ _ c.args.text.now.items ((i.0 ++ p) ++ left) _ c.send_piece.new.text.items (lost.0 ++ left) (append_assoc i.0 p left ∙ ap (λ x. i.0 ++ x) (sym cut.0) ∙ sym i.1)
           (sent_before _ _ c.args.text.now.items (i.0 ++ p) c.send_piece.new.text.items lost.0 left both),
