@@ -1,5 +1,5 @@
-//! Reads rows, each a name, a tab, how many tags there are, for how many rules there is room, a participant and its UPDATE,
-//! and prints what is planned where nobody announced anything before.
+//! Reads rows, each a name, a tab, how many tags there are, for how many rules there is room, and participants with their
+//! UPDATEs, with bars between them, and prints what is planned and committed, from where nobody announced anything on.
 //!
 //! A has the port 1, B the ports 2 and 3, and C the port 4, and all policies drop. Octets are hexadecimal digits, with
 //! spaces between them where they please; `M` stands for the sixteen octets of a marker. Pairs are written as `PORT:TAG`.
@@ -36,7 +36,7 @@ fn begun(alloc: Global, size: u32, capacity: u32) -> std::result::Result<Parts, 
 /// What the plan of a participant's UPDATE says; the participant's letter and the octets stand in the text.
 fn planned<L: Ledger>(
     alloc: Global,
-    parts: &Parts,
+    parts: &mut Parts,
     text: &str,
     steps: &mut Steps<L>,
 ) -> std::result::Result<String, Wrong> {
@@ -46,7 +46,37 @@ fn planned<L: Ledger>(
     parts.update(alloc, from, message.as_slice(), steps)
 }
 
-/// What is planned where nobody announced anything before.
+/// Puts what is planned and committed of a participant's UPDATE behind a text, and a bar before it where it isn't the first.
+fn say<L: Ledger>(
+    alloc: Global,
+    parts: &mut Parts,
+    update: &str,
+    text: &mut String,
+    steps: &mut Steps<L>,
+) -> std::result::Result<(), Wrong> {
+    let said = planned(alloc, parts, update, steps)?;
+    if !text.is_empty() {
+        text.push_str(" | ")?;
+    }
+    text.push_str(said.as_str())?;
+    Ok(())
+}
+
+/// What is planned and committed of UPDATEs one after the other; they stand in the text with bars between them.
+fn all<L: Ledger>(
+    alloc: Global,
+    parts: &mut Parts,
+    updates: &str,
+    steps: &mut Steps<L>,
+) -> std::result::Result<String, Wrong> {
+    let mut text = String::new(alloc);
+    for update in updates.split('|') {
+        say(alloc, parts, update, &mut text, steps)?;
+    }
+    Ok(text)
+}
+
+/// What is planned and committed from where nobody announced anything on.
 fn answer<L: Ledger>(
     alloc: Global,
     question: &str,
@@ -54,8 +84,8 @@ fn answer<L: Ledger>(
 ) -> std::result::Result<String, Wrong> {
     let (size, rest) = first_number(question)?;
     let (capacity, rest) = first_number(rest)?;
-    let parts = begun(alloc, size, capacity)?;
-    planned(alloc, &parts, rest, steps)
+    let mut parts = begun(alloc, size, capacity)?;
+    all(alloc, &mut parts, rest, steps)
 }
 
 fn print_row<L: Ledger>(rt: &HostRuntime, row: &str, steps: &mut Steps<L>) -> Result<()> {

@@ -1,6 +1,7 @@
 //! The parts of an exchange whose policies all drop, and the plans that are made of them.
 
-ghost use Rattle.std.specs.Prelude.{◌≡◌, ◌≤◌, ◌<◌, [], IfOk, map};
+ghost use Rattle.std.specs.Prelude.{◌≡◌, ◌≤◌, ◌<◌, [], List, IfOk, map};
+ghost use Rattle.net_types.specs.declared.rule.Pair.{Pair as AnyPair};
 ghost use Rattle.classifier.specs.Classifiers.{lines_of};
 ghost use Rattle.plan_cases.specs.Parts.{AreAsked, AreDropping, ArePlanned};
 
@@ -11,7 +12,7 @@ use advert_queue::Adverts;
 use bgp_update::{UpdateFault, decode};
 use block_build::Views;
 use classifier::{Classifier, Results, single};
-use fast_path::{FastFault, Plan, plan};
+use fast_path::{FastFault, Plan, commit, plan, plans_are_committed, reserve};
 use match_switch::Switch;
 use net_types::{Ip, Memory, Pair, Pid, Steps};
 use next_hop_pool::Pool;
@@ -124,9 +125,34 @@ impl Parts {
         )
     }
 
+    /// Commits a plan. All memory is taken before anything changes.
+    pub fn carry(&mut self, alloc: Global, proposal: Proposal, plan: Plan) -> Result<(), Memory>
+        requires { (rebuild : List AnyPair) × ArePlanned self.old proposal rebuild plan }
+    {
+        plans_are_committed();
+        self.server.reserve(&proposal)?;
+        reserve(
+            alloc,
+            &self.registry,
+            &plan,
+            &mut self.classes,
+            &mut self.adverts,
+        )?;
+        self.switch.reserve(plan.pair_count())?;
+        self.server.commit(proposal);
+        let _changes = commit(
+            plan,
+            &mut self.classes,
+            &mut self.pool,
+            &mut self.switch,
+            &mut self.adverts,
+        );
+        Ok(())
+    }
+
     /// What the plan of a participant's UPDATE says, or why there is none.
     pub fn update<L: Ledger>(
-        &self,
+        &mut self,
         alloc: Global,
         who: Pid,
         octets: &[u8],
@@ -141,23 +167,27 @@ impl Parts {
             return Err(Wrong::Row);
         }
         match self.server.propose_update(&self.registry, who, &update) {
-            Ok(proposal) => self.told(alloc, &proposal, steps),
+            Ok(proposal) => self.told(alloc, proposal, steps),
             Err(RouteFault::Memory) => Err(Wrong::Memory),
             Err(_) => Ok(String::from_str(alloc, "refused")?),
         }
     }
 
-    /// What the plan of a proposal says, or why there is none.
+    /// What the plan of a proposal says, which is committed then, or why there is none.
     fn told<L: Ledger>(
-        &self,
+        &mut self,
         alloc: Global,
-        proposal: &Proposal,
+        proposal: Proposal,
         steps: &mut Steps<L>,
     ) -> Result<String, Wrong>
-        requires { AreAsked self.now proposal.now [] }
+        requires { AreAsked self.old proposal [] }
     {
-        match self.planned(alloc, proposal, &[], steps) {
-            Ok(plan) => Ok(told(alloc, &plan)?),
+        match self.planned(alloc, &proposal, &[], steps) {
+            Ok(plan) => {
+                let text = told(alloc, &plan)?;
+                self.carry(alloc, proposal, plan)?;
+                Ok(text)
+            }
             Err(FastFault::NoNextHop { need, free }) => {
                 Ok(format!(in alloc; "no-next-hop {need} {free}")?)
             }
