@@ -1,5 +1,5 @@
 -- What the parts show asks for a plan, and once that is committed they show again such a state.
-use Rattle.std.proofs.Common.{◌≡◌, ℕ, ◌<◌, ◌≤◌, Bool, true, false, ◌+◌, cond, List, [], ◌∷◌, filter, length, map, sym, ap, subst, ◌∙◌, refl, ⊎_elim}
+use Rattle.std.proofs.Common.{◌≡◌, ◌<◌, Bool, true, false, ◌+◌, cond, List, [], ◌∷◌, filter, length, map, sym, ap, subst, ◌∙◌, refl}
 use Rattle.std.specs.Prelude.{Option, Some, None, Result, Ok, Err, IfOk, IfSome, MatchResult, is_some}
 use Rattle.std.specs.FinMap.{FinMap, contains_key-keys, get, keys}
 use Rattle.std.specs.Option.{option_map}
@@ -10,8 +10,8 @@ use Rattle.advert_queue.specs.Advertised.{Advertised}
 use Rattle.block_build.specs.Installed.{Installed}
 use Rattle.block_build.specs.Lent.{AreOf, Lent}
 use Rattle.events.specs.Fits.{none_rebuilt}
-use Rattle.events.specs.Sound.{IsSound, HopsAreOwn}
-use Rattle.events.specs.State.{State, ArePolicies}
+use Rattle.events.specs.Sound.{IsSound}
+use Rattle.events.specs.State.{State}
 use Rattle.events.specs.Tags.{capped, is_live_pair, more_units}
 use Rattle.events.specs.declared.Entry.{Entry}
 use Rattle.events.specs.declared.Phase.TheVariants.{Running, Start}
@@ -23,7 +23,6 @@ use Rattle.exchange_laws.specs.Editing.{IsBase}
 use Rattle.exchange_laws.specs.Listed.{AreThose}
 use Rattle.exchange_laws.specs.Rules.{IsDeclaredAlike}
 use Rattle.exchange_laws.specs.Steady.{PortsAreNumbered, PortsDiffer}
-use Rattle.exchange_laws.specs.Whole.{RoutesAreDeclared}
 use Rattle.fast_path.proofs.CommittedReplies.{change, is_table}
 use Rattle.fast_path.specs.Carried.{ArePartsOf, IsPlanned, LeadsTo}
 use Rattle.fast_path.specs.Committing.{marked_all, signed, tags_of}
@@ -37,15 +36,12 @@ use Rattle.net_types.proofs.OrderLemmas.{pairs_total}
 use Rattle.net_types.proofs.OrderedLemmas.{member_any}
 use Rattle.net_types.proofs.RisingLemmas.{Member-filter, before, filter-IsRising, filter-Member, keys-IsRising}
 use Rattle.net_types.proofs.TieLemmas.{pair_cmp-IsAntisymmetric, same_from_tie}
-use Rattle.net_types.specs.Answers.{Policies}
 use Rattle.net_types.specs.Exports.{Routing, route}
 use Rattle.net_types.specs.Keys.{RouteKey, pair_cmp, prefix_cmp}
 use Rattle.net_types.specs.Sets.{Member}
 use Rattle.net_types.specs.declared.address.Pid.{Pid}
 use Rattle.net_types.specs.declared.prefix.Prefix.{Prefix}
 use Rattle.net_types.specs.declared.route.Attrs.{Attrs}
-use Rattle.net_types.specs.declared.route.Participant.{Participant}
-use Rattle.net_types.specs.declared.route.PortInfo.{PortInfo}
 use Rattle.net_types.specs.declared.rule.Pair.{Pair}
 use Rattle.next_hop_pool.specs.Free.{Tags}
 use Rattle.prefix_classes.specs.Classes.{Classes}
