@@ -1,0 +1,116 @@
+//! Reads rows, each a name, a tab, how many tags there are, for how many rules there is room, and participants with their
+//! UPDATEs, with bars between them, and prints what is planned and committed, from where nobody announced anything on.
+//!
+//! A has the port 1, B the ports 2 and 3, and C the port 4, and all policies drop. Octets are hexadecimal digits, with
+//! spaces between them where they please; `M` stands for the sixteen octets of a marker. Pairs are written as `PORT:TAG`.
+#![tactic(auto)]
+
+ghost use Rattle.std.specs.Prelude.{◌≡◌};
+
+mod declared;
+mod parts;
+mod told;
+mod words;
+mod wrong;
+
+use anyhow::Result;
+use net_types::Steps;
+use parts::Parts;
+use std::alloc::Global;
+use std::marker::Brand;
+use std::sync::ledger::{Blank, Ledger};
+use words::{first_number, first_word, octets, who};
+use wrong::Wrong;
+
+/// Three participants, none of which announced anything, so many tags, and room for so many rules.
+fn begun(alloc: Global, size: u32, capacity: u32) -> std::result::Result<Parts, Wrong> {
+    if size == 0 || size > 65536 {
+        return Err(Wrong::Row);
+    }
+    if capacity > 1000000 {
+        return Err(Wrong::Row);
+    }
+    Parts::new(alloc, size, capacity as usize)
+}
+
+/// What the plan of a participant's UPDATE says; the participant's letter and the octets stand in the text.
+fn planned<L: Ledger>(
+    alloc: Global,
+    parts: &mut Parts,
+    text: &str,
+    steps: &mut Steps<L>,
+) -> std::result::Result<String, Wrong> {
+    let (letter, digits) = first_word(text);
+    let from = who(letter)?;
+    let message = octets(alloc, digits)?;
+    parts.update(alloc, from, message.as_slice(), steps)
+}
+
+/// Puts what is planned and committed of a participant's UPDATE behind a text, and a bar before it where it isn't the first.
+fn say<L: Ledger>(
+    alloc: Global,
+    parts: &mut Parts,
+    update: &str,
+    text: &mut String,
+    steps: &mut Steps<L>,
+) -> std::result::Result<(), Wrong> {
+    let said = planned(alloc, parts, update, steps)?;
+    if !text.is_empty() {
+        text.push_str(" | ")?;
+    }
+    text.push_str(said.as_str())?;
+    Ok(())
+}
+
+/// What is planned and committed of UPDATEs one after the other; they stand in the text with bars between them.
+fn all<L: Ledger>(
+    alloc: Global,
+    parts: &mut Parts,
+    updates: &str,
+    steps: &mut Steps<L>,
+) -> std::result::Result<String, Wrong> {
+    let mut text = String::new(alloc);
+    for update in updates.split('|') {
+        say(alloc, parts, update, &mut text, steps)?;
+    }
+    Ok(text)
+}
+
+/// What is planned and committed from where nobody announced anything on.
+fn answer<L: Ledger>(
+    alloc: Global,
+    question: &str,
+    steps: &mut Steps<L>,
+) -> std::result::Result<String, Wrong> {
+    let (size, rest) = first_number(question)?;
+    let (capacity, rest) = first_number(rest)?;
+    let mut parts = begun(alloc, size, capacity)?;
+    all(alloc, &mut parts, rest, steps)
+}
+
+fn print_row<L: Ledger>(rt: &HostRuntime, row: &str, steps: &mut Steps<L>) -> Result<()> {
+    let (name, question) = row.split_once('\t').unwrap_or(("", row));
+    match answer(rt.alloc(), question, steps) {
+        Ok(text) => println!(rt; "{name}: {text}")?,
+        Err(Wrong::Row) => println!(rt; "{name}: no question")?,
+        Err(Wrong::Memory) => println!(rt; "{name}: no memory")?,
+    }
+    Ok(())
+}
+
+fn start<L: Ledger>(rt: &HostRuntime, blank: Blank) -> Result<()>
+    requires name { blank.name ≡ L.name }
+    requires parts { blank.parts ≡ L.parts }
+    requires whole { blank.parts ≡ 1 }
+{
+    let mut steps: Steps<L> = Steps::new(rt, blank);
+    for row in rt.lines(rt.alloc()) {
+        let row = row?;
+        print_row(rt, row.as_str(), &mut steps)?;
+    }
+    Ok(())
+}
+
+fn main(rt: HostRuntime) -> Result<()> {
+    start::<Brand>(&rt, Blank::new(1))
+}
