@@ -5,7 +5,7 @@ ghost use Rattle.net_types.specs.Headers.{no_change};
 ghost use Rattle.net_types.specs.declared.headers.Loc.TheVariants.{Out};
 ghost use Rattle.block_build.specs.Receivers.{add_exit, add_exits, exit_of, received_items};
 
-use classifier::{Lines, Results};
+use classifier::{Gathering, Lines, Results};
 use net_types::{Assign, Loc, Memory, Pid, PortNo};
 use std::alloc::Global;
 
@@ -29,7 +29,7 @@ fn exit_of(hop: PortNo, loc: Loc) -> Option<PortNo>
 }
 
 /// Puts a result last that leaves by a port, where there is one.
-fn push_exit(results: &mut Results, set: Assign, exit: Option<PortNo>) -> Result<(), Memory>
+fn push_exit(results: &mut Gathering, set: Assign, exit: Option<PortNo>) -> Result<(), Memory>
     ensures { OnOk result (results.new ≡ add_exit results.old set exit) }
 {
     if let Some(port) = exit {
@@ -42,11 +42,11 @@ fn push_exit(results: &mut Results, set: Assign, exit: Option<PortNo>) -> Result
 fn exits_of(alloc: Global, hop: PortNo, results: &Results) -> Result<Results, Memory>
     ensures { IfOk result (λ r. r ≡ add_exits hop [] results.now) }
 {
-    let mut exits = Results::with_room(alloc, results.items().len())?;
+    let mut exits = Gathering::with_room(alloc, results.len())?;
     for pair in results.items() {
         push_exit(&mut exits, pair.0, exit_of(hop, pair.1))?;
     }
-    Ok(exits)
+    Ok(exits.into_results())
 }
 
 /// The packet as it is, by the port of the NEXT_HOP.

@@ -5,6 +5,7 @@ ghost use Rattle.net_types.specs.declared.headers.Assign.{Assign as AnyAssign};
 ghost use Rattle.net_types.specs.declared.headers.Loc.{Loc as AnyLoc};
 ghost use Rattle.classifier.specs.Lines.{after_all, joined};
 
+use crate::gathering::Gathering;
 use crate::join::Join;
 use crate::results::{Results, is_equal};
 use crate::unions::Unions;
@@ -50,11 +51,11 @@ fn found<'u>(kept: &'u [After], first: (Assign, Loc), next: &Results) -> Option<
 fn after_of(alloc: Global, first: (Assign, Loc), next: &Results) -> Result<Results, Memory>
     ensures { IfOk result (λ after. after ≡ after_all first next.now) }
 {
-    let mut after = Results::with_room(alloc, next.len())?;
+    let mut after = Gathering::with_room(alloc, next.len())?;
     for pair in next.items() {
         after.push((first.0.followed_by(&pair.0), pair.1.after(first.1)))?;
     }
-    Ok(after)
+    Ok(after.into_results())
 }
 
 /// Keeps results behind one. Where there are many, the earlier ones go.

@@ -5,6 +5,7 @@ mod afters;
 mod classifier;
 mod composition;
 mod filters;
+mod gathering;
 mod hull;
 mod join;
 mod line;
@@ -19,6 +20,7 @@ mod tight;
 mod unions;
 
 pub use classifier::Classifier;
+pub use gathering::{Gathering, push_all};
 pub use join::Join;
 pub use line::{Line, Lines};
 pub use ops::{choose, negate, parallel, sequence, single, test, tighten};

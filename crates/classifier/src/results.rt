@@ -1,6 +1,6 @@
 //! What a rule gives: assignments, each with a location.
 
-ghost use Rattle.std.specs.Prelude.{◌≡◌, ◌↔◌, IsTrue, IfOk, OnOk, OnErr, [], length};
+ghost use Rattle.std.specs.Prelude.{◌≡◌, ◌↔◌, IsTrue, IfOk, OnOk, OnErr, ◌++◌, ◌∷◌, [], length, false};
 ghost use Rattle.std.specs.Cmp.Lexicographic.{pointwise};
 ghost use Rattle.classifier.specs.Items.{add, add_all, is_among, same_item};
 ghost use Rattle.net_types.specs.Sets.{HasNoRepeats};
@@ -84,6 +84,15 @@ impl Results {
         if !has_pair(self.pairs.items(), &pair) {
             self.pairs.push(pair)?;
         }
+        Ok(())
+    }
+
+    /// Puts a pair last that isn't there.
+    pub(crate) fn put_last(&mut self, pair: (Assign, Loc)) -> Result<(), Memory>
+        requires { is_among self.old pair ≡ false }
+        ensures { OnOk result (self.new ≡ self.old ++ pair ∷ []) }
+    {
+        self.pairs.push(pair)?;
         Ok(())
     }
 

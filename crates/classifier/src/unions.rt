@@ -3,6 +3,7 @@
 ghost use Rattle.std.specs.Prelude.{◌≡◌, IfOk, IfSome, OnOk};
 ghost use Rattle.classifier.specs.Items.{add_all};
 
+use crate::gathering::push_all;
 use crate::results::Results;
 use net_types::{Memory, TryCopy};
 use std::alloc::Global;
@@ -41,7 +42,7 @@ fn found<'u>(kept: &'u [Union], first: &Results, second: &Results) -> Option<&'u
 }
 
 /// The results of both, in a list of their own where the second has others than the first.
-fn union_of(first: &Results, second: &Results) -> Result<Results, Memory>
+fn union_of(alloc: Global, first: &Results, second: &Results) -> Result<Results, Memory>
     ensures { IfOk result (λ both. both ≡ add_all first.now second.now) }
 {
     second.known();
@@ -49,7 +50,7 @@ fn union_of(first: &Results, second: &Results) -> Result<Results, Memory>
         return second.copy();
     }
     let mut both = first.copy()?;
-    both.push_all(second)?;
+    push_all(alloc, &mut both, second)?;
     Ok(both)
 }
 
@@ -92,7 +93,7 @@ impl Unions {
             return first.copy();
         }
         if first.len().saturating_add(second.len()) <= FEW {
-            return union_of(first, second);
+            return union_of(*self.kept.allocator(), first, second);
         }
         self.long_union(first, second)
     }
@@ -104,7 +105,7 @@ impl Unions {
         if let Some(both) = found(&self.kept, first, second) {
             return both.copy();
         }
-        let both = union_of(first, second)?.shared()?;
+        let both = union_of(*self.kept.allocator(), first, second)?.shared()?;
         keep(&mut self.kept, first, second, &both)?;
         Ok(both)
     }

@@ -13,7 +13,7 @@ ghost use Rattle.policy_compile.specs.Paths.{AreAt, IsVisit, begun};
 use crate::atoms::atoms_of;
 use crate::cells::cells_of;
 use crate::paths::push_paths;
-use classifier::{Classifier, Line, Results, push_lines};
+use classifier::{Classifier, Gathering, Line, Results, push_lines};
 use net_types::{Assign, Cube, Items, Loc, Memory, TryCopy};
 use policy_isolate::Names;
 use policy_syntax::Tree;
@@ -32,16 +32,16 @@ fn made_at<N: Names>(
 ) -> Result<Results, Memory>
     ensures { IfOk result (λ r. IsVisit (N.pid_of names.now) (policy_of tree.now) cube.now begun [] r) }
 {
-    let mut results = Results::new(alloc);
+    let mut found = Gathering::new(alloc);
     push_paths(
         alloc,
-        &mut results,
+        &mut found,
         tree,
         names,
         cube,
         (Assign::none(), Loc::Stay),
     )?;
-    Ok(results)
+    Ok(found.into_results())
 }
 
 /// The results; where they are many, those of the rule before where these are equal, so that both share them.

@@ -7,7 +7,7 @@ ghost use Rattle.net_types.specs.Policies.{Fwd};
 ghost use Rattle.policy_compile.specs.Paths.{taken_into, pred_at, part_at, IsVisit, AreVisits};
 
 use crate::preds::{cube_of_test, plain_cube};
-use classifier::Results;
+use classifier::Gathering;
 use net_types::{Assign, Cube, Loc, Memory};
 use policy_isolate::Names;
 use policy_syntax::{Node, Pred, Target, Tree};
@@ -53,7 +53,7 @@ fn holds(cube: &Cube, set: &Assign, pred: &Pred<'_>) -> bool
 
 /// Puts the result of a forward behind a path last; none where a name is nobody's.
 fn push_target<N: Names>(
-    found: &mut Results,
+    found: &mut Gathering,
     target: Target<'_>,
     names: &N,
     cube: &Cube,
@@ -80,7 +80,7 @@ fn push_target<N: Names>(
 #[cycle(paths)]
 pub fn push_paths<N: Names>(
     alloc: Global,
-    found: &mut Results,
+    found: &mut Gathering,
     tree: &Tree<'_>,
     names: &N,
     cube: &Cube,
@@ -118,7 +118,7 @@ pub fn push_paths<N: Names>(
             Ok(())
         }
         Node::Then(first, second) => {
-            let mut between = Results::new(alloc);
+            let mut between = Gathering::new(alloc);
             push_paths(alloc, &mut between, first, names, cube, path)?;
             push_each(alloc, found, second, names, cube, between.items())?;
             Ok(())
@@ -130,7 +130,7 @@ pub fn push_paths<N: Names>(
 #[cycle(paths)]
 fn push_each<N: Names>(
     alloc: Global,
-    found: &mut Results,
+    found: &mut Gathering,
     tree: &Tree<'_>,
     names: &N,
     cube: &Cube,
