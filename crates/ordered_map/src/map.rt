@@ -15,6 +15,10 @@ use crate::values::{Change, change_all, change_at, update_at};
 use std::alloc::{AllocError, Global};
 use std::marker::Model;
 
+/// The most boxes that are made beside those that were asked for. Boxes that are made at once lie side by side, so that
+/// a walk down the tree meets fewer pages of memory.
+const MORE_BOXES: usize = 63;
+
 /// A map from keys to values, and room for a number of new keys.
 #[derive(Drop)]
 pub struct OrderedMap<K: Ord, V> {
@@ -131,7 +135,7 @@ impl<K: Ord, V: Copy> OrderedMap<K, V> {
 }
 
 impl<K: Ord + Drop, V: Drop> OrderedMap<K, V> {
-    /// Makes room for so many new keys. It takes memory only where there is less.
+    /// Makes room for so many new keys. It takes memory only where there is less, and may then make more room than that.
     pub fn reserve(&mut self, keys: usize) -> Result<(), AllocError>
         ensures items { self.new.items ≡ self.old.items }
         ensures rising { IsTrue (is_sorted K.cmp self.new.items) }
@@ -139,10 +143,15 @@ impl<K: Ord + Drop, V: Drop> OrderedMap<K, V> {
         ensures kept { self.old.room ≤ self.new.room }
         ensures enough { keys ≤ self.old.room → IsOk result }
     {
-        if keys > usize::MAX - self.count {
+        let most = usize::MAX - self.count;
+        if keys > most {
             return Err(AllocError);
         }
-        fill(self.alloc, &mut self.spare, keys)
+        if keys <= self.spare.len() {
+            return Ok(());
+        }
+        let more = (self.count / 8).min(MORE_BOXES).min(most - keys);
+        fill(self.alloc, &mut self.spare, keys + more)
     }
 
     /// Gives a key a value, and answers the one before. It takes memory only for a new key without room, and after

@@ -14,12 +14,16 @@ use net_types::{Ip, Memory, Prefix};
 use std::alloc::Global;
 use std::marker::Model;
 
+/// The most boxes that are made beside those that are needed. Boxes that are made at once lie side by side, so that a
+/// walk down the trie meets fewer pages of memory.
+const MORE_BOXES: usize = 126;
+
 /// A map from prefixes to values, and room for a number of new prefixes.
 #[derive(Drop)]
 pub struct PrefixMap<V> {
     alloc: Global,
     trie: Trie<V>,
-    // two for each new prefix that there is room for
+    // two or more for each new prefix that there is room for
     spare: Vec<Box<Node<V>>>,
     room: usize,
     count: usize,
@@ -87,7 +91,7 @@ impl<V> PrefixMap<V> {
 }
 
 impl<V: Drop> PrefixMap<V> {
-    /// Makes room for so many new prefixes. It takes memory only where there is less.
+    /// Makes room for so many new prefixes. It takes memory only where there is less, and may then take more than that needs.
     pub fn reserve(&mut self, entries: usize) -> Result<(), Memory>
         ensures map { self.new.map ≡ self.old.map }
         ensures room { OnOk result (entries ≤ self.new.room) }
@@ -100,7 +104,11 @@ impl<V: Drop> PrefixMap<V> {
         if entries > usize::MAX / 2 || entries > usize::MAX - self.count {
             return Err(Memory);
         }
-        fill(self.alloc, &mut self.spare, 2 * entries)?;
+        let boxes = 2 * entries;
+        if self.spare.len() < boxes {
+            let more = (self.count / 4).min(MORE_BOXES);
+            fill(self.alloc, &mut self.spare, boxes.saturating_add(more))?;
+        }
         self.room = entries;
         Ok(())
     }

@@ -1,6 +1,6 @@
 -- The rows that an update's changes have are those of the routes after it.
 use Rattle.std.proofs.Common.{◌≡◌, ℕ, ◌+◌, ◌<◌, ◌≤◌, Bool, true, false, cond, eqb, List, [], ◌∷◌, ◌++◌, take, length, get_or, sum_by, sym, ap, subst, ◌∙◌, refl, arith, append_assoc, inl, inr, true≢false}
-use Rattle.std.specs.Prelude.{Option, Some, None, IfSome, IfOk, Result, Ok, Err, ◌⊎◌}
+use Rattle.std.specs.Prelude.{Option, Some, None, IfSome, IfOk, Result, Ok, Err, unwrap_or, ◌⊎◌}
 use Rattle.std.specs.Option.{option_and_then}
 use Rattle.std.specs.FinMap.{FinMap, get, insert, remove, get-insert, get-remove}
 use Rattle.std.specs.List.Sorted.{IsPermutation, IsSortedBy}
@@ -10,12 +10,14 @@ use Rattle.std.proofs.lemmas.List.{take_more}
 use Rattle.std.proofs.lemmas.List.Sums.{sum_by-cons}
 use Rattle.std.proofs.lemmas.List.Sorted.{sum_by-IsPermutation, IsPermutation-sym}
 use Rattle.std.proofs.lemmas.Option.{slice_get-get_or}
+use Rattle.net_types.proofs.EqualLemmas.{optional_test}
 use Rattle.net_types.proofs.FindLemmas.{slice_get-Member}
 use Rattle.net_types.proofs.MemberLemmas.{Member-permutation}
 use Rattle.net_types.proofs.OrderLemmas.{routes_total, prefixes_total, prefix_tie}
 use Rattle.net_types.proofs.RisingLemmas.{before_itself, sorted-IsRising}
 use Rattle.net_types.proofs.SetLemmas.{Member-append_left, Member-append_right, Member-append_cases, Member-map, map-Member, map-append}
 use Rattle.net_types.proofs.TieLemmas.{route_tie, ties_itself}
+use Rattle.net_types.specs.Attributes.{same_attrs}
 use Rattle.net_types.specs.Changes.{withdrawn, announced_by, announced_with, updated}
 use Rattle.net_types.specs.Keys.{RouteKey, prefix_cmp, route_cmp}
 use Rattle.net_types.specs.Sets.{Member, IsRising}
@@ -35,6 +37,10 @@ use Rattle.route_server.specs.Served.{Served, AreDeclared, AreOwned, owns, routi
 use Rattle.route_server.specs.declared.change.Change.{Change}
 use Rattle.route_server.specs.declared.fault.RouteFault.{RouteFault}
 use Rattle.route_server.specs.declared.fault.RouteFault.TheVariants.{FirstAs, NextHop}
+
+-- attributes that say the same in each field are equal
+pub same_attributes : (a b : Attrs) → same_attrs a b ≡ true → a ≡ b
+same_attributes a b e = ap (λ o. unwrap_or o a) ((optional_test (Some a) (Some b)).0 e)
 
 -- ---- one change more
 

@@ -176,6 +176,12 @@ impl Announced {
         }
     }
 
+    /// The prefix that was listed last of a participant. No promise rests on it.
+    pub fn last(&self, from: Pid) -> Option<Prefix> {
+        let list = self.lists.get(from.0 as usize)?;
+        list.prefixes.last().copied()
+    }
+
     /// What is listed of a participant, where no route is missing.
     pub fn listed(&self, from: Pid) -> Option<&[Prefix]>
         ensures { IfSome result (λ prefixes. (p : AnyPrefix) → Lists self.now from.0 p → Member p prefixes.now) }

@@ -1,6 +1,6 @@
 //! A row after an update.
 
-ghost use Rattle.std.specs.Prelude.{◌≡◌, ℕ, None, Some, ◌<◌, ◌++◌, ◌∷◌, IfOk};
+ghost use Rattle.std.specs.Prelude.{◌≡◌, ℕ, None, Some, ◌<◌, ◌≤◌, ◌++◌, ◌∷◌, length, IfOk};
 ghost use Rattle.route_server.specs.Rows.{look, look_after, Rising, without, before, after};
 
 use crate::held::Held;
@@ -19,11 +19,19 @@ impl TryCopy for Held {
     }
 }
 
+/// How many routes of a row are of other participants.
+fn others(row: &[Held], from: Pid) -> usize
+    ensures count { result ≡ length (without from.0 row.now) }
+    ensures within { result ≤ length row.now }
+{
+    row.iter().filter(|held| held.from.0 != from.0).count()
+}
+
 /// The row without the participant's route.
 fn copy_without(alloc: Global, row: &[Held], from: Pid) -> Result<Items<Held>, Memory>
     ensures { IfOk result (λ next. next ≡ without from.0 row.now) }
 {
-    let mut next = Items::new(alloc);
+    let mut next = Items::from_vec(Vec::with_capacity(alloc, others(row, from))?);
     for held in row {
         if held.from.0 != from.0 {
             next.push(held.copy()?)?;
@@ -47,7 +55,7 @@ fn copy_with(alloc: Global, row: &[Held], own: Held) -> Result<Items<Held>, Memo
     ensures { IfOk result (λ next. next ≡ before own.from.0 row.now ++ own ∷ after own.from.0 row.now) }
 {
     let from = own.from;
-    let mut next = Items::new(alloc);
+    let mut next = Items::from_vec(Vec::with_capacity(alloc, others(row, from) + 1)?);
     for lesser in row {
         if lesser.from.0 < from.0 {
             next.push(lesser.copy()?)?;

@@ -246,6 +246,14 @@ impl RouteServer {
         }
     }
 
+    /// The routes for the prefix that was listed last of a participant. No promise rests on it.
+    pub(crate) fn last_row(&self, from: Pid) -> &[Held] {
+        match self.announced.last(from) {
+            Some(prefix) => self.row(prefix),
+            None => &[],
+        }
+    }
+
     /// All prefixes for which there is a route, in ascending order.
     pub(crate) fn prefixes(&self) -> Result<Vec<Prefix>, Memory>
         ensures { IfOk result (λ prefixes. AreAll self.now.routes prefixes.items) }

@@ -19,8 +19,7 @@ use crate::change::Change;
 use crate::edits::{row_with, row_without};
 use crate::held::Held;
 use crate::server::RouteServer;
-use net_types::{Attrs, Memory, Pid, Prefix, SharedAttrs, TryCopy, Update};
-use std::alloc::Global;
+use net_types::{Attrs, Memory, Pid, Prefix, SharedAttrs, TryCopy, Update, same_attrs};
 
 /// The row of a prefix without a participant's route.
 fn withdrawal(server: &RouteServer, from: Pid, prefix: Prefix) -> Result<Change, Memory>
@@ -96,12 +95,28 @@ fn sorted(changes: Vec<Change>) -> Vec<Change>
     sorted
 }
 
-/// A copy of attributes that several can own.
-fn shared(alloc: Global, attrs: &Attrs) -> Result<SharedAttrs, Memory>
+/// The attributes of a participant's route in a row, where they are the same as these.
+fn same_in<'r>(row: &'r [Held], from: Pid, attrs: &Attrs) -> Option<&'r SharedAttrs>
+    ensures { IfSome result (λ shared. shared.now ≡ attrs.now) }
+{
+    let held = row.iter().find(|held| held.from.0 == from.0)?;
+    if same_attrs(held.attrs.get(), attrs) {
+        Some(&held.attrs)
+    } else {
+        None
+    }
+}
+
+/// Attributes that several can own: those of the participant's route for the prefix that was listed last of it, where they
+/// are the same, and else a copy.
+fn shared(server: &RouteServer, from: Pid, attrs: &Attrs) -> Result<SharedAttrs, Memory>
     ensures { IfOk result (λ shared. shared ≡ attrs.now) }
 {
+    if let Some(known) = same_in(server.last_row(from), from, attrs) {
+        return known.copy();
+    }
     let own = attrs.copy()?;
-    SharedAttrs::new(alloc, own)
+    SharedAttrs::new(server.allocator(), own)
 }
 
 /// Changes for all prefixes of an update, the withdrawn ones first. The announced ones share one copy of the attributes.
@@ -115,7 +130,7 @@ fn edits(server: &RouteServer, from: Pid, update: &Update) -> Result<Vec<Change>
     let gone = withdrawals(server, from, update.withdrawn.items())?;
     match &update.attrs {
         Some(attrs) => {
-            let shared = shared(server.allocator(), attrs)?;
+            let shared = shared(server, from, attrs)?;
             let all = announcements(server, from, &shared, update.announced.items(), gone)?;
             Ok(all)
         }
