@@ -355,7 +355,7 @@ fn exits_of<'v>(
 ) -> Result<Vec<Exits<'v>>, Memory>
     ensures { IfOk result (λ v. v.items ≡ receivers (inbound_of view.now) offers.now) }
 {
-    let mut all = Vec::new(alloc);
+    let mut all = Vec::with_capacity(alloc, offers.len())?;
     for offer in offers {
         all.push(Exits::new(alloc, view, offer, all.len())?)?;
     }
