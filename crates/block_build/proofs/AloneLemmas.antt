@@ -5,7 +5,7 @@ use Rattle.net_types.proofs.CubeLemmas.{meet-everything}
 use Rattle.net_types.specs.Cubes.{everything}
 use Rattle.classifier.proofs.ShapeLemmas.{distinct-add_lines}
 use Rattle.classifier.specs.Items.{Item, add_all}
-use Rattle.classifier.specs.Lines.{add_lines, cons_line, joined, line, product}
+use Rattle.classifier.specs.Lines.{add_lines, cons_line, joined, line, product, row}
 use Rattle.classifier.specs.Meaning.{HasDistinctCubes}
 use Rattle.classifier.specs.declared.join.Join.TheVariants.{Union}
 use Rattle.classifier.specs.declared.line.Line.{Line}
@@ -13,8 +13,12 @@ use Rattle.block_build.proofs.ShapeBlocks.{meets-beside}
 use Rattle.block_build.specs.Bounds.{AreMeets, IsSomeBeside}
 use Rattle.block_build.specs.Spreads.{beside}
 
+-- a rule joined with one for all headers
+pub row_alone : (items : List Item) (x : Line) → row Union x (line items everything ∷ []) ≡ line (add_all x.results items) x.cube ∷ []
+row_alone items x = ap (λ o. cons_line (option_map (line (joined Union x.results items)) o) []) (meet-everything x.cube)
+
 one_beside : (items : List Item) (x : Line) → line (add_all x.results items) x.cube ∷ [] ≡ beside (x ∷ []) (line items everything ∷ [])
-one_beside items x = sym (ap (λ o. add_lines [] (cons_line (option_map (line (joined Union x.results items)) o) [] ++ [])) (meet-everything x.cube))
+one_beside items x = sym (ap (λ ys. add_lines [] (ys ++ [])) (row_alone items x))
 
 pub alone_beside : (items : List Item) (xs rest : List Line) (x z : Line) → length xs ≡ 1 → xs ≡ rest ++ x ∷ [] → z ≡ line (add_all x.results items) x.cube → rest ++ z ∷ [] ≡ beside xs (line items everything ∷ [])
 alone_beside items xs [] x z one split is = ap (λ w. w ∷ []) is ∙ one_beside items x ∙ ap (λ ys. beside ys (line items everything ∷ [])) (sym split)

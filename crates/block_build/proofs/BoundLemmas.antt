@@ -146,14 +146,39 @@ module _ (limit : ℕ) (best : Pid) (offers : List Offer) (x : Line) (old : List
         ∙ ap (λ b. cond b (beside (spread left best x.results alone others) last.lines) (spread left best x.results alone others)) (f.last others last split)
 
     -- where the last receiver's rules are put straight to the rest
-    pub grown_last : (new : List Line) → length made ≤ limit → IsAdded limit old made last.lines new → IsGrown limit old (within_rule best offers rs x) rs (x ∷ []) new
-    grown_last new within a = record {
+    pub grown_last : (new : List Line) → made ≡ spread left best x.results alone others → IsAdded limit old made last.lines new → IsGrown limit old (within_rule best offers rs x) rs (x ∷ []) new
+    grown_last new whole a = record {
       whole_within = λ small.
-          a.whole_within small ∙ ap (λ xs. add_lines old (product Union xs last.lines)) (m.whole_within within)
+          a.whole_within small ∙ ap (λ xs. add_lines old (product Union xs last.lines)) whole
           ∙ sym (add_lines-twice old [] (product Union (spread left best x.results alone others) last.lines)) ∙ ap (add_lines old) (sym within_whole);
       differ = added_differ limit old made last.lines new a;
       meets = λ atoms theirs own kept. added_meets limit old made last.lines new a atoms kept (m.meets atoms (others_theirs atoms theirs) own) (last_theirs atoms theirs);
     }
+
+  -- where nobody is reached but the last receiver
+  pub grown_only : (others : List Receiver) (last : Receiver) → front ≡ others ++ last ∷ [] → others ≡ [] → (new : List Line) → new ≡ add_lines old (row Union (line [] x.cube) last.lines)
+      → IsGrown limit old (within_rule best offers rs x) rs (x ∷ []) new
+  grown_only others last split none new is = grown_last others last split alone some new whole added
+    where
+      whole : alone ≡ spread left best x.results alone others
+      whole = ap (spread left best x.results alone) (sym none)
+
+      some : IsSome limit (spread left best x.results alone others) others (x ∷ []) alone
+      some = record {
+        whole_within = λ _. whole;
+        differ = one_differs (line [] x.cube);
+        meets = λ atoms theirs own. one_meets atoms x [] own;
+      }
+
+      all : new ≡ add_lines old (product Union alone last.lines)
+      all = is ∙ ap (add_lines old) (sym (append-nil (row Union (line [] x.cube) last.lines)))
+
+      added : IsAdded limit old alone last.lines new
+      added = record {
+        taken = 1;
+        is = all;
+        whole_within = λ _. all;
+      }
 
 -- ---- within all of them
 

@@ -28,7 +28,7 @@ use Rattle.block_build.specs.Bounds.{AreMeets}
 use Rattle.block_build.specs.Closed.{AreClosed, AreKept, AreThere, first_holding}
 use Rattle.block_build.specs.Groups.{lines_within}
 use Rattle.block_build.specs.declared.group.Group.{Group}
-use Rattle.block_build.specs.Receivers.{lines_by, received_items, received_lines}
+use Rattle.block_build.specs.Receivers.{received_items, received_lines}
 use Rattle.std.proofs.Math.Bool.{and_assoc, or-false}
 use Rattle.std.proofs.lemmas.Option.{same_Some}
 
@@ -199,13 +199,16 @@ module _ (tests : List Cube) (kept : List Line) (x : Line) (hop : PortNo) (ys : 
       subst (AreClosed tests) (sym (ap (λ b. cond b kept (kept ++ line (add_all x.results (received_items hop y.results)) x.cube ∷ [])) (shadowed-cube kept (add_all x.results (received_items hop y.results)) [] x.cube ∙ unshadowed kept x.cube fresh)))
       (closed_more tests kept z closed there)
 
--- the rules of a receiver have the cubes of its own, or that of all headers
-pub meets_by : (tests : List Cube) (hop : Option PortNo) (ys : List Line) → AreMeets tests ys → AreMeets tests (lines_by hop ys)
-meets_by tests None ys meets z k = elim k [ inl e ↦ subst (IsMeet tests) (ap (λ (w : Line). w.cube) (sym e)) (IsMeet-everything tests) | inr none ↦ elim none [ ] ]
-meets_by tests (Some hop) [] meets z k = elim k [ ]
-meets_by tests (Some hop) (y ∷ ys) meets z k = elim k [
+-- the cube of all headers is a meet of any cubes
+pub meets_alone : (tests : List Cube) (items : List Item) → AreMeets tests (line items everything ∷ [])
+meets_alone tests items z k = elim k [ inl e ↦ subst (IsMeet tests) (ap (λ (w : Line). w.cube) (sym e)) (IsMeet-everything tests) | inr none ↦ elim none [ ] ]
+
+-- the rules of a receiver have the cubes of its own
+pub meets_received : (tests : List Cube) (hop : PortNo) (ys : List Line) → AreMeets tests ys → AreMeets tests (received_lines hop ys)
+meets_received tests hop [] meets z k = elim k [ ]
+meets_received tests hop (y ∷ ys) meets z k = elim k [
   | inl e ↦ subst (IsMeet tests) (ap (λ (w : Line). w.cube) (sym e)) (meets y (inl refl))
-  | inr later ↦ meets_by tests (Some hop) ys (λ w i. meets w (inr i)) z later
+  | inr later ↦ meets_received tests hop ys (λ w i. meets w (inr i)) z later
 ]
 
 -- ---- the first rule that holds a cube

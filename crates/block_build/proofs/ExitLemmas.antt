@@ -1,31 +1,15 @@
 -- The rules of a receiver, as ports to leave by, made one by one.
-use Rattle.std.proofs.Common.{◌≡◌, Bool, true, false, ◌&&◌, cond, Option, Some, None, List, [], ◌∷◌, ◌++◌, refl, ap, ◌∙◌}
+use Rattle.std.proofs.Common.{◌≡◌, true, ◌&&◌, Option, Some, None, List, [], ◌∷◌, ◌++◌, refl, ap, ◌∙◌}
 use Rattle.std.specs.Option.{option_map}
 use Rattle.net_types.specs.Cubes.{lies_within_cube, meet_cubes}
-use Rattle.net_types.specs.declared.address.Pid.{Pid}
 use Rattle.net_types.specs.declared.address.PortNo.{PortNo}
 use Rattle.net_types.specs.declared.cube.Cube.{Cube}
-use Rattle.net_types.specs.declared.route.Offer.{Offer}
 use Rattle.classifier.proofs.RunLemmas.{row-append, row_apart}
 use Rattle.classifier.specs.Hulls.{holds_each}
 use Rattle.classifier.specs.Lines.{cons_line, joined, line, row}
 use Rattle.classifier.specs.declared.join.Join.TheVariants.{Union}
 use Rattle.classifier.specs.declared.line.Line.{Line}
-use Rattle.block_build.specs.Receivers.{discarding, received_items, received_lines, receiver, receiver_by}
-use Rattle.block_build.specs.declared.receive.Receiver.{Receiver}
-
--- ---- the receiver of an offer
-
-pub by_offer : (inbound : Pid → List Line) (o : Offer) → receiver_by o.exporter (cond o.hole None (Some o.port)) (inbound o.exporter) ≡ receiver inbound o
-by_offer inbound o = of o.hole
-  where
-    of : (b : Bool) → receiver_by o.exporter (cond b None (Some o.port)) (inbound o.exporter) ≡ (let r : Receiver = record { who = o.exporter; lines = cond b discarding (received_lines o.port (inbound o.exporter)) } in r)
-    of true = refl
-    of false = refl
-
-pub by_whom : (who : Pid) (hop : Option PortNo) (ys : List Line) → (receiver_by who hop ys).who ≡ who
-by_whom who None ys = refl
-by_whom who (Some hop) ys = refl
+use Rattle.block_build.specs.Receivers.{received_items, received_lines}
 
 -- ---- a rule joined with each of a receiver's
 

@@ -5,6 +5,7 @@ pub mod Lent
 pub mod Offers
 pub mod Groups
 pub mod Receivers
+pub mod Kept
 pub mod Spreads
 pub mod Bounds
 pub mod Closed

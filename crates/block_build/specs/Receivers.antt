@@ -57,16 +57,7 @@ abbrev pub lines_by : Option PortNo → List Line → List Line
 lines_by None ys = discarding
 lines_by (Some hop) ys = received_lines hop ys
 
--- a participant with its rules and the port of its NEXT_HOP, none for a hole
-abbrev pub receiver_by : Pid → Option PortNo → List Line → Receiver
-receiver_by who hop ys = record { who = who; lines = lines_by hop ys }
-
 -- the one rule that there is, for all headers, where its items are given
 abbrev pub IsAlone : Option (List Item) → List Line → Type 0
 IsAlone None ys = Unit {0}
 IsAlone (Some items) ys = ys ≡ line items everything ∷ []
-
--- what is kept of a receiver: the one rule that there may be, and its rules in groups
-pub record IsArranged (only : Option (List Item)) (hop : Option PortNo) (ys grouped : List Line) : Type 0 where
-  pub alone : IsAlone only (lines_by hop grouped)
-  pub same : grouped ≡ ys

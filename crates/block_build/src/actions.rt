@@ -42,7 +42,7 @@ pub(crate) fn rules_of(alloc: Global, xs: Vec<Line>) -> Result<Vec<Rule>, Memory
     ensures { IfOk result (λ v. v.items ≡ rules_of xs.items) }
 {
     let mut turned = Turned::new(alloc);
-    let mut rules = Vec::new(alloc);
+    let mut rules = Vec::with_capacity(alloc, xs.len())?;
     for x in xs {
         let actions = turned.actions(&x.results)?;
         rules.push(Rule {

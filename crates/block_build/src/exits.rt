@@ -1,6 +1,7 @@
 //! The rules of a receiver, as ports to leave by.
 
 ghost use Rattle.std.specs.Prelude.{◌≡◌, ◌∷◌, [], IsTrue, IfOk, OnOk, if◌then◌else◌, Some, None, option_copied};
+ghost use Rattle.net_types.specs.Cubes.{everything};
 ghost use Rattle.classifier.specs.Items.{add_all};
 ghost use Rattle.classifier.specs.Lines.{add_line, add_lines, line, row};
 ghost use Rattle.classifier.specs.Runs.{lines_in};
@@ -9,44 +10,36 @@ ghost use Rattle.classifier.specs.declared.join.Join.TheVariants.{Union};
 ghost use Rattle.block_build.specs.Bounds.{AreMeets, IsPast};
 ghost use Rattle.block_build.specs.Closed.{AreClosed};
 ghost use Rattle.block_build.specs.Groups.{lines_within};
-ghost use Rattle.block_build.specs.Receivers.{IsAlone, discarding, received_items, received_lines, receiver};
+ghost use Rattle.block_build.specs.Receivers.{IsAlone, received_items, received_lines, receiver};
 ghost use Rattle.block_build.specs.Views.{inbound_of};
 
-use crate::alone::alone_of;
 use crate::group::Group;
-use crate::groups::groups_of;
+use crate::kept::{Kept, kept_of};
 use crate::received::Received;
 use crate::tested::tests_of;
 use crate::uncut::push_uncut;
 use crate::view::View;
-use classifier::{Line, Results, Run, is_hidden, push_line, push_reached};
-use net_types::{Cube, Memory, Offer, Pid, PortNo, TryCopy};
+use classifier::{Line, Results, Run, is_hidden, push_reached};
+use net_types::{Cube, Memory, Offer, Pid, PortNo};
 use std::alloc::Global;
 use std::collections::HashSet;
 use std::marker::Model;
 
-/// A participant in the offers, with its rules in groups of runs and the port of its NEXT_HOP, none where its route is a hole.
-/// Contracts see its rules as ports to leave by; none of them is made before it is needed, but one that stands alone.
+/// A participant in the offers, with what is kept of its rules. Contracts see these as ports to leave by.
 #[derive(Drop)]
 pub struct Exits<'v> {
     who: Pid,
     place: usize,
-    hop: Option<PortNo>,
-    lines: &'v [Line],
-    groups: Vec<Group<'v>>,
-    alone: Option<Results>,
+    kept: Kept<'v>,
 }
 
 impl<'v> Model for Exits<'v> {
-    ghost use Rattle.block_build.specs.Groups.{lines_within};
-    ghost use Rattle.block_build.specs.Receivers.{IsArranged, receiver_by};
+    ghost use Rattle.block_build.specs.Kept.{receiver_of};
     ghost use Rattle.block_build.specs.declared.receive.Receiver.{Receiver};
 
     ghost Value = { Receiver };
 
-    ghost view = { λ e. receiver_by e.who e.hop (lines_within e.groups.items) };
-
-    ghost invariant = { λ e. IsArranged e.alone e.hop e.lines.now (lines_within e.groups.items) };
+    ghost view = { λ e. receiver_of e.who e.kept };
 }
 
 /// Puts the rule of a cube that joins a rule with one of a receiver last, where it can be reached.
@@ -203,19 +196,24 @@ fn push_groups(
     Ok(())
 }
 
-/// Adds a rule as a hole leaves it: with what leaves by others alone.
-fn push_discarding(lines: &mut Vec<Line>, seen: &mut HashSet<Cube>, x: &Line) -> Result<(), Memory>
+/// Adds a rule joined with one for all headers.
+fn push_alone(
+    received: &mut Received,
+    lines: &mut Vec<Line>,
+    seen: &mut HashSet<Cube>,
+    x: &Line,
+    results: &Results,
+) -> Result<(), Memory>
     requires { Agrees lines.old.items seen.old }
-    ensures lines { OnOk result (lines.new.items ≡ add_lines lines.old.items (row Union x.now discarding)) }
+    ensures lines { OnOk result (lines.new.items ≡ add_lines lines.old.items (row Union x.now (line results.now everything ∷ []))) }
     ensures agrees { OnOk result (Agrees lines.new.items seen.new) }
 {
-    match cube::meet(&x.cube, &Cube::everything()) {
-        Some(cube) => {
-            let results = x.results.copy()?;
-            push_line(lines, seen, Line { cube, results })
-        }
-        None => Ok(()),
+    if !is_hidden(lines, seen, &x.cube) {
+        let results = received.union(&x.results, results)?;
+        let cube = x.cube;
+        push_reached(lines, seen, Line { cube, results })?;
     }
+    Ok(())
 }
 
 /// The port of an offer's NEXT_HOP, none for a hole.
@@ -235,17 +233,12 @@ impl<'v> Exits<'v> {
     ) -> Result<Exits<'v>, Memory>
         ensures { IfOk result (λ e. e ≡ receiver (inbound_of view.now) offer.now) }
     {
-        let hop = hop_of(offer);
         let lines = view.inbound(offer.exporter);
-        let groups = groups_of(alloc, lines)?;
-        let alone = alone_of(alloc, hop, lines)?;
+        let kept = kept_of(alloc, hop_of(offer), lines)?;
         Ok(Exits {
             who: offer.exporter,
             place,
-            hop,
-            lines,
-            groups,
-            alone,
+            kept,
         })
     }
 
@@ -265,15 +258,23 @@ impl<'v> Exits<'v> {
     pub(crate) fn alone(&self) -> Option<&Results>
         ensures { IsAlone (option_copied result) self.now.lines }
     {
-        self.alone.as_ref()
+        match &self.kept {
+            Kept::Alone(results) => Some(results),
+            Kept::Many(_) => None,
+        }
     }
 
     /// Tested cubes of which the cubes of its rules are meets.
     pub(crate) fn tests(&self, alloc: Global) -> Result<Vec<Cube>, Memory>
         ensures { IfOk result (λ tests. AreMeets tests.items self.now.lines) }
     {
-        let tests = tests_of(alloc, self.lines)?;
-        Ok(tests)
+        match &self.kept {
+            Kept::Alone(_) => Ok(Vec::new(alloc)),
+            Kept::Many(rows) => {
+                let tests = tests_of(alloc, rows.lines)?;
+                Ok(tests)
+            }
+        }
     }
 
     /// Adds a rule joined with each of the receiver's where these don't cut it otherwise than the rules that are there. Answers
@@ -293,9 +294,11 @@ impl<'v> Exits<'v> {
         ensures agrees { OnOk result (Agrees lines.new.items seen.new) }
         ensures closed { OnOk result (AreClosed tests.now lines.new.items) }
     {
-        match self.hop {
-            Some(hop) => push_uncut(received, lines, seen, x, hop, &self.groups, tests),
-            None => Ok(false),
+        match &self.kept {
+            Kept::Alone(_) => Ok(false),
+            Kept::Many(rows) => {
+                push_uncut(received, lines, seen, x, rows.hop, &rows.groups, tests)
+            }
         }
     }
 
@@ -311,9 +314,9 @@ impl<'v> Exits<'v> {
         ensures lines { OnOk result (lines.new.items ≡ add_lines lines.old.items (row Union x.now self.now.lines)) }
         ensures agrees { OnOk result (Agrees lines.new.items seen.new) }
     {
-        match self.hop {
-            Some(hop) => push_groups(received, lines, seen, x, hop, &self.groups),
-            None => push_discarding(lines, seen, x),
+        match &self.kept {
+            Kept::Alone(results) => push_alone(received, lines, seen, x, results),
+            Kept::Many(rows) => push_groups(received, lines, seen, x, rows.hop, &rows.groups),
         }
     }
 }

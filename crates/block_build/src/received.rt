@@ -97,6 +97,13 @@ impl Received {
         Ok(exits)
     }
 
+    /// Results that leave by ports, beside what leaves by receivers before.
+    pub(crate) fn union(&mut self, others: &Results, results: &Results) -> Result<Results, Memory>
+        ensures { IfOk result (λ r. r ≡ add_all others.now results.now) }
+    {
+        self.unions.union(others, results)
+    }
+
     /// The results beside others: those alone where there are no others.
     fn beside_others(&mut self, others: &Results, results: Results) -> Result<Results, Memory>
         ensures { IfOk result (λ r. r ≡ add_all others.now results) }

@@ -284,6 +284,22 @@ fn push_dropped(
     push_line(lines, seen, Line { cube, results })
 }
 
+/// Adds the rules within a cube that one receiver alone gets.
+fn push_only(
+    received: &mut Received,
+    lines: &mut Vec<Line>,
+    seen: &mut HashSet<Cube>,
+    cube: Cube,
+    receiver: &Exits<'_>,
+) -> Result<(), Memory>
+    requires { Agrees lines.old.items seen.old }
+    ensures lines { OnOk result (lines.new.items ≡ add_lines lines.old.items (row Union (line [] cube) receiver.now.lines)) }
+    ensures agrees { OnOk result (Agrees lines.new.items seen.new) }
+{
+    let results = Results::new(received.alloc());
+    receiver.push_row(received, lines, seen, &Line { cube, results })
+}
+
 /// Adds the rules within one rule of the sender. What the last receiver that its results go to makes of a packet is put straight
 /// to the rest. Where it finds more than the limit it stops.
 fn push_within(
@@ -306,6 +322,10 @@ fn push_within(
         push_dropped(received.alloc(), lines, seen, x.cube)?;
         return Ok(());
     };
+    if others.is_empty() {
+        push_only(received, lines, seen, x.cube, last)?;
+        return Ok(());
+    }
     let within_x = within_rule(received, left, best, others, x, limit)?;
     if within_x.len() > limit {
         *lines = within_x;
@@ -355,7 +375,7 @@ fn exits_of<'v>(
 ) -> Result<Vec<Exits<'v>>, Memory>
     ensures { IfOk result (λ v. v.items ≡ receivers (inbound_of view.now) offers.now) }
 {
-    let mut all = Vec::new(alloc);
+    let mut all = Vec::with_capacity(alloc, offers.len())?;
     for offer in offers {
         all.push(Exits::new(alloc, view, offer, all.len())?)?;
     }
