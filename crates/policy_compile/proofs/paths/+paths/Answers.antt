@@ -29,7 +29,7 @@ push_paths-returns-in_ok-push-in-Pass g t c =
     let old = c.args.found.now in
     let new = c.push.new.self in
     subst (λ p. IsVisit pid_of p m first old new) c.in-Pass.ensures
-    (visit-one pid_of model.Pass m first old new first no_change c.in_ok-push-in-Pass.ensures.ok (λ h l d. refl) (inl refl) refl)
+    (visit-one pid_of model.Pass m first old new first no_change c.in_ok-push-in-Pass.ensures (λ h l d. refl) (inl refl) refl)
 
 pub push_paths-returns-in_ok-push-in-Block : goal.push_paths-returns-in_ok-push-in-Block
 push_paths-returns-in_ok-push-in-Block g t c =
@@ -39,7 +39,7 @@ push_paths-returns-in_ok-push-in-Block g t c =
     let old = c.args.found.now in
     let new = c.push-in-Block.new.self in
     subst (λ p. IsVisit pid_of p m first old new) c.in-Block.ensures
-    (visit-one pid_of model.Block m first old new (first.0, Nowhere) no_change c.in_ok-push-in-Block.ensures.ok (λ h l d. refl) (inl refl) refl)
+    (visit-one pid_of model.Block m first old new (first.0, Nowhere) no_change c.in_ok-push-in-Block.ensures (λ h l d. refl) (inl refl) refl)
 
 pub push_paths-returns-in_ok-push-in-Test : goal.push_paths-returns-in_ok-push-in-Test
 push_paths-returns-in_ok-push-in-Test g t c =
@@ -49,7 +49,7 @@ push_paths-returns-in_ok-push-in-Test g t c =
     let old = c.args.found.now in
     let new = c.push-then-holds.new.self in
     subst (λ p. IsVisit pid_of p m first old new) c.in-Test.ensures
-    (visit-kept pid_of (pred_of c.in-Test.pred.now) m first old new (sym c.holds.ensures ∙ c.if-holds.true) c.in_ok-push-in-Test.ensures.ok)
+    (visit-kept pid_of (pred_of c.in-Test.pred.now) m first old new (sym c.holds.ensures ∙ c.if-holds.true) c.in_ok-push-in-Test.ensures)
 
 pub push_paths-returns-else-holds : goal.push_paths-returns-else-holds
 push_paths-returns-else-holds g t c =
@@ -68,7 +68,7 @@ push_paths-returns-in_ok-push-in-Set g t c =
     let old = c.args.found.now in
     let new = c.push-in-Set.new.self in
     subst (λ p. IsVisit pid_of p m first old new) c.in-Set.ensures
-    (visit-set pid_of c.in-Set.set c.in-Set.field-1 m first old new (c.in_ok-push-in-Set.ensures.ok ∙ ap (λ set. add old (set, first.1)) c.followed_by.ensures))
+    (visit-set pid_of c.in-Set.set c.in-Set.field-1 m first old new (c.in_ok-push-in-Set.ensures ∙ ap (λ set. add old (set, first.1)) c.followed_by.ensures))
 
 pub push_paths-returns-in_ok-push_paths-in-Both-2 : goal.push_paths-returns-in_ok-push_paths-in-Both-2
 push_paths-returns-in_ok-push_paths-in-Both-2 g t c =

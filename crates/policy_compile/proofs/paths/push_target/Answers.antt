@@ -15,7 +15,7 @@ returns-in_ok-push-in-Number g c = λ span.
     let old = c.args.found.now in
     let new = c.push.new.self in
     subst (λ x. IsVisit pid_of (model.Fwd (target_of x) span) m first old new) (sym c.in-Number.is)
-    (visit-one pid_of (model.Fwd (model.Number c.in-Number.port) span) m first old new (first.0, Out c.in-Number.port) no_change c.in_ok-push-in-Number.ensures.ok (λ h l d. refl) (inl refl) refl)
+    (visit-one pid_of (model.Fwd (model.Number c.in-Number.port) span) m first old new (first.0, Out c.in-Number.port) no_change c.in_ok-push-in-Number.ensures (λ h l d. refl) (inl refl) refl)
 
 pub returns-in_ok-push-in-Some : goal.returns-in_ok-push-in-Some
 returns-in_ok-push-in-Some g c = λ span.
@@ -26,5 +26,5 @@ returns-in_ok-push-in-Some g c = λ span.
     let new = c.push-in-Some.new.self in
     let known = sym c.find.ensures ∙ c.in-Some.is in
     subst (λ x. IsVisit pid_of (model.Fwd (target_of x) span) m first old new) (sym c.in-Name.is)
-    (visit-one pid_of (model.Fwd (model.Name c.in-Name.name.now) span) m first old new (first.0, To c.in-Some.who) no_change c.in_ok-push-in-Some.ensures.ok
+    (visit-one pid_of (model.Fwd (model.Name c.in-Name.name.now) span) m first old new (first.0, To c.in-Some.who) no_change c.in_ok-push-in-Some.ensures
     (λ h l d. sym (ap (model.to_participant (apply first.0 h)) known)) (inl refl) refl)
