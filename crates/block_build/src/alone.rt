@@ -6,8 +6,9 @@ ghost use Rattle.classifier.specs.Items.{add_all};
 ghost use Rattle.classifier.specs.Lines.{line};
 ghost use Rattle.block_build.specs.Spreads.{beside};
 
-use classifier::{Line, Results};
+use classifier::{Line, Results, push_all};
 use net_types::{Cube, Memory};
+use std::alloc::Global;
 
 /// Whether this is the cube of all headers.
 pub(crate) fn is_everything(cube: &Cube) -> bool
@@ -17,10 +18,10 @@ pub(crate) fn is_everything(cube: &Cube) -> bool
 }
 
 /// A rule with what a receiver makes of every packet.
-fn joined(mut x: Line, results: &Results) -> Result<Line, Memory>
+fn joined(alloc: Global, mut x: Line, results: &Results) -> Result<Line, Memory>
     ensures { IfOk result (λ z. z ≡ line (add_all x.results results.now) x.cube) }
 {
-    x.results.push_all(results)?;
+    push_all(alloc, &mut x.results, results)?;
     Ok(x)
 }
 
@@ -32,6 +33,7 @@ pub(crate) fn beside_alone(mut lines: Vec<Line>, results: &Results) -> Result<Ve
     let Some(x) = lines.pop() else {
         return Ok(lines);
     };
-    lines.push(joined(x, results)?)?;
+    let alloc = *lines.allocator();
+    lines.push(joined(alloc, x, results)?)?;
     Ok(lines)
 }
