@@ -2,8 +2,9 @@
 //! them, and prints what is planned and committed, from where nobody announced anything on and all policies drop.
 //!
 //! A has the port 1, B the ports 2 and 3, and C the port 4. A line is a participant with its UPDATE, `out` or `in` with a
-//! participant and its policy, or `table`, which asks for the table. Octets are hexadecimal digits, with spaces between them
-//! where they please; `M` stands for the sixteen octets of a marker. Pairs are written as `PORT:TAG`.
+//! participant and its policy, `take` with a participant that was told nothing and takes all that is pending, or `table`,
+//! which asks for the table. Octets are hexadecimal digits, with spaces between them where they please; `M` stands for the
+//! sixteen octets of a marker. Pairs are written as `PORT:TAG`.
 #![tactic(auto)]
 
 ghost use Rattle.std.specs.Prelude.{◌≡◌};
@@ -24,6 +25,7 @@ use parts::Parts;
 use std::alloc::Global;
 use std::marker::Brand;
 use std::sync::ledger::{Blank, Ledger};
+use told::taken;
 use words::{first_number, first_word, octets, who};
 use wrong::Wrong;
 
@@ -72,7 +74,13 @@ fn received<L: Ledger>(
     parts.receive(alloc, who(letter)?, policy, steps)
 }
 
-/// What the plan of a line says, or what is in the table.
+/// What a participant that was told nothing takes; its letter is the text.
+fn took(alloc: Global, parts: &mut Parts, letter: &str) -> std::result::Result<String, Wrong> {
+    let tags = parts.take(who(letter)?)?;
+    Ok(taken(alloc, &tags)?)
+}
+
+/// What the plan of a line says, what a participant takes, or what is in the table.
 fn planned<L: Ledger>(
     alloc: Global,
     parts: &mut Parts,
@@ -82,6 +90,7 @@ fn planned<L: Ledger>(
     let (word, rest) = first_word(line);
     match word {
         "table" => Ok(parts.table(alloc)?),
+        "take" => took(alloc, parts, rest),
         "out" => sent(alloc, parts, rest, steps),
         "in" => received(alloc, parts, rest, steps),
         _ => updated(alloc, parts, who(word)?, rest, steps),

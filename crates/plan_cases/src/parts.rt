@@ -1,6 +1,8 @@
 //! The parts of an exchange, and the plans that are made of them.
 
-ghost use Rattle.std.specs.Prelude.{◌≡◌, ◌≤◌, ◌<◌, IfOk, length};
+ghost use Rattle.std.specs.Prelude.{◌≡◌, ◌≤◌, ◌<◌, [], IfOk, length};
+ghost use Rattle.advert_queue.specs.Telling.{tags_of};
+ghost use Rattle.events.specs.State.{told_to};
 ghost use Rattle.net_types.specs.Exports.{pid_of};
 ghost use Rattle.plan_cases.specs.Parts.{AreAsked, ArePlanned, Reroutes};
 ghost use Rattle.plan_cases.specs.Policies.{AreCompiled};
@@ -17,7 +19,7 @@ use bgp_update::{UpdateFault, decode};
 use bumpalo::Bump;
 use fast_path::{FastFault, Plan, commit, plan, plans_are_committed, reserve};
 use match_switch::Switch;
-use net_types::{Ip, Memory, Pid, Steps};
+use net_types::{Ip, Memory, Pid, Steps, Tag};
 use next_hop_pool::Pool;
 use policy_isolate::named;
 use prefix_classes::ClassMap;
@@ -191,9 +193,32 @@ impl Parts {
         self.told(alloc, request, steps)
     }
 
+    /// A participant that was told nothing takes all that is pending for it; what it was told then.
+    pub fn take(&mut self, who: Pid) -> Result<Vec<Tag>, Wrong> {
+        if who.0 as usize >= self.adverts.len() {
+            return Err(Wrong::Row);
+        }
+        let told = self.adverts.told_tags(who)?;
+        if !told.is_empty() {
+            return Err(Wrong::Row);
+        }
+        self.tell(who);
+        let tags = self.adverts.told_tags(who)?;
+        Ok(tags)
+    }
+
     /// What rules are in the table, and how many.
     pub fn table(&self, alloc: Global) -> Result<String, Memory> {
         installed(alloc, &self.switch)
+    }
+
+    /// A participant that was told nothing takes all that is pending for it, by which nothing goes.
+    fn tell(&mut self, who: Pid)
+        requires declared { who.0 < length self.old.told }
+        requires nothing { tags_of (told_to self.old who) ≡ [] }
+        ensures { length self.new.told ≡ length self.old.told }
+    {
+        self.adverts.take(who, None);
     }
 
     /// What a change of the routes asks for.

@@ -106,6 +106,15 @@ pub fn told(alloc: Global, plan: &Plan) -> Result<String, Memory> {
     Ok(text)
 }
 
+/// What a participant took: the tags that it was told.
+pub fn taken(alloc: Global, tags: &[Tag]) -> Result<String, Memory> {
+    let mut text = String::from_str(alloc, "told")?;
+    for Tag(tag) in tags {
+        write!(text, " {tag}")?;
+    }
+    Ok(text)
+}
+
 /// What a table says: its pairs, each with the ports to which its rules send, and how many rules there are.
 pub fn installed(alloc: Global, switch: &Switch) -> Result<String, Memory> {
     let mut text = String::from_str(alloc, "table")?;
