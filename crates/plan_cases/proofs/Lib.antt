@@ -1,3 +1,6 @@
 pub mod Starts
-pub mod Lends
+pub mod TextLists
+pub mod Compiled
+pub mod Bases
+pub mod Takes
 pub mod Plans

@@ -1,17 +1,18 @@
 -- What the parts show asks for a plan, and once that is committed they show again such a state.
-use Rattle.std.proofs.Common.{◌≡◌, ◌<◌, Bool, true, false, ◌+◌, cond, List, [], ◌∷◌, filter, length, map, sym, ap, subst, ◌∙◌, refl}
-use Rattle.std.specs.Prelude.{Option, Some, None, Result, Ok, Err, IfOk, IfSome, MatchResult, is_some}
+use Rattle.std.proofs.Common.{◌≡◌, ℕ, ◌<◌, Bool, true, false, ◌+◌, cond, List, [], ◌∷◌, filter, length, map, sym, ap, subst, ◌∙◌, refl, ⊎_elim}
+use Rattle.std.specs.Prelude.{Option, Some, None, Result, Ok, Err, IfOk, IfSome, MatchResult, is_some, slice_set}
 use Rattle.std.specs.FinMap.{FinMap, contains_key-keys, get, keys}
 use Rattle.std.specs.Option.{option_map}
 use Rattle.std.specs.Ordering.{eq_by_cmp}
 use Rattle.std.proofs.lemmas.Bool.{and_from, and_parts}
-use Rattle.std.proofs.lemmas.List.{length-map}
 use Rattle.advert_queue.specs.Advertised.{Advertised}
 use Rattle.block_build.specs.Installed.{Installed}
 use Rattle.block_build.specs.Lent.{AreOf, Lent}
-use Rattle.events.specs.Fits.{none_rebuilt}
+use Rattle.events.proofs.Reached.{set_length}
+use Rattle.events.specs.After.{with_named}
+use Rattle.events.specs.Fits.{is_receivers, is_senders, none_rebuilt}
 use Rattle.events.specs.Sound.{IsSound}
-use Rattle.events.specs.State.{State}
+use Rattle.events.specs.State.{State, IsRead}
 use Rattle.events.specs.Tags.{capped, is_live_pair, more_units}
 use Rattle.events.specs.declared.Entry.{Entry}
 use Rattle.events.specs.declared.Phase.TheVariants.{Running, Start}
@@ -19,14 +20,14 @@ use Rattle.exchange_laws.proofs.OwnHops.{own_hop}
 use Rattle.exchange_laws.proofs.RulesAfter.{sound_tagged, tables_stay_sound}
 use Rattle.exchange_laws.proofs.TagsAfter.{kept_stay_live, live_stay_kept, tags_stay_pooled}
 use Rattle.exchange_laws.proofs.TidySteps.{retagged_whole}
-use Rattle.exchange_laws.specs.Editing.{IsBase}
+use Rattle.exchange_laws.specs.Editing.{IsBase, both, inbound_base, outbound_base}
 use Rattle.exchange_laws.specs.Listed.{AreThose}
 use Rattle.exchange_laws.specs.Rules.{IsDeclaredAlike}
 use Rattle.exchange_laws.specs.Steady.{PortsAreNumbered, PortsDiffer}
 use Rattle.fast_path.proofs.CommittedReplies.{change, is_table}
 use Rattle.fast_path.specs.Carried.{ArePartsOf, IsPlanned, LeadsTo}
 use Rattle.fast_path.specs.Committing.{marked_all, signed, tags_of}
-use Rattle.fast_path.specs.Grouping.{known_by}
+use Rattle.fast_path.specs.Grouping.{kept_by, known_by}
 use Rattle.fast_path.specs.Offers.{all_present}
 use Rattle.fast_path.specs.Planned.{IsPoolOf}
 use Rattle.fast_path.specs.Plans.{IsAsked, IsFault, IsPlan, is_rebuilt_live, planned}
@@ -36,8 +37,9 @@ use Rattle.net_types.proofs.OrderLemmas.{pairs_total}
 use Rattle.net_types.proofs.OrderedLemmas.{member_any}
 use Rattle.net_types.proofs.RisingLemmas.{Member-filter, before, filter-IsRising, filter-Member, keys-IsRising}
 use Rattle.net_types.proofs.TieLemmas.{pair_cmp-IsAntisymmetric, same_from_tie}
-use Rattle.net_types.specs.Exports.{Routing, route}
+use Rattle.net_types.specs.Exports.{Routing, named_by, pid_of, route}
 use Rattle.net_types.specs.Keys.{RouteKey, pair_cmp, prefix_cmp}
+use Rattle.net_types.specs.Policies.{Policy}
 use Rattle.net_types.specs.Sets.{Member}
 use Rattle.net_types.specs.declared.address.Pid.{Pid}
 use Rattle.net_types.specs.declared.prefix.Prefix.{Prefix}
@@ -49,10 +51,14 @@ use Rattle.registry.specs.Registered.{Registered}
 use Rattle.route_server.specs.Proposed.{IsProposal, Proposed, named_with}
 use Rattle.route_server.specs.Served as served
 use Rattle.route_server.specs.Served.{AreOwned, Served, owns}
-use Rattle.classifier.specs.declared.line.Line.{Line}
 use Rattle.exchange_laws.proofs.Lists.{key_Member}
-use Rattle.plan_cases.proofs.Lends.{both, drops_are_of}
-use Rattle.plan_cases.specs.Parts.{AreAsked, AreParts, ArePlanned, Asks, IsKept, drop_texts, state_of}
+use Rattle.plan_cases.proofs.Bases.{received_base, sent_base}
+use Rattle.plan_cases.proofs.Compiled.{lent_are_of, lent_length}
+use Rattle.plan_cases.specs.Parts.{AreAsked, ArePlanned, Asks, IsKept, Reroutes, base_by, base_of, names_before, state_of}
+use Rattle.plan_cases.specs.Policies.{AreCompiled, inbound_texts, lent_of, outbound_texts}
+use Rattle.plan_cases.specs.declared.policies.Texts.{Texts}
+use Rattle.plan_cases.specs.declared.programs.Programs.{Programs}
+use Rattle.plan_cases.specs.declared.request.Request.{Request}
 
 -- ---- whose routes there are
 
@@ -93,46 +99,23 @@ none_live s has = subst (AreThose (is_rebuilt_live s none_rebuilt)) (none_pass n
 
 -- ---- what is asked
 
--- where all rules are right, those are that aren't built anew
-pub loosened : (s : State) (is_rebuilt : Pair → Bool) → IsBase s none_rebuilt → IsBase s is_rebuilt
-loosened s is_rebuilt base = record {
-  tagged = base.tagged;
-  right = record { policies = base.right.policies; read = base.right.read; right = λ pair rules kept has. base.right.right pair rules refl has };
-  few = base.few;
-  pooled = base.pooled;
-  kept = base.kept;
-  live = base.live;
-  whole = base.whole;
-  owners = base.owners;
-  routed = base.routed;
-  hops = base.hops;
-  told = base.told;
-  outbound = base.outbound;
-  inbound = base.inbound;
-  named = base.named;
-  apart = base.apart;
-  numbered = base.numbered;
-  idle = base.idle;
-  sized = base.sized;
-}
-
-module _ (names : Registered) (server : Served) (classes : Classes) (pool : Tags) (was_told : List (FinMap prefix_cmp Entry)) (installed : Installed) where
+module _ (names : Registered) (server : Served) (classes : Classes) (pool : Tags) (was_told : List (FinMap prefix_cmp Entry)) (installed : Installed) (texts : List Texts) where
   abbrev before_it : State
-  before_it = state_of names server classes pool was_told installed
+  before_it = state_of names server classes pool was_told installed texts
 
-  pub asked_of : (presents : List (FinMap prefix_cmp Entry)) (rules : List Line) → AreParts before_it pool presents rules → (views : List Lent) → views ≡ map (λ m. both rules) names.participants
-      → (r : Routing) (is_rebuilt : Pair → Bool) (proposal : Proposed) (rebuild : List Pair) → Asks before_it r is_rebuilt proposal rebuild
-      → IsAsked before_it r is_rebuilt names classes pool was_told installed views proposal rebuild
-  asked_of presents rules parts views lends r is_rebuilt proposal rebuild asks = record {
-    shown = record { participants = refl; ports = refl; tag = refl; kept = sym (ap (λ o. (known_by o classes).kept) asks.unnamed); told = refl; free = parts.kept.free };
+  pub asked_of : (presents : List (FinMap prefix_cmp Entry)) → IsKept before_it pool presents → (r : Routing) (is_rebuilt : Pair → Bool) (q : Request) → Asks before_it r is_rebuilt q
+      → (programs : List Programs) → AreCompiled (pid_of before_it.routing) q.texts.items programs → (views : List Lent) → views ≡ map lent_of programs → (rebuild : List Pair) → rebuild ≡ q.rebuild.items
+      → IsAsked (base_of before_it q) r is_rebuilt names classes pool was_told installed views q.proposal rebuild
+  asked_of presents kept r is_rebuilt q asks programs compiled views lends rebuild rebuilds = record {
+    shown = record { participants = refl; ports = refl; tag = refl; kept = refl; told = refl; free = kept.free };
     table = refl;
     capacity = refl;
-    base = loosened before_it is_rebuilt parts.kept.base;
-    alike = asks.alike;
+    base = asks.base;
+    alike = record { participants = asks.alike.participants; ports = asks.alike.ports };
     proposes = asks.proposes;
-    lent = ap length lends ∙ length-map names.participants (λ m. both rules);
-    views = λ ps policies. subst (AreOf ps) (sym lends) (drops_are_of rules parts.drops before_it names.participants ps refl refl policies);
-    rebuilt = asks.rebuilt;
+    lent = ap length lends ∙ lent_length (pid_of before_it.routing) q.texts.items programs compiled ∙ asks.base.outbound;
+    views = λ ps policies. subst (AreOf ps) (sym lends) (lent_are_of (base_of before_it q) q.texts.items programs ps refl refl compiled policies);
+    rebuilt = subst (AreThose (is_rebuilt_live (base_of before_it q) is_rebuilt)) (sym rebuilds) asks.rebuilt;
   }
 
 -- ---- what is committed
@@ -177,20 +160,35 @@ module _ (s : State) (r : Routing) (is_rebuilt : Pair → Bool) (plan : Plan) (b
     sized = record { start = λ e. absurd (cc); small = base.sized.small; low = λ later. base.sized.low started; high = base.sized.high; room = base.sized.room };
   }
 
-module _ (names : Registered) (server : Served) (classes : Classes) (pool : Tags) (was_told : List (FinMap prefix_cmp Entry)) (installed : Installed) (presents : List (FinMap prefix_cmp Entry)) where
-  abbrev s : State
-  s = state_of names server classes pool was_told installed
+-- whom the policies name has as many places as before
+named_length : (o : Option (Pid × List Pid)) (all : List (List Pid)) → length (named_with o all) ≡ length all
+named_length None all = refl
+named_length (Some (who, pids)) all = set_length all who.0 pids
 
-  module _ (kept : IsKept s pool presents) (r : Routing) (is_rebuilt : Pair → Bool) (proposal : Proposed) (rebuild : List Pair) (plan : Plan) (asks : Asks s r is_rebuilt proposal rebuild) (plans : IsPlan s r is_rebuilt plan) (unnamed : plan.named ≡ None) where
-    pub planned_of : IsPlanned s r is_rebuilt plan
-    planned_of = record { base = loosened s is_rebuilt kept.base; alike = asks.alike; planned = plans }
+before_length : (o : Option (Pid × List Pid)) (r : Routing) → length (names_before o r) ≡ length r.named
+before_length None r = refl
+before_length (Some (who, pids)) r = set_length r.named who.0 _
+
+module _ (names : Registered) (server : Served) (classes : Classes) (pool : Tags) (was_told : List (FinMap prefix_cmp Entry)) (installed : Installed) (texts : List Texts) (presents : List (FinMap prefix_cmp Entry)) where
+  abbrev s : State
+  s = state_of names server classes pool was_told installed texts
+
+  module _ (kept : IsKept s pool presents) (r : Routing) (is_rebuilt : Pair → Bool) (q : Request) (plan : Plan) (asks : Asks s r is_rebuilt q) (plans : IsPlan (base_of s q) r is_rebuilt plan) (same_named : plan.named ≡ q.proposal.named) where
+    abbrev s0 : State
+    s0 = base_of s q
+
+    alike : IsDeclaredAlike s0.routing r
+    alike = record { participants = asks.alike.participants; ports = asks.alike.ports }
+
+    pub planned_of : IsPlanned s0 r is_rebuilt plan
+    planned_of = record { base = asks.base; alike = alike; planned = plans }
 
     -- the parts have the state
     pub parts_of : (classes' : Classes) (installed' : Installed) (adverts : Advertised) → classes'.tag ≡ classes.tag → classes'.kept ≡ classes.kept → installed'.table ≡ installed.table → installed'.capacity ≡ installed.capacity
-        → adverts.told ≡ was_told → adverts.present ≡ presents → ArePartsOf s plan classes' pool installed' adverts
+        → adverts.told ≡ was_told → adverts.present ≡ presents → ArePartsOf s0 plan classes' pool installed' adverts
     parts_of classes' installed' adverts tag keeps table capacity told present = record {
       tag = sym tag;
-      kept = sym keeps ∙ ap (λ o. (known_by o classes').kept) (sym unnamed);
+      kept = ap (kept_by q.proposal.named) (sym keeps) ∙ ap (λ o. (known_by o classes').kept) (sym same_named);
       pool = record { free = sym kept.free; size = refl; base = refl };
       table = sym table;
       capacity = sym capacity;
@@ -200,24 +198,24 @@ module _ (names : Registered) (server : Served) (classes : Classes) (pool : Tags
 
     -- once the plan is committed
     module _ (server' : Served) (classes' : Classes) (pool' : Tags) (was_told' : List (FinMap prefix_cmp Entry)) (installed' : Installed) (presents' : List (FinMap prefix_cmp Entry))
-        (routes : server'.routes ≡ r.routes) (rules : server'.rules ≡ r.rules) (names' : server'.named ≡ r.named) (c : Classes) (i : Installed) (a : Advertised) (to : LeadsTo (planned s r plan) plan c pool i a)
-        (tag : classes'.tag ≡ (planned s r plan).tag) (keeps : classes'.kept ≡ (planned s r plan).kept) (marked : pool' ≡ marked_all (marked_all pool (tags_of (signed plan.fresh.items)) true) plan.dead.items false)
-        (table : installed'.table ≡ (planned s r plan).table) (capacity : installed'.capacity ≡ installed.capacity) (told : was_told' ≡ was_told) (present : presents' ≡ all_present (planned s r plan)) where
+        (routes : server'.routes ≡ r.routes) (rules : server'.rules ≡ r.rules) (names' : server'.named ≡ r.named) (c : Classes) (i : Installed) (a : Advertised) (to : LeadsTo (planned s0 r plan) plan c pool i a)
+        (tag : classes'.tag ≡ (planned s0 r plan).tag) (keeps : classes'.kept ≡ (planned s0 r plan).kept) (marked : pool' ≡ marked_all (marked_all pool (tags_of (signed plan.fresh.items)) true) plan.dead.items false)
+        (table : installed'.table ≡ (planned s0 r plan).table) (capacity : installed'.capacity ≡ installed.capacity) (told : was_told' ≡ was_told) (present : presents' ≡ all_present (planned s0 r plan)) where
       abbrev s' : State
-      s' = state_of names server' classes' pool' was_told' installed'
+      s' = state_of names server' classes' pool' was_told' installed' q.texts.items
 
-      at_pool : IsPoolOf (planned s r plan) pool'
-      at_pool = subst (IsPoolOf (planned s r plan)) (sym marked) to.pool
+      at_pool : IsPoolOf (planned s0 r plan) pool'
+      at_pool = subst (IsPoolOf (planned s0 r plan)) (sym marked) to.pool
 
-      same : s' ≡ planned s r plan
+      same : s' ≡ planned s0 r plan
       same = λ j. record {
         phase = Running;
         base = at_pool.base j;
         size = at_pool.size j;
         capacity = capacity j;
         routing = record { participants = sym asks.alike.participants j; ports = sym asks.alike.ports j; rules = rules j; named = names' j; routes = routes j };
-        outbound = drop_texts names.participants;
-        inbound = drop_texts names.participants;
+        outbound = outbound_texts q.texts.items;
+        inbound = inbound_texts q.texts.items;
         tag = tag j;
         kept = keeps j;
         told = told j;
@@ -226,23 +224,99 @@ module _ (names : Registered) (server : Served) (classes : Classes) (pool : Tags
         owed = None;
       }
 
+      owned : AreOwned r
+      owned = asks.proposes.owned (record { owned = kept.owned.owned })
+
+      as_many : length r.named ≡ length s0.routing.named
+      as_many = ap length (sym asks.named) ∙ named_length q.proposal.named s.routing.named ∙ sym (before_length q.proposal.named s.routing)
+
       pub then_kept : IsKept s' pool' presents'
       then_kept = subst (λ x. IsKept x pool' presents') (sym same) (record {
-        base = next_base s r is_rebuilt plan (loosened s is_rebuilt kept.base) refl asks.alike plans (asks.proposes.owned kept.owned)
-            (ap length (sym asks.proposes.named) ∙ ap (λ o. length (named_with o s.routing.named)) asks.unnamed);
-        owned = asks.proposes.owned kept.owned;
+        base = next_base s0 r is_rebuilt plan asks.base refl alike plans owned as_many;
+        owned = owned;
         free = sym at_pool.free;
         present = present;
       })
 
 -- a plan that is made is for what is asked
-pub planned_for : (s : State) (proposal : Proposed) (rebuild : List Pair) (result : Result Plan FastFault) (r : Routing) (is_rebuilt : Pair → Bool) → Asks s r is_rebuilt proposal rebuild
-    → MatchResult result (IsPlan s r is_rebuilt) (IsFault s r) → IfOk result (λ p. p.named ≡ proposal.named) → IfOk result (ArePlanned s proposal rebuild)
-planned_for s proposal rebuild (Ok plan) r is_rebuilt asks plans named = (r, is_rebuilt, asks, plans, named ∙ asks.unnamed)
-planned_for s proposal rebuild (Err fault) r is_rebuilt asks plans named = tt
+pub planned_for : (s : State) (q : Request) (result : Result Plan FastFault) (r : Routing) (is_rebuilt : Pair → Bool) → Asks s r is_rebuilt q
+    → MatchResult result (IsPlan (base_of s q) r is_rebuilt) (IsFault (base_of s q) r) → IfOk result (λ p. p.named ≡ q.proposal.named) → IfOk result (ArePlanned s q)
+planned_for s q (Ok plan) r is_rebuilt asks plans named = (r, is_rebuilt, asks, plans, named)
+planned_for s q (Err fault) r is_rebuilt asks plans named = tt
 
--- what a rerouting of the same participants and ports asks for
-pub rerouting_asks : {pool : Tags} {presents : List (FinMap prefix_cmp Entry)} {rules : List Line} (s : State) (r : Routing) (proposal : Proposed) → AreParts s pool presents rules → r.participants ≡ s.routing.participants → r.ports ≡ s.routing.ports
-    → IsProposal s.routing r proposal → proposal.named ≡ None → AreAsked s proposal []
-rerouting_asks s r proposal parts participants ports proposes unnamed =
-    (r, none_rebuilt, record { alike = record { participants = participants; ports = ports }; proposes = proposes; unnamed = unnamed; rebuilt = none_live s parts.kept.base.tagged.pairs })
+-- ---- what lines ask for
+
+-- a proposal that touches nothing is one for the routes as they are
+nothing_proposed : (r : Routing) (p : Proposed) → p ≡ record { changes = []; rules = None; named = None; touched = []; sigs = []; bests = [] } → IsProposal r r p
+nothing_proposed r p is = subst (IsProposal r r) (sym is) (record {
+  touched = record {
+    each = λ q m. absurd (elim m [ ]);
+    all = λ q differs. absurd (⊎_elim (λ other. other refl) (λ other. other.2 refl) differs);
+    ascending = tt;
+  };
+  sigs = refl;
+  bests = refl;
+  routes = record { routes = λ k. refl };
+  rules = refl;
+  named = refl;
+  owned = λ own. own;
+})
+
+-- a proposal for a routing of the same participants and ports
+pub reroutes : (s : State) (r : Routing) (p : Proposed) → r.participants ≡ s.routing.participants → r.ports ≡ s.routing.ports → IsProposal s.routing r p → p.named ≡ None → Reroutes s p
+reroutes s r p participants ports proposes unnamed = (r, record { participants = participants; ports = ports }, proposes, unnamed)
+
+-- a change of the routes builds on the state itself, and builds no pair anew
+pub rerouting_asks : (s : State) (q : Request) → IsBase s none_rebuilt → Reroutes s q.proposal → q.rebuild.items ≡ [] → outbound_texts q.texts.items ≡ s.outbound → inbound_texts q.texts.items ≡ s.inbound → AreAsked s q
+rerouting_asks s q base (r, alike, proposes, unnamed) rebuilds outbound inbound =
+    let is : base_of s q ≡ s = (λ i. base_by s (unnamed i) q.texts.items) ∙ (λ i. record s { outbound = outbound i; inbound = inbound i }) in (
+      r,
+      none_rebuilt,
+      record {
+        base = subst (λ x. IsBase x none_rebuilt) (sym is) base;
+        alike = alike;
+        proposes = subst (λ (x : State). IsProposal x.routing r q.proposal) (sym is) proposes;
+        named = proposes.named;
+        rebuilt = subst (λ x. AreThose (is_rebuilt_live x none_rebuilt) q.rebuild.items) (sym is) (subst (AreThose (is_rebuilt_live s none_rebuilt)) (sym rebuilds) (none_live s base.tagged.pairs));
+      },
+    )
+
+-- another inbound policy leaves the routes, and builds the pairs anew in whose part the participant stands among the offers
+pub receiving_asks : (s : State) (q : Request) (who : Pid) (text : List ℕ) (p : Policy) → IsBase s none_rebuilt → IsRead text p → q.proposal ≡ record { changes = []; rules = None; named = None; touched = []; sigs = []; bests = [] }
+    → q.rebuild.items ≡ filter (is_receivers s who) (keys s.table) → outbound_texts q.texts.items ≡ s.outbound → inbound_texts q.texts.items ≡ slice_set s.inbound who.0 text → AreAsked s q
+receiving_asks s q who text p base read proposes rebuilds outbound inbound =
+    let on : State = inbound_base s who text in
+    let unnamed : q.proposal.named ≡ None = ap (λ (x : Proposed). x.named) proposes in
+    let is : base_of s q ≡ on = (λ i. base_by s (unnamed i) q.texts.items) ∙ (λ i. record s { outbound = outbound i; inbound = inbound i }) in
+    let holds = received_base s base who text p read in (
+      s.routing,
+      is_receivers s who,
+      record {
+        base = subst (λ x. IsBase x (is_receivers s who)) (sym is) holds;
+        alike = record { participants = refl; ports = refl };
+        proposes = subst (λ (x : State). IsProposal x.routing s.routing q.proposal) (sym is) (nothing_proposed s.routing q.proposal proposes);
+        named = ap (λ o. named_with o s.routing.named) unnamed;
+        rebuilt = subst (λ x. AreThose (is_rebuilt_live x (is_receivers s who)) q.rebuild.items) (sym is)
+            (subst (AreThose (is_rebuilt_live on (is_receivers s who))) (sym rebuilds) (those_live on (is_receivers s who) holds.tagged.pairs));
+      },
+    )
+
+-- another outbound policy, which comes to name these, builds the pairs of the participant's ports anew
+pub sending_asks : (s : State) (q : Request) (who : Pid) (text : List ℕ) (p : Policy) (named : List Pid) → IsBase s none_rebuilt → IsRead text p → q.proposal.named ≡ Some (who, named)
+    → IsProposal (with_named s.routing who (both (named_by s.routing who) named)) (with_named s.routing who named) q.proposal
+    → q.rebuild.items ≡ filter (is_senders s who) (keys s.table) → outbound_texts q.texts.items ≡ slice_set s.outbound who.0 text → inbound_texts q.texts.items ≡ s.inbound → AreAsked s q
+sending_asks s q who text p named base read names proposes rebuilds outbound inbound =
+    let on : State = outbound_base s who text named in
+    let is : base_of s q ≡ on = (λ i. base_by s (names i) q.texts.items) ∙ (λ i. record (base_by s (Some (who, named)) q.texts.items) { outbound = outbound i; inbound = inbound i }) in
+    let holds = sent_base s base who text p read named in (
+      with_named s.routing who named,
+      is_senders s who,
+      record {
+        base = subst (λ x. IsBase x (is_senders s who)) (sym is) holds;
+        alike = record { participants = refl; ports = refl };
+        proposes = subst (λ (x : State). IsProposal x.routing (with_named s.routing who named) q.proposal) (sym is) proposes;
+        named = ap (λ o. named_with o s.routing.named) names;
+        rebuilt = subst (λ x. AreThose (is_rebuilt_live x (is_senders s who)) q.rebuild.items) (sym is)
+            (subst (AreThose (is_rebuilt_live on (is_senders s who))) (sym rebuilds) (those_live on (is_senders s who) holds.tagged.pairs));
+      },
+    )

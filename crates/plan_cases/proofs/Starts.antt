@@ -1,6 +1,6 @@
 -- Where nobody announced anything, the parts show a state on which lines build.
 use Rattle.std.proofs.Common.{◌≡◌, ℕ, zero, suc, ◌+◌, ◌<◌, ◌≤◌, Bool, true, false, cond, not, List, [], ◌∷◌, ◌++◌, length, map, filter, replicate, take, sym, ap, subst, ◌∙◌, refl, arith, inl, inr}
-use Rattle.std.specs.Prelude.{Option, Some, None, IfSome, is_some, slice_get, nat_lt, nat_le, ◌&&◌, ◌||◌}
+use Rattle.std.specs.Prelude.{Option, Some, None, IfSome, codes, is_some, slice_get, nat_lt, nat_le, ◌&&◌, ◌||◌}
 use Rattle.std.specs.FinMap.{FinMap, empty, get, get-empty, keys}
 use Rattle.std.proofs.lemmas.Bool.{lt-leb}
 use Rattle.std.proofs.lemmas.List.{length-append, length-map, length-replicate}
@@ -40,6 +40,8 @@ use Rattle.prefix_classes.specs.Classes.{Classes}
 use Rattle.registry.specs.Registered.{Registered, is_taken, with_participant, with_port}
 use Rattle.route_server.specs.Served.{Served, owns, routing}
 use Rattle.plan_cases.specs.Parts.{AreDeclared, IsKept, state_of}
+use Rattle.plan_cases.specs.Policies.{dropping, inbound_texts, outbound_texts}
+use Rattle.plan_cases.specs.declared.policies.Texts.{Texts}
 
 -- ---- what is declared
 
@@ -122,17 +124,33 @@ not_kept : {X : Type 0} (o : Option X) → o ≡ None → is_some o ≡ true →
 not_kept None e f = cc
 not_kept (Some x) e f = cc
 
+-- all texts drop
+
+all_outbound : (ms : List Participant) → outbound_texts (map (λ m. dropping) ms) ≡ map (λ m. codes "drop") ms
+all_outbound [] = refl
+all_outbound (m ∷ ms) = ap (λ texts. codes "drop" ∷ texts) (all_outbound ms)
+
+all_inbound : (ms : List Participant) → inbound_texts (map (λ m. dropping) ms) ≡ map (λ m. codes "drop") ms
+all_inbound [] = refl
+all_inbound (m ∷ ms) = ap (λ texts. codes "drop" ∷ texts) (all_inbound ms)
+
 -- ---- the start
 
-module _ (names : Registered) (served : Served) (classes : Classes) (base : Ip) (size : ℕ) (told : List (FinMap prefix_cmp Entry)) (installed : Installed) (declared : AreDeclared names)
+module _ (names : Registered) (served : Served) (classes : Classes) (base : Ip) (size : ℕ) (told : List (FinMap prefix_cmp Entry)) (installed : Installed) (texts : List Texts) (declared : AreDeclared names) (drop : texts ≡ map (λ m. dropping) names.participants)
     (routes : served.routes ≡ empty) (named : served.named ≡ replicate (length names.participants) []) (tag_none : classes.tag ≡ empty) (kept_none : classes.kept ≡ empty)
     (told_none : told ≡ replicate (length names.participants) empty) (table : installed.table ≡ empty) (small : size ≤ 65536) (low : 16777215 ≤ base.0) (high : base.0 + size ≤ 3758096383) (room : installed.capacity ≤ 1000000) where
   abbrev start : State
-  start = state_of names served classes (all_free base size) told installed
+  start = state_of names served classes (all_free base size) told installed texts
 
   long : (n : ℕ) → length (replicate n false) ≡ n
   long zero = refl
   long (suc n) = ap suc (long n)
+
+  outbound : start.outbound ≡ map (λ m. codes "drop") names.participants
+  outbound = ap outbound_texts drop ∙ all_outbound names.participants
+
+  inbound : start.inbound ≡ map (λ m. codes "drop") names.participants
+  inbound = ap inbound_texts drop ∙ all_inbound names.participants
 
   new : IsNew start
   new = record {
@@ -140,7 +158,7 @@ module _ (names : Registered) (served : Served) (classes : Classes) (base : Ip) 
     tag = tag_none;
     kept = kept_none;
     told = λ entries m. only_one (length names.participants) entries empty (subst (Member entries) told_none m);
-    drop = record { outbound = refl; inbound = refl; named = named ∙ sym (all_alike (λ m. []) [] (λ m. refl) names.participants) };
+    drop = record { outbound = outbound; inbound = inbound; named = named ∙ sym (all_alike (λ m. []) [] (λ m. refl) names.participants) };
   }
 
   sound : IsSound start
@@ -159,8 +177,8 @@ module _ (names : Registered) (served : Served) (classes : Classes) (base : Ip) 
     routed = λ who p a e. absurd (no_route start new (record { from = who; prefix = p }) a e);
     hops = λ who p a e. absurd (no_route start new (record { from = who; prefix = p }) a e);
     told = ap length told_none ∙ length-replicate (length names.participants) _;
-    outbound = length-map names.participants _;
-    inbound = length-map names.participants _;
+    outbound = ap length outbound ∙ length-map names.participants _;
+    inbound = ap length inbound ∙ length-map names.participants _;
     named = ap length named ∙ length-replicate (length names.participants) _;
     apart = declared.apart;
     numbered = declared.numbered;
@@ -174,8 +192,8 @@ module _ (names : Registered) (served : Served) (classes : Classes) (base : Ip) 
     };
   }
 
-  pub start_kept : (pool : Tags) → pool ≡ all_free base size → (presents : List (FinMap prefix_cmp Entry)) → presents ≡ replicate (length names.participants) empty → IsKept (state_of names served classes pool told installed) pool presents
-  start_kept pool is presents nothing = subst (λ (p : Tags). IsKept (state_of names served classes p told installed) p presents) (sym is) (record {
+  pub start_kept : (pool : Tags) → pool ≡ all_free base size → (presents : List (FinMap prefix_cmp Entry)) → presents ≡ replicate (length names.participants) empty → IsKept (state_of names served classes pool told installed texts) pool presents
+  start_kept pool is presents nothing = subst (λ (p : Tags). IsKept (state_of names served classes p told installed texts) p presents) (sym is) (record {
     base = start_base;
     owned = record { owned = λ k. subst (λ o. IfSome o (λ (x : Attrs). (k.from.0 < length names.participants) × (owns (routing names served) k.from x.next_hop ≡ true))) (sym (ap (λ (m : FinMap route_cmp Attrs). get m k) routes ∙ get-empty route_cmp k)) tt };
     free = all_pass (events.is_live start) (no_live start new) (map tag (numbers 1 (length (replicate size false)))) ∙ ap (λ n. map tag (numbers 1 n)) (long size) ∙ sym (free_new 1 size) ∙ sym (free_by_place (replicate size false));

@@ -1,7 +1,8 @@
 //! What a plan says, as text.
 
 use fast_path::Plan;
-use net_types::{Memory, Pair, Prefix, Tag};
+use match_switch::Switch;
+use net_types::{Memory, Pair, Prefix, Rule, Tag};
 use std::alloc::Global;
 
 /// Puts a prefix behind a text, as `10.0.0.0/8`.
@@ -61,19 +62,24 @@ fn push_dropped(text: &mut String, plan: &Plan) -> Result<(), Memory> {
     Ok(())
 }
 
-/// Puts the ports to which the rules at a place of the plan send behind a text.
-fn push_block(text: &mut String, plan: &Plan, at: usize) -> Result<(), Memory> {
-    if at >= plan.pair_count() {
-        return Ok(());
-    }
+/// Puts the ports to which rules send behind a text.
+fn push_rules(text: &mut String, rules: &[Rule]) -> Result<(), Memory> {
     text.push_str(" ->")?;
-    for rule in plan.block(at).rules() {
+    for rule in rules {
         for action in rule.actions.items() {
             let port = action.port.0;
             write!(text, " {port}")?;
         }
     }
     Ok(())
+}
+
+/// Puts the ports to which the rules at a place of the plan send behind a text.
+fn push_block(text: &mut String, plan: &Plan, at: usize) -> Result<(), Memory> {
+    if at >= plan.pair_count() {
+        return Ok(());
+    }
+    push_rules(text, plan.block(at).rules())
 }
 
 /// Puts the pairs whose rules are put in behind a text, each with the ports to which its rules send.
@@ -97,5 +103,26 @@ pub fn told(alloc: Global, plan: &Plan) -> Result<String, Memory> {
     push_added(&mut text, plan)?;
     let newly = plan.newly();
     write!(text, "; {newly} newly")?;
+    Ok(text)
+}
+
+/// What a participant took: the tags that it was told.
+pub fn taken(alloc: Global, tags: &[Tag]) -> Result<String, Memory> {
+    let mut text = String::from_str(alloc, "told")?;
+    for Tag(tag) in tags {
+        write!(text, " {tag}")?;
+    }
+    Ok(text)
+}
+
+/// What a table says: its pairs, each with the ports to which its rules send, and how many rules there are.
+pub fn installed(alloc: Global, switch: &Switch) -> Result<String, Memory> {
+    let mut text = String::from_str(alloc, "table")?;
+    for (pair, rules) in switch.iter() {
+        push_pair(&mut text, pair)?;
+        push_rules(&mut text, rules)?;
+    }
+    let count = switch.rules();
+    write!(text, "; {count} rules")?;
     Ok(text)
 }

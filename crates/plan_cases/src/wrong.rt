@@ -2,7 +2,7 @@
 
 use net_types::Memory;
 use registry::RegFault;
-use std::alloc::AllocError;
+use std::alloc::{AllocError, AllocFailed};
 
 #[derive(Clone, Copy, Debug, PartialEq, Eq)]
 pub enum Wrong {
@@ -20,6 +20,12 @@ impl From<Memory> for Wrong {
 
 impl From<AllocError> for Wrong {
     fn from(_: AllocError) -> Wrong {
+        Wrong::Memory
+    }
+}
+
+impl<T: Drop> From<AllocFailed<T>> for Wrong {
+    fn from(_: AllocFailed<T>) -> Wrong {
         Wrong::Memory
     }
 }

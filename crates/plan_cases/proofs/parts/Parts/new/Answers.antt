@@ -19,9 +19,6 @@ invariant_of-result c =
     let base : Ip = record { 0 = 2886729728 } in
     let there : length c.participants-there.result.now ≡ length names.participants = ap length c.participants-there.ensures.all in
     let room : c.new-3.result.capacity ≤ 1000000 = subst (λ n. n ≤ 1000000) (sym c.new-3.ensures.capacity) c.requires.room in
-    record {
-      kept = start_kept names c.in_ok-server.server c.new-2.result base c.args.size c.in_ok-adverts.adverts.told c.new-3.result c.in_ok-registry.ensures c.in_ok-server.ensures.routes
-          (c.in_ok-server.ensures.named ∙ ap (λ n. replicate n nobody) there) c.new-2.ensures.tag c.new-2.ensures.kept (c.in_ok-adverts.ensures.told ∙ ap (λ n. replicate n nothing) there) c.new-3.ensures.table
-          c.requires.few (omega arith) (let few = c.requires.few in omega (arith, few)) room c.in_ok-pool.pool c.in_ok-pool.ensures c.in_ok-adverts.adverts.present (c.in_ok-adverts.ensures.present ∙ ap (λ n. replicate n nothing) there);
-      drops = c.in_ok-dropping.ensures;
-    }
+    start_kept names c.in_ok-server.server c.new-2.result base c.args.size c.in_ok-adverts.adverts.told c.new-3.result c.in_ok-policies.policies.items c.in_ok-registry.ensures c.in_ok-policies.ensures c.in_ok-server.ensures.routes
+    (c.in_ok-server.ensures.named ∙ ap (λ n. replicate n nobody) there) c.new-2.ensures.tag c.new-2.ensures.kept (c.in_ok-adverts.ensures.told ∙ ap (λ n. replicate n nothing) there) c.new-3.ensures.table
+    c.requires.few (omega arith) (let few = c.requires.few in omega (arith, few)) room c.in_ok-pool.pool c.in_ok-pool.ensures c.in_ok-adverts.adverts.present (c.in_ok-adverts.ensures.present ∙ ap (λ n. replicate n nothing) there)
