@@ -6,6 +6,7 @@ mod Parts
 mod EditLaws
 mod EffectLaws
 mod UpdateLaws
+mod RepeatLaws
 mod ProposalLaws
 mod DownLaws
 mod ExportLaws

@@ -1,6 +1,6 @@
 //! What changes of rows do: which prefixes they touch, and what is true of these afterwards.
 
-ghost use Rattle.std.specs.Prelude.{◌≡◌, ◌&&◌, true, nat_eq, length, IfOk};
+ghost use Rattle.std.specs.Prelude.{◌≡◌, ◌&&◌, true, nat_eq, length, IfOk, IfSome};
 ghost use Rattle.std.specs.List.{list_all};
 ghost use Rattle.std.specs.FinMap.{FinMap};
 ghost use Rattle.std.specs.Option.{option_copied};
@@ -11,6 +11,7 @@ ghost use Rattle.net_types.specs.Routes.{pids};
 ghost use Rattle.net_types.specs.declared.route.Attrs.{Attrs};
 ghost use Rattle.net_types.specs.declared.prefix.Prefix.{Prefix};
 ghost use Rattle.route_server.specs.Choices.{AreChosen};
+ghost use Rattle.route_server.specs.Repeated.{IsDone};
 ghost use Rattle.route_server.specs.Rows.{settled_by};
 ghost use Rattle.route_server.specs.Served.{AreDeclared};
 ghost use Rattle.route_server.specs.Effects.{place_attrs, best_by_row, IsEffectOf, AreEffects, AreRowsOf, routing_after, routing_by};
@@ -20,6 +21,7 @@ use crate::choices::{chosen_in, held_in, place_of};
 use crate::compared::is_signature;
 use crate::effect::Effect;
 use crate::held::Held;
+use crate::repeated::{Done, again, is_repeated, may_repeat, remembered};
 use crate::server::RouteServer;
 use crate::signature::{all_offers, signature_in};
 use crate::terms::Terms;
@@ -153,6 +155,28 @@ fn effect_of(
     }))
 }
 
+/// What a change does: that of an earlier one with the same rows, where one is known.
+fn effect_beside(
+    alloc: Global,
+    before: Terms<'_>,
+    after: Terms<'_>,
+    earlier: Option<&Done<'_>>,
+    old: &[Held],
+    change: &Change,
+    at: usize,
+) -> Result<Option<Effect>, Memory>
+    requires names { after.names.now ≡ before.names.now }
+    requires earlier { IfSome earlier (λ done. IsDone before after done.now) }
+    ensures { IfOk result (λ effect. IsEffectOf (settled_by before.entry) (settled_by after.entry) old.now change.now at effect) }
+{
+    match earlier {
+        Some(done) if is_repeated(done, old, change) => {
+            again(alloc, before, after, done, old, change, at)
+        }
+        _ => effect_of(alloc, before, old, after, change, at),
+    }
+}
+
 /// What the changes do to the server's routes, by what decides on them before and afterwards. The same is declared.
 pub fn effects_of(
     server: &RouteServer,
@@ -165,10 +189,24 @@ pub fn effects_of(
     ensures { IfOk result (λ effects. (m : FinMap route_cmp Attrs) → AreDeclared before.entry.names.now m → AreRowsOf changes.now m → AreEffects (routing_by before.entry server.now.routes) (routing_after before.entry.names.now after.entry.rules.now after.entry.named.now m) changes.now (length changes.now) effects.items) }
 {
     let alloc = server.allocator();
+    let repeats = may_repeat(before, after, changes.len());
+    let mut earlier = None;
     let mut effects = Vec::new(alloc);
     for (at, change) in changes.iter().enumerate() {
         let old = server.row(change.prefix);
-        let effect = effect_of(alloc, before, old, after, change, at)?;
+        let effect = effect_beside(alloc, before, after, earlier.as_ref(), old, change, at)?;
+        if repeats {
+            earlier = remembered(
+                alloc,
+                before,
+                after,
+                earlier,
+                old,
+                change,
+                at,
+                effect.as_ref(),
+            )?;
+        }
         match effect {
             Some(own) => {
                 effects.push(own)?;

@@ -18,6 +18,7 @@ mod laws;
 mod names;
 mod proposal;
 mod propose;
+mod repeated;
 mod rows;
 mod rules;
 mod server;
