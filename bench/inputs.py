@@ -223,18 +223,18 @@ def line(*words):
     return " ".join(words).encode() + b"\n"
 
 
-def declared(out, names, ports):
+def declared(out, names, ports, size=65536, capacity=1000000):
     """Participants of AS 65001 and so on, and their ports: the owner of each, from port 1 on."""
-    out.write(b"exchange 100.64.0.0 65536 1000000\n")
+    out.write(line("exchange", "100.64.0.0", str(size), str(capacity)))
     for number, name in enumerate(names, 1):
         out.write(line("participant", name, str(65000 + number), f"1.0.0.{number}"))
     for number, name in enumerate(ports, 1):
         out.write(line("port", name, str(number), f"172.16.1.{number}", f"02:00:00:00:00:{number:02x}"))
 
 
-def exchange_of_three(out):
-    """A with port 1, B with ports 2 and 3, C with port 4; B and C announce one prefix, and C another."""
-    declared(out, "ABC", "ABBC")
+def exchange_of_three(out, further=""):
+    """A with port 1, B with ports 2 and 3, C with port 4, and the owners of further ports; B and C announce one prefix, and C another."""
+    declared(out, "ABC", "ABBC" + further)
     for name, number, host, prefix in (("B", 65002, 2, b"\x08\x0a"), ("C", 65003, 4, b"\x08\x0a"), ("C", 65003, 4, b"\x08\x14")):
         out.write(line("update", name, update(b"", prefix, number, host).hex()))
 
@@ -358,7 +358,29 @@ def receivers_of_four_fields(out):
         out.write(announced(n, b"\x08\x0a"))
 
 
+def exchange_of_many_ports(out):
+    """The exchange of three, where B has the ports from 5 to 254 besides."""
+    exchange_of_three(out, 250 * "B")
+
+
+def denied(last, actions):
+    """Tests by `!` of 15 values of each of three fields and of so many of a fourth, each before what its number makes of it."""
+    tests = tests_of("srcport", range(1, 16)) + tests_of("dstport", range(1, 16)) + tests_of("srcip", nets(15)) + tests_of("dstip", nets(last))
+    return "+".join(f"match(!{test})>>{actions(n)}" for n, test in enumerate(tests))
+
+
+def four_each(n):
+    """Four assignments that no other number has."""
+    return "(" + settings("srcport", range(4 * n + 1, 4 * n + 5)) + ")"
+
+
+def nine_each(n):
+    """Nine ways to set two fields that no other number has."""
+    return "(" + settings("srcport", range(3 * n, 3 * n + 3)) + ")>>(" + settings("dstport", range(3)) + ")"
+
+
 EACH = "+".join(f"fwd({named(n)})" for n in range(1, 255))
+PORTS = "+".join(f"fwd({port})" for port in range(5, 255))
 SLOWEST = [
     ("out, 65536 meets of four fields", exchange_of_three, ("out", "A"), four_fields(1, 15, ">>fwd(C)")),
     ("in, the same", exchange_of_three, ("in", "B"), four_fields(1, 15, ">>fwd(2)")),
@@ -374,6 +396,11 @@ SLOWEST = [
     ("out, the same before themselves up to 8192 octets", exchange_of_three, ("out", "A"), repeated_before(inside(32, (1,)), "fwd(C)")),
     ("in, 257 assignments and 65536 meets of four fields", exchange_of_three, ("in", "B"), assigned(16, 16) + "+" + four_fields(1, 15, "")),
     ("in, 1024 assignments and 65536 meets of four fields", exchange_of_three, ("in", "B"), assigned(33, 31) + "+" + four_fields(1, 15, "")),
+    ("in, 257 assignments and 29403 rules of prefixes within prefixes", exchange_of_three, ("in", "B"), assigned(16, 16) + "+" + twice(inside(32, ()))),
+    ("in, 1024 assignments and 29403 such rules", exchange_of_three, ("in", "B"), assigned(33, 31) + "+" + twice(inside(32, ()))),
+    ("in, 60 tests by `!` of four fields, each before four assignments", exchange_of_three, ("in", "B"), denied(15, four_each)),
+    ("in, 58 such tests, each before nine", exchange_of_three, ("in", "B"), denied(13, nine_each)),
+    ("in, 1024 assignments before 250 ports", exchange_of_many_ports, ("in", "B"), assigned(32, 32) + ">>(" + PORTS + ")"),
 ]
 
 
