@@ -25,14 +25,14 @@ INPUTS = [
 PACKETS = 100000
 
 
-def datagram(destination):
-    """28 octets of UDP to an address, with a right header checksum."""
-    header = bytes.fromhex("4500001c0000000040110000c0000201") + destination
+def datagram(destination, source=b"\xc0\0\2\1", port=80):
+    """28 octets of UDP to an address and a port, with a right header checksum."""
+    header = bytes.fromhex("4500001c0000000040110000") + source + destination
     words = [int.from_bytes(header[i : i + 2], "big") for i in range(0, 20, 2)]
     total = sum(words)
     while total > 0xFFFF:
         total = (total & 0xFFFF) + (total >> 16)
-    return header[:10] + (0xFFFF - total).to_bytes(2, "big") + header[12:] + bytes.fromhex("03e8005000080000")
+    return header[:10] + (0xFFFF - total).to_bytes(2, "big") + header[12:] + b"\3\xe8" + port.to_bytes(2, "big") + b"\0\x08\0\0"
 
 
 def exchange_of_200(out):
@@ -63,11 +63,21 @@ def single_updates(out, count):
         out.write(b"update P%d " % (n % 16) + message.hex().encode() + b"\n")
 
 
+def message(withdrawn, attributes, prefixes):
+    """An UPDATE message."""
+    body = len(withdrawn).to_bytes(2, "big") + withdrawn + len(attributes).to_bytes(2, "big") + attributes + prefixes
+    return b"\xff" * 16 + (19 + len(body)).to_bytes(2, "big") + b"\2" + body
+
+
+def route(path, host):
+    """ORIGIN, AS_PATH (one sequence) and NEXT_HOP (172.16.1.host)."""
+    numbers = b"".join(number.to_bytes(2, "big") for number in path)
+    return b"\x40\1\1\0\x40\2" + bytes([len(numbers) + 2, 2, len(path)]) + numbers + bytes.fromhex("400304ac1001") + bytes([host])
+
+
 def update(attributes, prefixes, number=65002, host=2):
     """An UPDATE message that announces prefixes with these attributes beside ORIGIN, AS_PATH (of one AS) and NEXT_HOP (172.16.1.host)."""
-    block = bytes.fromhex("400101004002040201") + number.to_bytes(2, "big") + bytes.fromhex("400304ac1001") + bytes([host]) + attributes
-    body = b"\0\0" + len(block).to_bytes(2, "big") + block + prefixes
-    return b"\xff" * 16 + (19 + len(body)).to_bytes(2, "big") + b"\2" + body
+    return message(b"", route([number], host) + attributes, prefixes)
 
 
 def many_prefixes():
@@ -213,13 +223,18 @@ def line(*words):
     return " ".join(words).encode() + b"\n"
 
 
-def exchange_of_three(out):
-    """A with port 1, B with ports 2 and 3, C with port 4; B and C announce one prefix, and C another."""
-    out.write(b"exchange 100.64.0.0 65536 1000000\n")
-    for number, name in enumerate("ABC", 1):
+def declared(out, names, ports, size=65536, capacity=1000000):
+    """Participants of AS 65001 and so on, and their ports: the owner of each, from port 1 on."""
+    out.write(line("exchange", "100.64.0.0", str(size), str(capacity)))
+    for number, name in enumerate(names, 1):
         out.write(line("participant", name, str(65000 + number), f"1.0.0.{number}"))
-    for name, number in (("A", 1), ("B", 2), ("B", 3), ("C", 4)):
+    for number, name in enumerate(ports, 1):
         out.write(line("port", name, str(number), f"172.16.1.{number}", f"02:00:00:00:00:{number:02x}"))
+
+
+def exchange_of_three(out, further=""):
+    """A with port 1, B with ports 2 and 3, C with port 4, and the owners of further ports; B and C announce one prefix, and C another."""
+    declared(out, "ABC", "ABBC" + further)
     for name, number, host, prefix in (("B", 65002, 2, b"\x08\x0a"), ("C", 65003, 4, b"\x08\x0a"), ("C", 65003, 4, b"\x08\x14")):
         out.write(line("update", name, update(b"", prefix, number, host).hex()))
 
@@ -276,10 +291,7 @@ TOLD = 5000
 
 def exchange_of_two(out):
     """A with port 1, B with port 2."""
-    out.write(b"exchange 100.64.0.0 65536 1000000\n")
-    for name, number in (("A", 1), ("B", 2)):
-        out.write(line("participant", name, str(65000 + number), f"1.0.0.{number}"))
-        out.write(line("port", name, str(number), f"172.16.1.{number}", f"02:00:00:00:00:{number:02x}"))
+    declared(out, "AB", "AB")
 
 
 def untold(out):
@@ -346,22 +358,49 @@ def receivers_of_four_fields(out):
         out.write(announced(n, b"\x08\x0a"))
 
 
+def exchange_of_many_ports(out):
+    """The exchange of three, where B has the ports from 5 to 254 besides."""
+    exchange_of_three(out, 250 * "B")
+
+
+def denied(last, actions):
+    """Tests by `!` of 15 values of each of three fields and of so many of a fourth, each before what its number makes of it."""
+    tests = tests_of("srcport", range(1, 16)) + tests_of("dstport", range(1, 16)) + tests_of("srcip", nets(15)) + tests_of("dstip", nets(last))
+    return "+".join(f"match(!{test})>>{actions(n)}" for n, test in enumerate(tests))
+
+
+def four_each(n):
+    """Four assignments that no other number has."""
+    return "(" + settings("srcport", range(4 * n + 1, 4 * n + 5)) + ")"
+
+
+def nine_each(n):
+    """Nine ways to set two fields that no other number has."""
+    return "(" + settings("srcport", range(3 * n, 3 * n + 3)) + ")>>(" + settings("dstport", range(3)) + ")"
+
+
 EACH = "+".join(f"fwd({named(n)})" for n in range(1, 255))
+PORTS = "+".join(f"fwd({port})" for port in range(5, 255))
 SLOWEST = [
     ("out, 65536 meets of four fields", exchange_of_three, ("out", "A"), four_fields(1, 15, ">>fwd(C)")),
-    ("in, the same", exchange_of_three, ("in", "B"), four_fields(1, 15, ">>fwd(2)")),
-    ("out, the same, to a receiver that tests 15 other values of each", receiver_of_four_fields, ("out", "A"), "(" + four_fields(1, 15, "") + ")>>fwd(B)"),
-    ("out, sixteen targets that test the same", receivers_of_four_fields, ("out", named(0)), "+".join(f"fwd({named(n)})" for n in range(1, 17))),
+    ("in, 65536 meets of four fields", exchange_of_three, ("in", "B"), four_fields(1, 15, ">>fwd(2)")),
+    ("out, 65536 meets, to a receiver that tests 15 other values of each", receiver_of_four_fields, ("out", "A"), "(" + four_fields(1, 15, "") + ")>>fwd(B)"),
+    ("out, one rule to sixteen receivers of 65536 rules each", receivers_of_four_fields, ("out", named(0)), "+".join(f"fwd({named(n)})" for n in range(1, 17))),
     ("out, 65536 meets of four fields and 254 targets each", exchange_of_256, ("out", named(0)), four_fields(1, 15, "") + "+" + EACH),
-    ("out, the same and `pass` up to 8192 octets", exchange_of_three, ("out", "A"), filled(four_fields(1, 15, ""), "+pass")),
-    ("out, the same before `pass` up to 8192 octets", exchange_of_three, ("out", "A"), filled("(" + four_fields(1, 15, "") + ")", ">>pass")),
+    ("out, 65536 meets and `pass` up to 8192 octets", exchange_of_three, ("out", "A"), filled(four_fields(1, 15, ""), "+pass")),
+    ("out, 65536 meets before `pass` up to 8192 octets", exchange_of_three, ("out", "A"), filled("(" + four_fields(1, 15, "") + ")", ">>pass")),
     ("out, 9801 rules of prefixes within prefixes, before themselves", exchange_of_three, ("out", "A"), twice(within(32)) + ">>fwd(C)"),
-    ("out, 15552 such rules", exchange_of_three, ("out", "A"), twice(inside(23, ())) + ">>fwd(C)"),
-    ("out, 29403 such rules", exchange_of_three, ("out", "A"), twice(inside(32, ())) + ">>fwd(C)"),
-    ("out, 58806 such rules", exchange_of_three, ("out", "A"), twice(inside(32, (1,))) + ">>fwd(C)"),
-    ("out, the same before themselves up to 8192 octets", exchange_of_three, ("out", "A"), repeated_before(inside(32, (1,)), "fwd(C)")),
+    ("out, 15552 rules of prefixes within prefixes", exchange_of_three, ("out", "A"), twice(inside(23, ())) + ">>fwd(C)"),
+    ("out, 29403 rules of prefixes within prefixes", exchange_of_three, ("out", "A"), twice(inside(32, ())) + ">>fwd(C)"),
+    ("out, 58806 rules of prefixes within prefixes", exchange_of_three, ("out", "A"), twice(inside(32, (1,))) + ">>fwd(C)"),
+    ("out, these 58806 rules before themselves up to 8192 octets", exchange_of_three, ("out", "A"), repeated_before(inside(32, (1,)), "fwd(C)")),
     ("in, 257 assignments and 65536 meets of four fields", exchange_of_three, ("in", "B"), assigned(16, 16) + "+" + four_fields(1, 15, "")),
     ("in, 1024 assignments and 65536 meets of four fields", exchange_of_three, ("in", "B"), assigned(33, 31) + "+" + four_fields(1, 15, "")),
+    ("in, 257 assignments and 29403 rules of prefixes within prefixes", exchange_of_three, ("in", "B"), assigned(16, 16) + "+" + twice(inside(32, ()))),
+    ("in, 1024 assignments and 29403 rules of prefixes within prefixes", exchange_of_three, ("in", "B"), assigned(33, 31) + "+" + twice(inside(32, ()))),
+    ("in, 60 tests by `!` of four fields, each before 4 assignments", exchange_of_three, ("in", "B"), denied(15, four_each)),
+    ("in, 58 tests by `!` of four fields, each before 9 assignments", exchange_of_three, ("in", "B"), denied(13, nine_each)),
+    ("in, 1024 assignments before 250 ports", exchange_of_many_ports, ("in", "B"), assigned(32, 32) + ">>(" + PORTS + ")"),
 ]
 
 
@@ -378,7 +417,22 @@ def all_at_once(out):
 PARSED = 200
 
 
-UNITS = 1000
+# participants, and how many prefixes
+DRAINED = [(3, (10000, 20000, 40000)), (16, (2500, 5000, 10000))]
+
+
+def drained(out, count, prefixes):
+    """B announces so many prefixes of length 24, each by an update of its own; then all of so many participants drain."""
+    further = [f"P{n}" for n in range(4, count + 1)]
+    declared(out, [*"ABC", *further], [*"ABBC", *further])
+    for n in range(prefixes):
+        out.write(line("update", "B", update(b"", bytes([24, 10, n >> 8, n & 255])).hex()))
+    for name in [*"ABC", *further]:
+        out.write(line("drain", name))
+
+
+# less than 200, so that in an exchange of 200 prefixes as in one of 20000 each unit places a tag
+UNITS = 150
 
 
 def grown(out, prefixes):
