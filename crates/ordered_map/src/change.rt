@@ -215,6 +215,38 @@ fn take_first<K: Drop, V: Drop>(tree: &mut Tree<K, V>) -> Option<Box<Node<K, V>>
     }
 }
 
+// Takes the box of the first entry out, and leaves the heights above it as they are: no path gets longer by that, and what
+// is taken from the front is mostly taken to its end.
+fn take_front<K: Drop, V: Drop>(tree: &mut Tree<K, V>) -> Option<Box<Node<K, V>>>
+    ensures first { IfSome result (λ first. entries_of tree.old ≡ own_entry first.value ++ entries_of tree.new) }
+    ensures full { IfSome result (λ first. IsTrue (is_full first.value)) }
+    ensures none { IfNone result (entries_of tree.old ≡ []) }
+    ensures left { IfNone result (entries_of tree.new ≡ []) }
+{
+    match tree {
+        Tree::Empty => None,
+        Tree::Fork(node) => match &mut **node {
+            Node::Blank => None,
+            Node::Full {
+                height: _,
+                key: _,
+                left,
+                right,
+                value: _,
+            } => match take_front(left) {
+                Some(first) => Some(first),
+                None => {
+                    let rest = mem::replace(right, Tree::Empty);
+                    match mem::replace(tree, rest) {
+                        Tree::Empty => None,
+                        Tree::Fork(first) => Some(first),
+                    }
+                }
+            },
+        },
+    }
+}
+
 /// Takes the first entry out. Its box waits for another entry, or is freed.
 pub(crate) fn take_least<K: Drop, V: Drop>(
     tree: &mut Tree<K, V>,
@@ -225,7 +257,7 @@ pub(crate) fn take_least<K: Drop, V: Drop>(
     ensures room { vec_len spare.old ≤ vec_len spare.new }
     ensures one { vec_len spare.new ≤ vec_len spare.old + (if is_some result then 1 else 0) }
 {
-    let mut node = take_first(tree)?;
+    let mut node = take_front(tree)?;
     match mem::replace(&mut *node, Node::Blank) {
         Node::Blank => unreachable!(),
         Node::Full {
