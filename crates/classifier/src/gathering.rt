@@ -77,7 +77,7 @@ fn key_of(pair: &(Assign, Loc)) -> Key
 }
 
 /// The set of the pairs.
-fn set_of(alloc: Global, pairs: &[(Assign, Loc)]) -> Result<HashSet<Key>, Memory>
+pub fn set_of(alloc: Global, pairs: &[(Assign, Loc)]) -> Result<HashSet<Key>, Memory>
     ensures { IfOk result (Knows pairs.now) }
 {
     let mut seen = HashSet::new(alloc);
@@ -104,6 +104,22 @@ fn push_new(
     Ok(())
 }
 
+/// Puts each of the pairs last, unless the set has it.
+pub fn push_each(
+    results: &mut Results,
+    seen: &mut HashSet<Key>,
+    others: &Results,
+) -> Result<(), Memory>
+    requires { Knows results.old seen.old }
+    ensures results { OnOk result (results.new ≡ add_all results.old others.now) }
+    ensures knows { OnOk result (Knows results.new seen.new) }
+{
+    for pair in others.items() {
+        push_new(results, seen, *pair)?;
+    }
+    Ok(())
+}
+
 /// Puts each of the pairs last, unless it is there.
 pub fn push_all(alloc: Global, results: &mut Results, others: &Results) -> Result<(), Memory>
     ensures { OnOk result (results.new ≡ add_all results.old others.now) }
@@ -112,10 +128,7 @@ pub fn push_all(alloc: Global, results: &mut Results, others: &Results) -> Resul
         return results.push_all(others);
     }
     let mut seen = set_of(alloc, results.items())?;
-    for pair in others.items() {
-        push_new(results, &mut seen, *pair)?;
-    }
-    Ok(())
+    push_each(results, &mut seen, others)
 }
 
 impl Gathering {

@@ -1,15 +1,20 @@
 //! Unions of results, kept for the next rules that join the same.
 
 ghost use Rattle.std.specs.Prelude.{◌≡◌, IfOk, IfSome, OnOk};
+ghost use Rattle.classifier.specs.Gathered.{Knows};
 ghost use Rattle.classifier.specs.Items.{add_all};
 
-use crate::gathering::push_all;
+use crate::gathering::{Key, push_all, push_each, set_of};
 use crate::results::Results;
 use net_types::{Memory, TryCopy};
 use std::alloc::Global;
+use std::collections::HashSet;
 
 /// So many results are joined at once, which is no more work than to look for their union.
 const FEW: usize = 16;
+
+/// So many results are joined to others by a set of these.
+const MANY: usize = 64;
 
 /// How many unions are kept.
 const MOST: usize = 16;
@@ -23,10 +28,20 @@ struct Union {
     ghost is: { both ≡ add_all first second },
 }
 
-/// Unions that were made. Where rules have many results, they often have one of a few lists, and share it.
+/// A union of many results, with the set of its pairs.
+#[derive(Drop)]
+struct Last {
+    both: Results,
+    seen: HashSet<Key>,
+    ghost knows: { Knows both seen },
+}
+
+/// Unions that were made. Where rules have many results, they often have one of a few lists, and share it. The set of the last
+/// one serves the next, where that joins more to it, as what stands behind many assignments is joined one by one.
 #[derive(Drop)]
 pub struct Unions {
     kept: Vec<Union>,
+    last: Option<Last>,
 }
 
 /// The union of two lists, where it was kept.
@@ -52,6 +67,16 @@ fn union_of(alloc: Global, first: &Results, second: &Results) -> Result<Results,
     let mut both = first.copy()?;
     push_all(alloc, &mut both, second)?;
     Ok(both)
+}
+
+/// The set of the pairs of a list: that of the last union, where it is this one.
+fn set_for(alloc: Global, last: Option<Last>, first: &Results) -> Result<HashSet<Key>, Memory>
+    ensures { IfOk result (Knows first.now) }
+{
+    match last {
+        Some(last) if last.both.equals(first) => Ok(last.seen),
+        _ => set_of(alloc, first.items()),
+    }
 }
 
 /// Keeps a union. Where there are many, the earlier ones go.
@@ -82,6 +107,7 @@ impl Unions {
     pub fn new(alloc: Global) -> Unions {
         Unions {
             kept: Vec::new(alloc),
+            last: None,
         }
     }
 
@@ -105,8 +131,27 @@ impl Unions {
         if let Some(both) = found(&self.kept, first, second) {
             return both.copy();
         }
-        let both = union_of(*self.kept.allocator(), first, second)?.shared()?;
+        let both = if first.is_empty() || second.len() < MANY {
+            union_of(*self.kept.allocator(), first, second)?.shared()?
+        } else {
+            self.many_joined(first, second)?
+        };
         keep(&mut self.kept, first, second, &both)?;
+        Ok(both)
+    }
+
+    /// The same, of second lists that are many, by a set of what is there.
+    fn many_joined(&mut self, first: &Results, second: &Results) -> Result<Results, Memory>
+        ensures { IfOk result (λ both. both ≡ add_all first.now second.now) }
+    {
+        let mut seen = set_for(*self.kept.allocator(), self.last.take(), first)?;
+        let mut both = first.copy()?;
+        push_each(&mut both, &mut seen, second)?;
+        let both = both.shared()?;
+        self.last = Some(Last {
+            both: both.copy()?,
+            seen,
+        });
         Ok(both)
     }
 }

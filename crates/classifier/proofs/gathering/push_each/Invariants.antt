@@ -1,7 +1,7 @@
 use Rattle.std.proofs.Common.{◌≡◌, drop}
 use Rattle.classifier.specs.Items.{add_all}
 use Rattle.classifier.specs.Gathered.{Knows}
-use Rattle.classifier.proofs.gathering.push_all.Given as goal
+use Rattle.classifier.proofs.gathering.push_each.Given as goal
 
 -- what is left makes the whole, and the set has the results
 abbrev pub invariant-loop-pair : goal.invariant-loop-pair
