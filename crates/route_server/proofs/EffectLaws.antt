@@ -139,7 +139,7 @@ module _ (names : Registered) (v w : Served) (r s : Routing) (cs : List Change) 
         touched = here ∙ ap (λ ps. ps ++ c.prefix ∷ []) h.touched
             ∙ sym (map-append (λ (d : Change). d.prefix) (filter test (take i cs)) (c ∷ []))
             ∙ ap (map (λ (d : Change). d.prefix)) (sym (kept_more test cs i c true within is (ap not (sym (same_is names v w r s c.prefix old c.row k) ∙ f.differs))));
-        sigs = map-append (λ (d : Effect). d.sig) es (e ∷ []) ∙ ap (λ xs. xs ++ e.sig ∷ []) h.sigs
+        sigs = map-append (λ (d : Effect). d.sig.value) es (e ∷ []) ∙ ap (λ xs. xs ++ e.sig.value ∷ []) h.sigs
             ∙ ap (λ x. map (signature now) (prefixes_of es) ++ x ∷ []) (f.sig ∙ new_sig names v w r s c.prefix old c.row k)
             ∙ sym (map-append (signature now) (prefixes_of es) (c.prefix ∷ [])) ∙ ap (map (signature now)) (sym here);
         bests = map-append (effect_bests cs) es (e ∷ []) ∙ ap (λ xs. xs ++ effect_bests cs e ∷ []) h.bests
@@ -242,7 +242,7 @@ effects_between r before s after cs ds es was then at are =
 pub proposal_is : (names : Registered) (v w : Served) (o : Option (List (List ExportRule))) (n : Option (Pid × List Pid)) (cs : List Change) (es : List Effect) → unwrap_or o v.rules ≡ w.rules → named_with n v.named ≡ w.named → AreRowsOf cs w.routes
     → AreEffects (routing names v) (routing names w) cs (length cs) es → IsRising is_before (map (λ (c : Change). c.prefix) cs)
     → ((q : RouteKey) → (Member q.prefix (map (λ (c : Change). c.prefix) cs) → ⊥) → get w.routes q ≡ get v.routes q) → ((p : Prefix) → (Member p (map (λ (c : Change). c.prefix) cs) → ⊥) → Differs (routing names v) (routing names w) p → ⊥)
-    → (AreOwned (routing names v) → AreOwned (routing names w)) → IsProposal (routing names v) (routing names w) (record { changes = cs; rules = o; named = n; touched = map (λ (e : Effect). e.prefix) es; sigs = map (λ (e : Effect). e.sig) es; bests = map (effect_bests cs) es })
+    → (AreOwned (routing names v) → AreOwned (routing names w)) → IsProposal (routing names v) (routing names w) (record { changes = cs; rules = o; named = n; touched = map (λ (e : Effect). e.prefix) es; sigs = map (λ (e : Effect). e.sig.value) es; bests = map (effect_bests cs) es })
 proposal_is names v w o n cs es own named rows k rising kept elsewhere owned = record {
   touched = touched_are (routing names v) (routing names w) cs es k rising elsewhere;
   sigs = k.sigs;

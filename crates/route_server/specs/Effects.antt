@@ -51,7 +51,7 @@ pub record IsEffect (r s : Routing) (old : List Held) (c : Change) (at : ℕ) (e
   pub differs : same_by_rows r s c.prefix old c.row ≡ false
   pub at_is : e.at ≡ at
   pub prefix_is : e.prefix ≡ c.prefix
-  pub sig : e.sig ≡ signature_of s c.prefix c.row
+  pub sig : e.sig.value ≡ signature_of s c.prefix c.row
   pub bests : map (place_attrs c.row) e.bests.items ≡ map (best_by_row s c.prefix c.row) (pids s)
 
 -- what a change does, or nothing where all stays the same
@@ -74,5 +74,5 @@ pub record AreRowsOf (cs : List Change) (m : FinMap route_cmp Attrs) : Type 0 wh
 -- what the first n changes do: one effect for each that does something, with what is true afterwards
 pub record AreEffects (r s : Routing) (cs : List Change) (n : ℕ) (es : List Effect) : Type 0 where
   pub touched : map (λ (e : Effect). e.prefix) es ≡ map (λ (c : Change). c.prefix) (filter (λ (c : Change). not (is_same r s c.prefix)) (take n cs))
-  pub sigs : map (λ (e : Effect). e.sig) es ≡ map (signature s) (map (λ (e : Effect). e.prefix) es)
+  pub sigs : map (λ (e : Effect). e.sig.value) es ≡ map (signature s) (map (λ (e : Effect). e.prefix) es)
   pub bests : map (effect_bests cs) es ≡ map (λ q. map (λ to. best_attrs s to q) (pids s)) (map (λ (e : Effect). e.prefix) es)

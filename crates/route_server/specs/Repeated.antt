@@ -21,7 +21,7 @@ AreUnruled rules = (n : ℕ) → rules_at rules n ≡ []
 -- what two changes do is the same, but for the place and the prefix of the second
 abbrev pub AreAlike : ℕ → Prefix → Option Effect → Option Effect → Type 0
 AreAlike at p None None = Unit {0}
-AreAlike at p (Some e) (Some f) = (f.at ≡ at) × (f.prefix ≡ p) × (f.sig ≡ e.sig) × (f.bests.items ≡ e.bests.items)
+AreAlike at p (Some e) (Some f) = (f.at ≡ at) × (f.prefix ≡ p) × (f.sig.value ≡ e.sig.value) × (f.bests.items ≡ e.bests.items)
 AreAlike at p None (Some f) = ⊥
 AreAlike at p (Some e) None = ⊥
 

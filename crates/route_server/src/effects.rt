@@ -28,6 +28,7 @@ use crate::terms::Terms;
 use net_types::{Attrs, Memory, Pid, Prefix, same_optional};
 use registry::Registry;
 use std::alloc::Global;
+use std::rc::Rc;
 
 /// The places of a participant's best route in the old row and in the new one.
 #[derive(Clone, Copy)]
@@ -150,7 +151,7 @@ fn effect_of(
     Ok(Some(Effect {
         at,
         prefix,
-        sig,
+        sig: Rc::new(alloc, sig)?,
         bests,
     }))
 }

@@ -51,7 +51,7 @@ impl Model for Proposal {
 
     ghost coded = { Prim.hlevel (codes, change.the_row.coded) };
 
-    ghost view = { λ a. record { changes = a.changes.items; rules = option_map (λ r. r.items) a.rules; named = a.named; touched = a.touched.items; sigs = map (λ (e : Effect). e.sig) a.effects.items; bests = map (effect_bests a.changes.items) a.effects.items } };
+    ghost view = { λ a. record { changes = a.changes.items; rules = option_map (λ r. r.items) a.rules; named = a.named; touched = a.touched.items; sigs = map (λ (e : Effect). e.sig.value) a.effects.items; bests = map (effect_bests a.changes.items) a.effects.items } };
 
     ghost invariant = { λ a. a.touched.items ≡ map (λ (e : Effect). e.prefix) a.effects.items };
 }
@@ -99,7 +99,7 @@ impl Proposal {
         named: Option<(Pid, Pids)>,
         effects: Vec<Effect>,
     ) -> Result<Proposal, Memory>
-        ensures { IfOk result (λ p. p ≡ record { changes = changes.items; rules = option_map (λ r. r.items) rules; named = named; touched = map (λ (e : Effect). e.prefix) effects.items; sigs = map (λ (e : Effect). e.sig) effects.items; bests = map (effect_bests changes.items) effects.items }) }
+        ensures { IfOk result (λ p. p ≡ record { changes = changes.items; rules = option_map (λ r. r.items) rules; named = named; touched = map (λ (e : Effect). e.prefix) effects.items; sigs = map (λ (e : Effect). e.sig.value) effects.items; bests = map (effect_bests changes.items) effects.items }) }
     {
         let touched = touched_by(alloc, effects.as_slice())?;
         Ok(Proposal {
@@ -150,7 +150,7 @@ impl Proposal {
         requires { at < length self.now.touched }
         ensures { slice_get self.now.sigs at ≡ Some result.now }
     {
-        &self.effects[at].sig
+        self.effects[at].sig.as_ref()
     }
 
     /// A participant's best attributes for a touched prefix afterwards; none where it has no best route for it.

@@ -12,7 +12,7 @@ use crate::change::Change;
 use crate::effect::Effect;
 use crate::held::Held;
 use crate::terms::Terms;
-use net_types::{ExportRules, Memory, Prefix, Same, TryCopy, same_attrs, same_items};
+use net_types::{ExportRules, Memory, Prefix, Same, same_attrs, same_items};
 use std::alloc::Global;
 
 /// A change with the row before it, and what it does.
@@ -71,7 +71,7 @@ fn moved(
     match effect {
         None => Ok(None),
         Some(effect) => {
-            let sig = effect.sig.copy()?;
+            let sig = effect.sig.clone()?;
             let bests = Vec::from_slice(alloc, effect.bests.as_slice())?;
             Ok(Some(Effect {
                 at,

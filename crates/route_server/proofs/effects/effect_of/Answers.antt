@@ -34,6 +34,6 @@ returns c =
           ∙ ap (λ row. list_all (λ to. same_option same_attrs (best_by_row r p old to) (best_by_row s p row to)) (pids r)) row_is)) ∙ c.if-both.false;
       at_is = refl;
       prefix_is = refl;
-      sig = c.in_ok-sig.ensures ∙ ap (signature_of s p) row_is;
+      sig = c.in_ok-new.ensures.ok ∙ c.in_ok-sig.ensures ∙ ap (signature_of s p) row_is;
       bests = chosen_bests s p c.args.change.now.row c.in_ok-bests.bests.items (subst (λ row. AreChosen s p row c.in_ok-bests.bests.items) row_is c.in_ok-bests.ensures);
     }
