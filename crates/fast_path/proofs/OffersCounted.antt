@@ -6,34 +6,35 @@ use Rattle.std.proofs.lemmas.List.{length-take-le}
 use Rattle.std.proofs.lemmas.List.Sums.{count_by-le-length, count_by_more_no, count_by_more_yes, sum_by-cons}
 use Rattle.events.specs.declared.TagChange.{TagChange}
 use Rattle.net_types.specs.Routes.{numbers}
+use Rattle.net_types.specs.Sets.{union_over}
 use Rattle.net_types.specs.declared.address.Pid.{Pid}
 use Rattle.fast_path.proofs.Loops.{rest_is}
 use Rattle.fast_path.proofs.OfferedPresent.{pid_at}
-use Rattle.fast_path.specs.Offers.{HaveRoom, advert_of, adverts_from, best_at, offer_count}
+use Rattle.fast_path.specs.Offers.{HaveRoom, advert_of, adverts_to, best_at, offer_count}
 use Rattle.fast_path.specs.declared.planned.Advert.{Advert}
 use Rattle.route_server.specs.Proposed.{Proposed}
 
 -- ---- the loops
 
 -- one participant more
-pub number_step : (f : Pid → Advert) (os more all : List Advert) (k count : ℕ) → k < count → os ++ map f (map pid_at (numbers k (count - k))) ≡ all → more ≡ os ++ f (pid_at k) ∷ [] → more ++ map f (map pid_at (numbers (k + 1) (count - (k + 1)))) ≡ all
+pub number_step : (f : Pid → List Advert) (os more all : List Advert) (k count : ℕ) → k < count → os ++ union_over f (map pid_at (numbers k (count - k))) ≡ all → more ≡ os ++ f (pid_at k) → more ++ union_over f (map pid_at (numbers (k + 1) (count - (k + 1)))) ≡ all
 number_step f os more all k count within before now =
-    ap (λ xs. xs ++ map f (map pid_at (numbers (k + 1) (count - (k + 1))))) now
-    ∙ append_assoc os (f (pid_at k) ∷ []) (map f (map pid_at (numbers (k + 1) (count - (k + 1)))))
-    ∙ ap (λ n. os ++ map f (map pid_at (numbers k n))) (let next : suc (count - (k + 1)) ≡ count - k = omega arith in next)
+    ap (λ xs. xs ++ union_over f (map pid_at (numbers (k + 1) (count - (k + 1))))) now
+    ∙ append_assoc os (f (pid_at k)) (union_over f (map pid_at (numbers (k + 1) (count - (k + 1)))))
+    ∙ ap (λ n. os ++ union_over f (map pid_at (numbers k n))) (let next : suc (count - (k + 1)) ≡ count - k = omega arith in next)
     ∙ before
 
 -- all participants
-pub number_end : (f : Pid → Advert) (os all : List Advert) (k count : ℕ) → count ≤ k → os ++ map f (map pid_at (numbers k (count - k))) ≡ all → os ≡ all
+pub number_end : (f : Pid → List Advert) (os all : List Advert) (k count : ℕ) → count ≤ k → os ++ union_over f (map pid_at (numbers k (count - k))) ≡ all → os ≡ all
 number_end f os all k count past before =
-    sym (append-nil os) ∙ ap (λ n. os ++ map f (map pid_at (numbers k n))) (let none : 0 ≡ count - k = omega arith in none) ∙ before
+    sym (append-nil os) ∙ ap (λ n. os ++ union_over f (map pid_at (numbers k n))) (let none : 0 ≡ count - k = omega arith in none) ∙ before
 
 -- one prefix more
-pub adverts_step : (p : Proposed) (whos : List Pid) (cs : List TagChange) (n : ℕ) (x : TagChange) (os more all : List Advert) → n < length cs → x ≡ get_or cs n x → os ++ adverts_from p whos n (drop n cs) ≡ all → more ≡ os ++ map (advert_of (best_at p n) x) whos → more ++ adverts_from p whos (n + 1) (drop (n + 1) cs) ≡ all
-adverts_step p whos cs n x os more all within is before now =
-    ap (λ xs. xs ++ adverts_from p whos (n + 1) (drop (n + 1) cs)) now
-    ∙ append_assoc os (map (advert_of (best_at p n) x) whos) (adverts_from p whos (n + 1) (drop (n + 1) cs))
-    ∙ ap (λ xs. os ++ adverts_from p whos n xs) (sym (rest_is cs n x within ∙ ap (λ y. y ∷ drop (n + 1) cs) (sym is)))
+pub adverts_step : (p : Proposed) (who : Pid) (cs : List TagChange) (n : ℕ) (x : TagChange) (os more all : List Advert) → n < length cs → x ≡ get_or cs n x → os ++ adverts_to p who n (drop n cs) ≡ all → more ≡ os ++ advert_of (best_at p n) x who ∷ [] → more ++ adverts_to p who (n + 1) (drop (n + 1) cs) ≡ all
+adverts_step p who cs n x os more all within is before now =
+    ap (λ xs. xs ++ adverts_to p who (n + 1) (drop (n + 1) cs)) now
+    ∙ append_assoc os (advert_of (best_at p n) x who ∷ []) (adverts_to p who (n + 1) (drop (n + 1) cs))
+    ∙ ap (λ xs. os ++ adverts_to p who n xs) (sym (rest_is cs n x within ∙ ap (λ y. y ∷ drop (n + 1) cs) (sym is)))
     ∙ before
 
 -- ---- counts

@@ -1,5 +1,5 @@
 -- What a proposal offers is what is present in the state afterwards, and what it doesn't offer is present as it was.
-use Rattle.std.proofs.Common.{◌≡◌, ℕ, zero, suc, ◌+◌, ◌<◌, ◌≤◌, List, [], ◌∷◌, ◌++◌, drop, length, map, sym, ap, subst, ◌∙◌, refl, arith, inl, inr}
+use Rattle.std.proofs.Common.{◌≡◌, ℕ, zero, suc, ◌+◌, ◌<◌, ◌≤◌, List, [], ◌∷◌, drop, length, map, sym, ap, subst, ◌∙◌, refl, arith, inl, inr}
 use Rattle.std.specs.Prelude.{Option, Some, None, slice_get, unwrap_or}
 use Rattle.std.specs.FinMap.{get}
 use Rattle.std.specs.Option.{option_and_then, option_map}
@@ -18,7 +18,7 @@ use Rattle.net_types.specs.Changes.{best_attrs}
 use Rattle.net_types.specs.Exports.{Routing}
 use Rattle.net_types.specs.Keys.{prefix_cmp}
 use Rattle.net_types.specs.Routes.{Candidate, best, pids}
-use Rattle.net_types.specs.Sets.{Member, union_over}
+use Rattle.net_types.specs.Sets.{Member}
 use Rattle.net_types.specs.declared.address.Pid.{Pid}
 use Rattle.net_types.specs.declared.address.Tag.{Tag}
 use Rattle.net_types.specs.declared.prefix.Prefix.{Prefix}
@@ -28,11 +28,10 @@ use Rattle.fast_path.proofs.CommittedMaps.{stands_or_not}
 use Rattle.fast_path.proofs.ListPlaces.{mapped_at}
 use Rattle.fast_path.proofs.OfferedPresent.{listed_at, pid_at}
 use Rattle.fast_path.specs.Grouping.{Known}
-use Rattle.fast_path.specs.Offers.{AreOffers, IsOffered, advert_of, adverts_from, best_at, entry_of, tagged}
+use Rattle.fast_path.specs.Offers.{AreOffers, IsOffered, advert_of, adverts_of, adverts_to, best_at, entry_of, tagged}
 use Rattle.fast_path.specs.declared.fresh.Fresh.{Fresh}
 use Rattle.fast_path.specs.declared.planned.Advert.{Advert}
 use Rattle.route_server.specs.Proposed.{Proposed}
-use Rattle.net_types.proofs.MemberLemmas.{same_map_on}
 
 -- ---- the touched prefixes with their tags
 
@@ -91,26 +90,30 @@ module _ (p : Proposed) (s : State) (ps : List Prefix) (bests : p.bests ≡ map 
   advert_is : (n : ℕ) (q : Prefix) (who : Pid) → slice_get p.bests n ≡ Some (bests_of q) → who.0 < length s.routing.participants → advert_of (best_at p n) (with_tag q) who ≡ advert q who
   advert_is n q who at within = λ i. record { who = who; prefix = q; entry = (ap (λ b. entry_of b (get s.tag q)) (best_is n q who at within) ∙ entry_is s who q) i }
 
-  adverts_are : (n : ℕ) (qs : List Prefix) → drop n p.bests ≡ map bests_of qs → adverts_from p (pids s.routing) n (map with_tag qs) ≡ union_over (λ q. map (advert q) (pids s.routing)) qs
-  adverts_are n [] left = refl
-  adverts_are n (q ∷ qs) left =
-      ap (λ os. os ++ adverts_from p (pids s.routing) (n + 1) (map with_tag qs)) (same_map_on (advert_of (best_at p n) (with_tag q)) (advert q) (pids s.routing) (λ who m.
-      advert_is n q who (first_left p.bests n (bests_of q) (map bests_of qs) left) (pid_within s.routing who m)))
-      ∙ ap (λ os. map (advert q) (pids s.routing) ++ os) (adverts_are (n + 1) qs (then_left p.bests n (bests_of q) (map bests_of qs) left))
+  adverts_are : (who : Pid) → who.0 < length s.routing.participants → (n : ℕ) (qs : List Prefix) → drop n p.bests ≡ map bests_of qs → adverts_to p who n (map with_tag qs) ≡ map (λ q. advert q who) qs
+  adverts_are who within n [] left = refl
+  adverts_are who within n (q ∷ qs) left =
+      ap (λ o. o ∷ adverts_to p who (n + 1) (map with_tag qs)) (advert_is n q who (first_left p.bests n (bests_of q) (map bests_of qs) left) within)
+      ∙ ap (λ os. advert q who ∷ os) (adverts_are who within (n + 1) qs (then_left p.bests n (bests_of q) (map bests_of qs) left))
+
+  abbrev adverts : List Advert
+  adverts = adverts_of p (pids s.routing) (map with_tag ps)
 
   -- each says what is present
-  advert_each : (qs : List Prefix) (o : Advert) → Member o (union_over (λ q. map (advert q) (pids s.routing)) qs) → (o.who.0 < length s.routing.participants) × (o.entry ≡ get (present s o.who) o.prefix)
-  advert_each qs o m =
-      let source = union-Member (λ q. map (advert q) (pids s.routing)) qs o m in
-      let image = map-Member (advert source.of) (pids s.routing) o source.gives in
+  advert_each : (o : Advert) → Member o adverts → (o.who.0 < length s.routing.participants) × (o.entry ≡ get (present s o.who) o.prefix)
+  advert_each o m =
+      let source = union-Member (λ who. adverts_to p who 0 (map with_tag ps)) (pids s.routing) o m in
+      let within = pid_within s.routing source.of source.stands in
+      let image = map-Member (λ q. advert q source.of) ps o (subst (Member o) (adverts_are source.of within 0 ps bests) source.gives) in
       subst (λ (x : Advert). (x.who.0 < length s.routing.participants) × (x.entry ≡ get (present s x.who) x.prefix)) (sym image.is)
-      (pid_within s.routing image.of image.stands, sym (present_is s image.of source.of))
+      (within, sym (present_is s source.of image.of))
 
   -- and every one of the prefixes is offered to every participant
-  advert_there : (qs : List Prefix) (who : Pid) (q : Prefix) → Member q qs → who.0 < length s.routing.participants → IsOffered (union_over (λ x. map (advert x) (pids s.routing)) qs) who q
-  advert_there qs who q m within = record {
+  advert_there : (who : Pid) (q : Prefix) → Member q ps → who.0 < length s.routing.participants → IsOffered adverts who q
+  advert_there who q m within = record {
     offer = advert q who;
-    stands = Member-union (λ x. map (advert x) (pids s.routing)) qs q (advert q who) m (Member-map (advert q) (pids s.routing) who (pid_listed s.routing who within));
+    stands = Member-union (λ to. adverts_to p to 0 (map with_tag ps)) (pids s.routing) who (advert q who) (pid_listed s.routing who within)
+        (subst (Member (advert q who)) (sym (adverts_are who within 0 ps bests)) (Member-map (λ x. advert x who) ps q m));
     to = refl;
     of = refl;
   }
@@ -121,12 +124,11 @@ module _ (s : State) (r : Routing) (p : Proposed) (touching : IsTouching s r p.t
   abbrev s1 : State
   s1 = retagged s r
 
-  pub offers_made : AreOffers s s1 (adverts_from p (pids r) 0 (map (λ q. let c : TagChange = record { prefix = q; tag = get s1.tag q } in c) p.touched))
-  offers_made = subst (AreOffers s s1) (sym (adverts_are p s1 p.touched bests 0 p.touched bests)) (record {
-    each = λ o m.
-        let at = advert_each p s1 p.touched bests p.touched o m in (subst (λ qs. o.who.0 < length qs) touching.alike.participants at.0, at.1);
+  pub offers_made : AreOffers s s1 (adverts_of p (pids r) (map (λ q. let c : TagChange = record { prefix = q; tag = get s1.tag q } in c) p.touched))
+  offers_made = record {
+    each = λ o m. let at = advert_each p s1 p.touched bests o m in (subst (λ qs. o.who.0 < length qs) touching.alike.participants at.0, at.1);
     all = λ who q within. elim (stands_or_not prefix_cmp prefixes_total prefix_tie p.touched q) [
-      | inl touched ↦ inl (advert_there p s1 p.touched bests p.touched who q touched (subst (λ qs. who.0 < length qs) (sym touching.alike.participants) within))
+      | inl touched ↦ inl (advert_there p s1 p.touched bests who q touched (subst (λ qs. who.0 < length qs) (sym touching.alike.participants) within))
       | inr other ↦ inr (others_stay_present s r p.touched touching q who within other)
     ];
-  })
+  }

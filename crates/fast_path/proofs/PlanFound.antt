@@ -42,7 +42,7 @@ use Rattle.fast_path.specs.Emptied.{emptied, is_left, old_tags}
 use Rattle.fast_path.specs.Grouping.{Known, groups_of, known_by, more_groups, moved_groups, part_by}
 use Rattle.fast_path.specs.LiveOnly.{AreDead, AreEmptied, group_signatures, group_tags, registered}
 use Rattle.fast_path.specs.Newly.{newly_tagged}
-use Rattle.fast_path.specs.Offers.{AreOffers, adverts_from, declared_pids, others, tagged}
+use Rattle.fast_path.specs.Offers.{AreOffers, adverts_of, declared_pids, others, tagged}
 use Rattle.fast_path.specs.Pairs.{fresh_pairs, gone_pairs, is_among, pair_at, part_pairs, staying, tag_pairs, untold, was_told}
 use Rattle.fast_path.specs.Planned.{group_kept, is_tag_below}
 use Rattle.fast_path.specs.Plans.{IsAsked, build_count}
@@ -214,7 +214,7 @@ module _ (s : State) (r : Routing) (is_rebuilt : Pair → Bool) (names : Registe
       pids_are = ap (λ qs. map (λ n. let who : Pid = record { 0 = n } in who) (numbers 0 (length qs))) (sym asked.shown.participants ∙ sym asked.alike.participants)
 
       pub offers_are : AreOffers s s1 draft.offers.items
-      offers_are = subst (AreOffers s s1) (sym (is.offers ∙ ap (adverts_from p (declared_pids names) 0) tagged_then ∙ ap (λ whos. adverts_from p whos 0 (map (λ q. let c : TagChange = record { prefix = q; tag = get s1.tag q } in c) p.touched)) pids_are)) (offers_made s r p touching asked.proposes.bests)
+      offers_are = subst (AreOffers s s1) (sym (is.offers ∙ ap (adverts_of p (declared_pids names)) tagged_then ∙ ap (λ whos. adverts_of p whos (map (λ q. let c : TagChange = record { prefix = q; tag = get s1.tag q } in c) p.touched)) pids_are)) (offers_made s r p touching asked.proposes.bests)
 
       -- ---- the pairs that go
 

@@ -8,7 +8,7 @@ use Rattle.fast_path.specs.Committing.{Block, classes_of, kept_of}
 use Rattle.fast_path.specs.Emptied.{emptied}
 use Rattle.fast_path.specs.Grouping.{known_by}
 use Rattle.fast_path.specs.Newly.{newly_tagged}
-use Rattle.fast_path.specs.Offers.{adverts_from, declared_pids, others, tagged}
+use Rattle.fast_path.specs.Offers.{adverts_of, declared_pids, others, tagged}
 use Rattle.fast_path.specs.Pairs.{built_pairs, dropped_pairs, gone_pairs, untold}
 use Rattle.fast_path.specs.declared.draft.Draft.{Draft}
 use Rattle.fast_path.specs.declared.fresh.Fresh.{Fresh}
@@ -39,7 +39,7 @@ pub record IsDraft (names : Registered) (classes : Classes) (pool : Tags) (was_t
   pub left : draft.emptied.items ≡ emptied classes.tag draft.tags
   pub dead : draft.dead.items ≡ untold was_told (emptied classes.tag draft.tags)
   pub newly : draft.newly ≡ newly_tagged classes.tag draft.tags
-  pub offers : draft.offers.items ≡ adverts_from proposal (declared_pids names) 0 (tagged_by classes pool proposal groups)
+  pub offers : draft.offers.items ≡ adverts_of proposal (declared_pids names) (tagged_by classes pool proposal groups)
 
 -- the plan is the draft with the blocks of its pairs
 pub record IsDrafted (draft : Draft) (proposal : Proposed) (built : List Block) (plan : Plan) : Type 0 where

@@ -1,5 +1,5 @@
 -- What becomes present of prefixes, and offering it (this exchange's own rule).
-use Rattle.std.specs.Prelude.{◌≡◌, ◌⊎◌, ℕ, ◌+◌, ◌<◌, ◌≤◌, nat_eq, not, List, [], ◌∷◌, ◌++◌, length, map, filter, count_by, slice_get, slice_set, unwrap_or, Option}
+use Rattle.std.specs.Prelude.{◌≡◌, ◌⊎◌, ℕ, ◌+◌, ◌<◌, ◌≤◌, nat_eq, not, List, [], ◌∷◌, length, map, filter, count_by, slice_get, slice_set, unwrap_or, Option}
 use Rattle.std.specs.FinMap.{FinMap, empty, get}
 use Rattle.std.specs.Option.{option_and_then, option_map}
 use Rattle.events.specs.Pending.{with_news}
@@ -13,7 +13,7 @@ use Rattle.fast_path.specs.declared.planned.Advert.{Advert}
 use Rattle.net_types.specs.Attributes.{same_option}
 use Rattle.net_types.specs.Keys.{prefix_cmp}
 use Rattle.net_types.specs.Routes.{numbers, pids}
-use Rattle.net_types.specs.Sets.{Member}
+use Rattle.net_types.specs.Sets.{Member, union_over}
 use Rattle.net_types.specs.declared.address.Pid.{Pid}
 use Rattle.net_types.specs.declared.address.Tag.{Tag}
 use Rattle.net_types.specs.declared.prefix.Prefix.{Prefix}
@@ -95,10 +95,14 @@ entry_of best tag = option_and_then (λ attrs. option_map (λ t. record { attrs 
 abbrev pub advert_of : (Pid → Option Attrs) → TagChange → Pid → Advert
 advert_of best c who = record { who = who; prefix = c.prefix; entry = entry_of (best who) c.tag }
 
--- prefixes with their tags, from a place of the proposal on, each offered to all of these participants
-abbrev pub adverts_from : Proposed → List Pid → ℕ → List TagChange → List Advert
-adverts_from p whos n [] = []
-adverts_from p whos n (c ∷ cs) = map (advert_of (best_at p n) c) whos ++ adverts_from p whos (n + 1) cs
+-- prefixes with their tags, from a place of the proposal on, offered to a participant
+abbrev pub adverts_to : Proposed → Pid → ℕ → List TagChange → List Advert
+adverts_to p who n [] = []
+adverts_to p who n (c ∷ cs) = advert_of (best_at p n) c who ∷ adverts_to p who (n + 1) cs
+
+-- all of them, offered to these participants one after the other
+abbrev pub adverts_of : Proposed → List Pid → List TagChange → List Advert
+adverts_of p whos cs = union_over (λ who. adverts_to p who 0 cs) whos
 
 -- those that are declared, in order
 abbrev pub declared_pids : Registered → List Pid

@@ -1,7 +1,7 @@
 //! What becomes present of the touched prefixes: each participant's best attributes with the prefix's tag.
 
-ghost use Rattle.std.specs.Prelude.{◌≡◌, ℕ, ◌≤◌, ◌<◌, ◌++◌, ◌∷◌, [], length, map, option_copied, slice_index, IfOk, OnOk};
-ghost use Rattle.fast_path.specs.Offers.{AreTo, HaveRoom, advert_of, adverts_from, best_at, declared_pids, entry_of, offer_count, offered_all};
+ghost use Rattle.std.specs.Prelude.{◌≡◌, ℕ, ◌≤◌, ◌<◌, ◌++◌, ◌∷◌, [], length, option_copied, slice_index, IfOk, OnOk};
+ghost use Rattle.fast_path.specs.Offers.{AreTo, HaveRoom, advert_of, adverts_of, adverts_to, best_at, declared_pids, entry_of, offer_count, offered_all};
 
 use crate::planned::Advert;
 use advert_queue::Adverts;
@@ -45,25 +45,24 @@ fn offer(
     Ok(())
 }
 
-/// Puts what the participants are offered of the prefix at a place last, in their order.
-fn offer_to_all(
-    names: &Registry,
+/// Puts what a participant is offered of the touched prefixes last, in their order.
+fn offer_each(
     proposal: &Proposal,
-    at: usize,
-    after: TagChange,
+    tagged: &[TagChange],
+    who: Pid,
     offers: &mut Vec<Advert>,
 ) -> Result<(), Memory>
-    requires { at < length proposal.now.touched }
-    ensures { OnOk result (offers.new.items ≡ offers.old.items ++ map (advert_of (best_at proposal.now at) after) (declared_pids names.now)) }
+    requires { length tagged.now ≤ length proposal.now.touched }
+    ensures { OnOk result (offers.new.items ≡ offers.old.items ++ adverts_to proposal.now who 0 tagged.now) }
 {
-    let count = names.participants().len() as u32;
-    for number in 0..count {
-        offer(proposal, at, after, Pid(number), offers)?;
+    for (at, &after) in tagged.iter().enumerate() {
+        offer(proposal, at, after, who, offers)?;
     }
     Ok(())
 }
 
-/// What the participants are offered of the touched prefixes, by the tags that these have afterwards.
+/// What the participants are offered of the touched prefixes, one after the other, by the tags that the prefixes have
+/// afterwards.
 pub fn offers_of(
     alloc: Global,
     names: &Registry,
@@ -71,11 +70,12 @@ pub fn offers_of(
     tagged: &[TagChange],
 ) -> Result<Vec<Advert>, Memory>
     requires { length tagged.now ≤ length proposal.now.touched }
-    ensures { IfOk result (λ offers. offers.items ≡ adverts_from proposal.now (declared_pids names.now) 0 tagged.now) }
+    ensures { IfOk result (λ offers. offers.items ≡ adverts_of proposal.now (declared_pids names.now) tagged.now) }
 {
-    let mut offers = Vec::new(alloc);
-    for (at, &after) in tagged.iter().enumerate() {
-        offer_to_all(names, proposal, at, after, &mut offers)?;
+    let count = names.participants().len() as u32;
+    let mut offers = Vec::with_capacity(alloc, tagged.len().saturating_mul(count as usize))?;
+    for number in 0..count {
+        offer_each(proposal, tagged, Pid(number), &mut offers)?;
     }
     Ok(offers)
 }

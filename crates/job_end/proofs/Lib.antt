@@ -1,4 +1,3 @@
-pub mod Loops
 pub mod MergedTags
 pub mod MergedOffers
 pub mod ChangedPairs

@@ -96,10 +96,10 @@ module _ (s : State) (steady : IsSteady (without_job s)) (moves : List (Prefix �
 
   offer_right : (o : Advert) → Member o (offers_of all whos moves) → (o.who.0 < length s.routing.participants) × (o.entry ≡ get (present s1 o.who) o.prefix)
   offer_right o m =
-      let of_move = union-Member (offers_at all whos) moves o m in
-      let of_who = union-Member (offers_to all of_move.of) whos o of_move.gives in
+      let of_who = union-Member (offers_at all moves) whos o m in
+      let of_move = union-Member (offers_to all of_who.of) moves o of_who.gives in
       let who : Pid = of_who.of in
-      let is = retold_one who of_move.of (get (present_to all who) of_move.of.0) o of_who.gives in
+      let is = retold_one who of_move.of (get (present_to all who) of_move.of.0) o of_move.gives in
       let known = declared who of_who.stands in
       subst (λ (x : Advert). (x.who.0 < length s.routing.participants) × (x.entry ≡ get (present s1 x.who) x.prefix)) (sym is.is)
       (known, sym (moved_at who of_move.of.0 of_move.of.1 is.entry known of_move.stands is.there))
@@ -113,7 +113,7 @@ module _ (s : State) (steady : IsSteady (without_job s)) (moves : List (Prefix �
           let here : Member o (retold who (p, u) (get (present_to all who) p)) = subst (λ x. Member o (retold who (p, u) x)) (sym now) (inl refl) in
           inl (record {
             offer = o;
-            stands = Member-union (offers_at all whos) moves (p, u) o m (Member-union (offers_to all (p, u)) whos who o (listed who known) here);
+            stands = Member-union (offers_at all moves) whos who o (listed who known) (Member-union (offers_to all who) moves (p, u) o m here);
             to = refl;
             of = refl;
           })

@@ -19,13 +19,13 @@ retold who m None = []
 retold who m (Some e) = record { who = who; prefix = m.0; entry = Some (record { attrs = e.attrs; tag = m.1 }) } ∷ []
 
 -- what a participant is offered of a moved prefix
-abbrev pub offers_to : Present → Move → Pid → List Advert
-offers_to all m who = retold who m (get (present_to all who) m.0)
+abbrev pub offers_to : Present → Pid → Move → List Advert
+offers_to all who m = retold who m (get (present_to all who) m.0)
 
--- what these participants are offered of it
-abbrev pub offers_at : Present → List Pid → Move → List Advert
-offers_at all whos m = union_over (offers_to all m) whos
+-- what it is offered of each of the moved prefixes
+abbrev pub offers_at : Present → List Move → Pid → List Advert
+offers_at all moves who = union_over (offers_to all who) moves
 
--- and of each of the moved prefixes
+-- and what these participants are offered, one after the other
 abbrev pub offers_of : Present → List Pid → List Move → List Advert
-offers_of all whos moves = union_over (offers_at all whos) moves
+offers_of all whos moves = union_over (offers_at all moves) whos

@@ -21,7 +21,7 @@ fn offer(
     offers: &mut Vec<Advert>,
 ) -> Result<(), Memory>
     requires { HasQueue adverts.now who }
-    ensures { OnOk result (offers.new.items ≡ offers.old.items ++ offers_to adverts.now.present moved who) }
+    ensures { OnOk result (offers.new.items ≡ offers.old.items ++ offers_to adverts.now.present who moved) }
 {
     let (prefix, tag) = moved;
     let Some(present) = adverts.present(who, prefix) else {
@@ -33,24 +33,23 @@ fn offer(
     Ok(())
 }
 
-/// Puts what the participants are offered of a moved prefix last, in their order.
-fn offer_to_all(
-    names: &Registry,
+/// Puts what a participant is offered of the prefixes that move last, in their order.
+fn offer_each(
     adverts: &Adverts,
-    moved: (Prefix, Tag),
+    who: Pid,
+    moves: &[(Prefix, Tag)],
     offers: &mut Vec<Advert>,
 ) -> Result<(), Memory>
-    requires { length names.now.participants ≡ length adverts.now.told }
-    ensures { OnOk result (offers.new.items ≡ offers.old.items ++ offers_at adverts.now.present (declared_pids names.now) moved) }
+    requires { HasQueue adverts.now who }
+    ensures { OnOk result (offers.new.items ≡ offers.old.items ++ offers_at adverts.now.present moves.now who) }
 {
-    let count = names.participants().len() as u32;
-    for number in 0..count {
-        offer(adverts, Pid(number), moved, offers)?;
+    for &moved in moves {
+        offer(adverts, who, moved, offers)?;
     }
     Ok(())
 }
 
-/// What the participants are offered of the prefixes that move.
+/// What the participants are offered of the prefixes that move, one after the other.
 pub fn offers_of(
     alloc: Global,
     names: &Registry,
@@ -60,9 +59,10 @@ pub fn offers_of(
     requires { length names.now.participants ≡ length adverts.now.told }
     ensures { IfOk result (λ offers. offers.items ≡ offers_of adverts.now.present (declared_pids names.now) moves.now) }
 {
+    let count = names.participants().len() as u32;
     let mut offers = Vec::new(alloc);
-    for &moved in moves {
-        offer_to_all(names, adverts, moved, &mut offers)?;
+    for number in 0..count {
+        offer_each(adverts, Pid(number), moves, &mut offers)?;
     }
     Ok(offers)
 }

@@ -1,7 +1,12 @@
 -- with those of the rest they are all
-use Rattle.std.proofs.Common.{◌≡◌, ◌++◌, drop}
-use Rattle.fast_path.specs.Offers.{adverts_from, declared_pids}
+use Rattle.std.proofs.Common.{◌≡◌, ◌-◌, ◌++◌, length, map}
+use Rattle.net_types.specs.Routes.{numbers}
+use Rattle.net_types.specs.Sets.{union_over}
+use Rattle.fast_path.specs.Offers.{adverts_of, adverts_to, declared_pids}
+use Rattle.fast_path.proofs.OfferedPresent.{pid_at}
 use Rattle.fast_path.proofs.offering.offers_of.Given as goal
 
-abbrev pub invariant-loop-at : goal.invariant-loop-at
-invariant-loop-at l = l.offers.items ++ adverts_from l.proposal (declared_pids l.names) l.at (drop l.at l.tagged) ≡ adverts_from l.proposal (declared_pids l.names) 0 l.tagged
+abbrev pub invariant-loop-number : goal.invariant-loop-number
+invariant-loop-number l =
+    l.offers.items ++ union_over (λ who. adverts_to l.proposal who 0 l.tagged) (map pid_at (numbers l.number (length l.names.participants - l.number)))
+    ≡ adverts_of l.proposal (declared_pids l.names) l.tagged
