@@ -41,11 +41,27 @@ impl Switch {
     ) -> Result<Frames, Memory>
         ensures { IfOk result (λ frames. frames ≡ out names.now.ports frame.now (first_match self.now.table port frame.now)) }
     {
-        let mut frames = Vec::new(alloc);
-        if let Some(fields) = headers(port, frame) {
-            let actions = self.decide_on(port, frame, &fields);
-            push_frames(alloc, names, frame, &fields, actions, &mut frames)?;
+        match headers(port, frame) {
+            Some(fields) => self.forward_read(alloc, names, &fields, frame),
+            None => Ok(Items::new(alloc)),
         }
+    }
+
+    /// The frames that leave where a frame comes in whose headers were read: those of `forward` at the port of the headers.
+    /// Memory is the only refusal.
+    pub fn forward_read(
+        &self,
+        alloc: Global,
+        names: &Registry,
+        fields: &Headers,
+        frame: &[u8],
+    ) -> Result<Frames, Memory>
+        requires { headers_of fields.now.inport frame.now ≡ Some fields.now }
+        ensures { IfOk result (λ frames. frames ≡ out names.now.ports frame.now (first_match self.now.table fields.now.inport frame.now)) }
+    {
+        let actions = self.decide_on(fields.inport, frame, fields);
+        let mut frames = Vec::new(alloc);
+        push_frames(alloc, names, frame, fields, actions, &mut frames)?;
         Ok(Items::from_vec(ascending(frames)))
     }
 
