@@ -7,7 +7,7 @@ ghost use Rattle.exchange_core.specs.Placed.{is_declared};
 use events::{Event, Phase};
 
 /// Whether the pool and the table are declared, so that routes and datagrams may come.
-pub fn is_declared(phase: Phase) -> bool
+fn is_declared(phase: Phase) -> bool
     ensures { result ≡ is_declared phase }
 {
     match phase {

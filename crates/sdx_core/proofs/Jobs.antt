@@ -1,12 +1,12 @@
 -- An exchange with its job: what a line does to both.
-use Rattle.std.proofs.Common.{◌≡◌, ℕ, ◌+◌, ◌-◌, ◌<◌, ◌≤◌, true, false, sym, ap, subst, ◌∙◌, refl}
+use Rattle.std.proofs.Common.{◌≡◌, ℕ, ◌+◌, ◌-◌, ◌<◌, ◌≤◌, true, false, cond, sym, ap, subst, ◌∙◌, refl}
 use Rattle.std.specs.Prelude.{Option, Some, None, is_some, List, [], length, Result, Ok, Err, IfOk, OnErr}
 use Rattle.std.specs.Option.{option_map}
 use Rattle.std.specs.FinMap.{FinMap, entries, keys}
 use Rattle.events.specs.After.{all_units, next, running}
 use Rattle.events.specs.Fits.{Fits, FitsBy, IsStep, bare, is_of_job}
 use Rattle.events.specs.Forms.{IsWellFormed}
-use Rattle.events.specs.Refusals.{refusal}
+use Rattle.events.specs.Refusals.{is_placed, refusal, refusal_in_place}
 use Rattle.events.specs.State.{State}
 use Rattle.events.specs.Tags.{capped}
 use Rattle.events.specs.declared.Event.{Event}
@@ -147,26 +147,22 @@ pub starts_beside : (s : State) (job : Option Underway) → is_some job ≡ true
 starts_beside s None runs = absurd (cc)
 starts_beside s (Some j) runs = refl
 
--- nor before the pool is declared
-pub starts_undeclared : (s : State) (job : Option Underway) → is_declared s.phase ≡ false → refusal (with_job s job) Recompile ≡ Some Misplaced
-starts_undeclared s job early = by s.phase refl job
-  where
-    by : (phase : Phase) → s.phase ≡ phase → (job : Option Underway) → refusal (with_job s job) Recompile ≡ Some Misplaced
-    by Start at None = ap (λ p. refusal (record s { phase = p; owed = None }) Recompile) at
-    by Start at (Some j) = refl
-    by Declaring at job = absurd (let no = sym (ap is_declared at) ∙ early in cc)
-    by Running at job = absurd (let no = sym (ap is_declared at) ∙ early in cc)
+-- nor where the line isn't in place
+pub starts_misplaced : (s : State) (job : Option Underway) → is_placed s.phase Recompile ≡ false → refusal (with_job s job) Recompile ≡ Some Misplaced
+starts_misplaced s None early = ap (λ b. cond b (refusal_in_place (with_job s None) Recompile) (Some Misplaced)) early
+starts_misplaced s (Some j) early = refl
 
 -- else one does
-pub starts : (s : State) → is_declared s.phase ≡ true → refusal (with_job s None) Recompile ≡ None
-starts s declared = by s.phase refl
-  where
-    by : (phase : Phase) → s.phase ≡ phase → refusal (with_job s None) Recompile ≡ None
-    by Start at = absurd (let no = sym (ap is_declared at) ∙ declared in cc)
-    by Declaring at = ap (λ p. refusal (record s { phase = p; owed = None }) Recompile) at
-    by Running at = ap (λ p. refusal (record s { phase = p; owed = None }) Recompile) at
+pub starts : (s : State) → is_placed s.phase Recompile ≡ true → refusal (with_job s None) Recompile ≡ None
+starts s placed = ap (λ b. cond b (refusal_in_place (with_job s None) Recompile) (Some Misplaced)) placed
 
-module _ (s : State) (j : Underway) (reply : Reply) (accepted : RecompilesAreAccepted) (begins : JobsBegin) (steady : IsSteady s) (kept : IsKept s None) (declared : is_declared s.phase ≡ true)
+-- then the pool is declared
+pub starts_declared : (phase : Phase) → is_placed phase Recompile ≡ true → is_declared phase ≡ true
+starts_declared Start placed = absurd (cc)
+starts_declared Declaring placed = refl
+starts_declared Running placed = refl
+
+module _ (s : State) (j : Underway) (reply : Reply) (accepted : RecompilesAreAccepted) (begins : JobsBegin) (steady : IsSteady s) (kept : IsKept s None) (placed : is_placed s.phase Recompile ≡ true)
     (covers : CoversListed s.tag [] (keys s.table) j) (owes : j.owed ≡ capped (length (entries s.tag) + length (keys s.table))) (says : reply ≡ bare (Working j.owed)) where
   abbrev start : State
   start = with_job s None
@@ -178,7 +174,7 @@ module _ (s : State) (j : Underway) (reply : Reply) (accepted : RecompilesAreAcc
   units = begun.0
 
   started : (next start Recompile (bare (Working (all_units start))) ≡ owing start (all_units start)) × Fits start Recompile (bare (Working (all_units start))) × IsSteadyInJob (owing start (all_units start))
-  started = accepted start (in_job s None steady kept) (starts s declared)
+  started = accepted start (in_job s None steady kept) (starts s placed)
 
   start_next : next start Recompile (bare (Working j.owed)) ≡ owing start j.owed
   start_next = subst (λ n. next start Recompile (bare (Working n)) ≡ owing start n) (sym units) started.0
@@ -201,26 +197,22 @@ module _ (s : State) (j : Underway) (reply : Reply) (accepted : RecompilesAreAcc
 pub works_without : (s : State) (job : Option Underway) (units : ℕ) → job ≡ None → refusal (with_job s job) (Work units) ≡ Some Misplaced
 works_without s job units is = ap (λ o. refusal (with_job s o) (Work units)) is
 
--- nor before the pool is declared
-pub works_undeclared : (s : State) (job : Option Underway) (units : ℕ) → is_declared s.phase ≡ false → refusal (with_job s job) (Work units) ≡ Some Misplaced
-works_undeclared s job units early = by s.phase refl job
-  where
-    by : (phase : Phase) → s.phase ≡ phase → (job : Option Underway) → refusal (with_job s job) (Work units) ≡ Some Misplaced
-    by Start at None = refl
-    by Start at (Some j) = ap (λ p. refusal (record s { phase = p; owed = Some j.owed }) (Work units)) at
-    by Declaring at job = absurd (let no = sym (ap is_declared at) ∙ early in cc)
-    by Running at job = absurd (let no = sym (ap is_declared at) ∙ early in cc)
+-- nor where the line isn't in place
+pub works_misplaced : (s : State) (job : Option Underway) (units : ℕ) → is_placed s.phase (Work units) ≡ false → refusal (with_job s job) (Work units) ≡ Some Misplaced
+works_misplaced s None n early = refl
+works_misplaced s (Some j) n early = ap (λ b. cond b (refusal_in_place (with_job s (Some j)) (Work n)) (Some Misplaced)) early
 
 -- else it does
-pub works : (s : State) (j : Underway) (units : ℕ) → is_declared s.phase ≡ true → refusal (with_job s (Some j)) (Work units) ≡ None
-works s j units declared = by s.phase refl
-  where
-    by : (phase : Phase) → s.phase ≡ phase → refusal (with_job s (Some j)) (Work units) ≡ None
-    by Start at = absurd (let no = sym (ap is_declared at) ∙ declared in cc)
-    by Declaring at = ap (λ p. refusal (record s { phase = p; owed = Some j.owed }) (Work units)) at
-    by Running at = ap (λ p. refusal (record s { phase = p; owed = Some j.owed }) (Work units)) at
+pub works : (s : State) (j : Underway) (units : ℕ) → is_placed s.phase (Work units) ≡ true → refusal (with_job s (Some j)) (Work units) ≡ None
+works s j units placed = ap (λ b. cond b (refusal_in_place (with_job s (Some j)) (Work units)) (Some Misplaced)) placed
 
-module _ (s : State) (j j' : Underway) (units left : ℕ) (reply : Reply) (accepted : WorksAreAccepted) (steady : IsSteady s) (kept : IsKept s (Some j)) (declared : is_declared s.phase ≡ true)
+-- then the pool is declared
+pub works_declared : (phase : Phase) (units : ℕ) → is_placed phase (Work units) ≡ true → is_declared phase ≡ true
+works_declared Start units placed = absurd (cc)
+works_declared Declaring units placed = refl
+works_declared Running units placed = refl
+
+module _ (s : State) (j j' : Underway) (units left : ℕ) (reply : Reply) (accepted : WorksAreAccepted) (steady : IsSteady s) (kept : IsKept s (Some j)) (placed : is_placed s.phase (Work units) ≡ true)
     (less : units < j.owed) (leaves : left ≡ j.owed - units) (owes : j'.owed ≡ left) (covers : Covers (setting_of s) j') (says : reply ≡ bare (Working left)) where
   abbrev work : State
   work = with_job s (Some j)
@@ -229,7 +221,7 @@ module _ (s : State) (j j' : Underway) (units left : ℕ) (reply : Reply) (accep
   rest = owes ∙ leaves
 
   is_worked : (next work (Work units) (bare (Working (j.owed - units))) ≡ owing work (j.owed - units)) × Fits work (Work units) (bare (Working (j.owed - units))) × IsSteadyInJob (owing work (j.owed - units))
-  is_worked = accepted work units j.owed (in_job s (Some j) steady kept) (works s j units declared) refl less
+  is_worked = accepted work units j.owed (in_job s (Some j) steady kept) (works s j units placed) refl less
 
   pub worked_step : IsStep work (Work units) reply (with_job (running s) (Some j'))
   worked_step = record {
@@ -255,10 +247,10 @@ pub ready_enough : (s : Setting) (units : ℕ) (old new : Underway) (p : Progres
 ready_enough s units old new p swap is progress = (subst (IsProgress s units old new) is progress).0
 
 -- the job has ended
-pub ended_step : (s s' : State) (j : Underway) (units : ℕ) (reply : Reply) → IsSteady s → IsSteady s' → IsKept s (Some j) → is_declared s.phase ≡ true → j.owed ≤ units → EndsJob s reply s' → IsStep (with_job s (Some j)) (Work units) reply (with_job s' None)
-ended_step s s' j units reply steady steady' kept declared enough ends =
+pub ended_step : (s s' : State) (j : Underway) (units : ℕ) (reply : Reply) → IsSteady s → IsSteady s' → IsKept s (Some j) → is_placed s.phase (Work units) ≡ true → j.owed ≤ units → EndsJob s reply s' → IsStep (with_job s (Some j)) (Work units) reply (with_job s' None)
+ended_step s s' j units reply steady steady' kept placed enough ends =
     subst (IsStep (with_job s (Some j)) (Work units) reply) (sym (core_is s' None steady'))
-    (ends (with_job s (Some j)) units j.owed (core_is s (Some j) steady) kept.few (works s j units declared) refl enough)
+    (ends (with_job s (Some j)) units j.owed (core_is s (Some j) steady) kept.few (works s j units placed) refl enough)
 
 pub ended_kept : (s : State) → IsKept s None
 ended_kept s = record { has = refl; few = tt }

@@ -8,7 +8,7 @@ ghost use Rattle.exchange_core.specs.Placed.{is_declared};
 ghost use Rattle.exchange_laws.specs.Steady.{IsSteady};
 
 use super::Core;
-use crate::line_order::{is_declared, is_placed};
+use crate::line_order::is_placed;
 use events::{Event, Phase};
 use exchange_laws::tags_are_counted;
 
@@ -20,15 +20,9 @@ impl Core {
         let _phase = self.phase;
     }
 
-    /// Whether the pool and the table are declared, so that any line but a declaration may come.
-    pub fn is_declared(&self) -> bool
-        ensures { result ≡ is_declared self.now.phase }
-    {
-        is_declared(self.phase)
-    }
-
-    /// Whether a line is in place.
-    pub(super) fn is_placed(&self, event: &Event) -> bool
+    /// Whether a line is in place: the pool and the table come first and once, and participants and ports before all lines
+    /// but these. Whether a job runs isn't looked at.
+    pub fn is_placed(&self, event: &Event) -> bool
         ensures { result ≡ is_placed self.now.phase event.now }
     {
         is_placed(self.phase, event)

@@ -47,7 +47,7 @@ impl Sdx {
         if self.job.is_some() {
             return Ok(refused(self.alloc, Refusal::Misplaced));
         }
-        if !self.core.is_declared() {
+        if !self.core.is_placed(&Event::Recompile) {
             return Ok(refused(self.alloc, Refusal::Misplaced));
         }
         let pairs = self.core.pairs()?;
@@ -70,7 +70,7 @@ impl Sdx {
     {
         works_are_accepted();
         self.core.is_steady();
-        if !self.core.is_declared() {
+        if !self.core.is_placed(&Event::Work { units }) {
             return Ok(refused(self.alloc, Refusal::Misplaced));
         }
         let Some(job) = &mut self.job else {
