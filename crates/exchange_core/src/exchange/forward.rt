@@ -6,6 +6,7 @@ ghost use Rattle.events.specs.Fits.{IsStep};
 ghost use Rattle.events.specs.Resolving.{is_resolved};
 ghost use Rattle.events.specs.State.{port_of};
 ghost use Rattle.events.specs.declared.Event.TheVariants as lines;
+ghost use Rattle.net_types.specs.Frames.{headers_of};
 ghost use Rattle.exchange_core.specs.Leaving.{sent_by};
 ghost use Rattle.exchange_core.specs.Placed.{is_declared};
 ghost use Rattle.exchange_core.specs.Stops.{IsStop};
@@ -16,7 +17,7 @@ use crate::replies::bare_reply;
 use crate::stop::Stop;
 use events::{Head, Phase, Refusal, Reply};
 use ip_frame::{headers, wrap};
-use net_types::{Bytes, Ip, Memory, PortInfo, PortNo, Tag};
+use net_types::{Bytes, Headers, Ip, Memory, PortInfo, PortNo, Tag};
 use next_hop_pool::vmac;
 
 impl Core {
@@ -36,7 +37,7 @@ impl Core {
             return Err(Refusal::BadPacket.into());
         };
         let reply = match self.adverts.longest(source.owner, fields.dst) {
-            Some((_, entry)) => self.sent(&source, entry.tag, frame)?,
+            Some((_, entry)) => self.sent(&source, &fields, entry.tag, frame)?,
             None => bare_reply(self.alloc, Head::Unrouted),
         };
         self.phase = Phase::Running;
@@ -61,10 +62,17 @@ impl Core {
         Ok(reply)
     }
 
-    /// The router sends a frame to a tag that it was told, where it has resolved the tag's address.
-    fn sent(&self, source: &PortInfo, tag: Tag, mut frame: Vec<u8>) -> Result<Reply, Memory>
+    /// The router sends a frame, whose headers were read, to a tag that it was told, where it has resolved the tag's address.
+    fn sent(
+        &self,
+        source: &PortInfo,
+        fields: &Headers,
+        tag: Tag,
+        mut frame: Vec<u8>,
+    ) -> Result<Reply, Memory>
         requires small { tag.0 ≤ 65536 }
         requires whole { 6 ≤ length frame.items }
+        requires read { headers_of source.now.number frame.items ≡ Some fields.now }
         ensures { IfOk result (λ reply. reply ≡ sent_by self.now source.now tag frame.items) }
     {
         let next_hop = Ip(self.base.0 + tag.0);
@@ -76,7 +84,7 @@ impl Core {
         let mut reply = bare_reply(self.alloc, Head::Fine);
         reply.frames = self
             .switch
-            .forward(self.alloc, names, source.number, frame.as_slice())?;
+            .forward_read(self.alloc, names, fields, frame.as_slice())?;
         Ok(reply)
     }
 
