@@ -401,9 +401,11 @@ SLOWEST = [
     ("in, 60 tests by `!` of four fields, each before 4 assignments", exchange_of_three, ("in", "B"), denied(15, four_each)),
     ("in, 58 tests by `!` of four fields, each before 9 assignments", exchange_of_three, ("in", "B"), denied(13, nine_each)),
     ("in, 1024 assignments before 250 ports", exchange_of_many_ports, ("in", "B"), assigned(32, 32) + ">>(" + PORTS + ")"),
-    ("in, 65536 meets and 992 assignments before 250 ports", exchange_of_many_ports, ("in", "B"),
-     assigned(31, 32) + ">>(" + PORTS + ")+" + four_fields(1, 15, "")),
 ]
+
+# a policy that is accepted, and the reply to which has 248000 actions in each of 65536 rules
+ENDLESS = ("in, 65536 meets and 992 assignments before 250 ports", exchange_of_many_ports, ("in", "B"),
+           assigned(31, 32) + ">>(" + PORTS + ")+" + four_fields(1, 15, ""))
 
 
 def each_alone(out):
