@@ -1,4 +1,4 @@
-//! Many keys in ascending order, and their removal.
+//! Many keys in ascending order, and their removal: were paths long, these tests wouldn't end in their time.
 
 use ordered_map::OrderedMap;
 use std::test::Fail;
@@ -20,5 +20,20 @@ fn ascending_keys_come_and_go(rt: HostRuntime) -> Result<(), Fail> {
         assert!(rt; map.remove(&key) == Some(key), "key {key}");
     }
     assert!(rt; map.len() == 1);
+    Ok(())
+}
+
+#[test]
+fn the_first_key_goes_and_a_last_one_comes(rt: HostRuntime) -> Result<(), Fail> {
+    let mut map: OrderedMap<u32, u32> = OrderedMap::new(rt.alloc());
+    for key in 0..4096u32 {
+        map.insert(key, key)?;
+    }
+    for key in 0..131072u32 {
+        assert!(rt; map.take_first() == Some((key, key)), "key {key}");
+        let last = key.saturating_add(4096);
+        map.insert(last, last)?;
+    }
+    assert!(rt; map.len() == 4096);
     Ok(())
 }
