@@ -88,7 +88,7 @@ module _ {V : Type 0} where
 -- ---- room and the count
 
 module _ {V : Type 0} (t u : Trie V) (q : Prefix) (spare left room count : ℕ) (kept : IsKept t spare room count) (halves : IsTrie u) where
-  pub put_new : (v : V) → entries_of u ≡ put prefix_cmp q v (entries_of t) → is_some (find prefix_cmp q (entries_of t)) ≡ false → spare ≤ left + 2 → 0 < room → IsKept u left (room - 1) (count + 1)
+  pub put_new : (v : V) → entries_of u ≡ put prefix_cmp q v (entries_of t) → is_some (find prefix_cmp q (entries_of t)) ≡ false → spare ≤ left + 1 → 0 < room → IsKept u left (room - 1) (count + 1)
   put_new v is none less some =
       let size : length (entries_of u) ≡ length (entries_of t) + 1 = ap length is ∙ length-put prefix_cmp prefixes_total q v (entries_of t) (holds _ (trie_sorted t kept.halves)) ∙ ap (λ b. cond b (length (entries_of t)) (length (entries_of t) + 1)) none in
       record { halves = halves; boxes = omega (arith, less, kept.boxes); counted = omega (arith, size, kept.counted); fits = omega (arith, some, kept.fits) }

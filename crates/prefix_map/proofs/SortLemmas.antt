@@ -6,11 +6,10 @@ use Rattle.std.specs.FinMap.Entries.{is_sorted, below_all}
 use Rattle.std.proofs.lemmas.Bool.{and_parts, and_from}
 use Rattle.net_types.specs.Keys.{prefix_cmp}
 use Rattle.net_types.specs.declared.prefix.Prefix.{Prefix}
-use Rattle.prefix_map.specs.Entries.{own, entries_of, node_entries}
+use Rattle.prefix_map.specs.Entries.{own, entries_of}
 use Rattle.prefix_map.specs.Halves.{LiesLow}
-use Rattle.prefix_map.specs.Tries.{AllKeys, IsTrie, IsNode}
-use Rattle.prefix_map.specs.declared.trie.Trie.{Trie, Empty, Fork'}
-use Rattle.prefix_map.specs.declared.trie.Node.{Node, Blank, Full}
+use Rattle.prefix_map.specs.Tries.{AllKeys, IsTrie}
+use Rattle.prefix_map.specs.declared.trie.Trie.{Trie, Empty, Lone, Fork'}
 use Rattle.prefix_map.proofs.ListLemmas.{all_of, IsBefore}
 use Rattle.prefix_map.proofs.NodeLemmas.{all_after}
 use Rattle.prefix_map.proofs.StandLemmas.{low_before_high}
@@ -35,15 +34,11 @@ sorted_own : {V : Type 0} (at : Prefix) (held : Option V) (es : List (Prefix × 
 sorted_own at None es before h = h
 sorted_own at (Some v) es before h = and_from _ _ (below_before at es before) h
 
-mutual
-  pub trie_sorted : {V : Type 0} (t : Trie V) → IsTrie t → is_sorted prefix_cmp (entries_of t) ≡ true
-  trie_sorted Empty h = refl
-  trie_sorted (Fork' p node) h = node_sorted node h
-
-  node_sorted : {V : Type 0} (n : Node V) → IsNode n → is_sorted prefix_cmp (node_entries n) ≡ true
-  node_sorted Blank h = refl
-  node_sorted (Full at held low high) h =
-      let apart : AllKeys (λ p. IsBefore p (entries_of high)) (entries_of low) =
-      all_of (λ p (is : LiesLow at p). all_of (λ q there. low_before_high at p q is there) (entries_of high) h.1) (entries_of low) h.0 in
-      sorted_own at held (entries_of low ++ entries_of high) (all_after at held (entries_of low) (entries_of high) h.0 h.1)
-      (sorted_append (entries_of low) (entries_of high) (trie_sorted low h.2) (trie_sorted high h.3) apart)
+pub trie_sorted : {V : Type 0} (t : Trie V) → IsTrie t → is_sorted prefix_cmp (entries_of t) ≡ true
+trie_sorted Empty h = refl
+trie_sorted (Lone at value) h = refl
+trie_sorted (Fork' p at held low high) h =
+    let apart : AllKeys (λ p. IsBefore p (entries_of high)) (entries_of low) =
+    all_of (λ p (is : LiesLow at p). all_of (λ q there. low_before_high at p q is there) (entries_of high) h.1) (entries_of low) h.0 in
+    sorted_own at held (entries_of low ++ entries_of high) (all_after at held (entries_of low) (entries_of high) h.0 h.1)
+    (sorted_append (entries_of low) (entries_of high) (trie_sorted low h.2) (trie_sorted high h.3) apart)

@@ -7,8 +7,8 @@ use Rattle.net_types.specs.Keys.{prefix_cmp}
 use Rattle.net_types.specs.Prefixes.{covers}
 use Rattle.net_types.specs.declared.address.Ip.{Ip}
 use Rattle.net_types.specs.declared.prefix.Prefix.{Prefix}
-use Rattle.prefix_map.specs.declared.trie.Trie.{Trie, Empty, Fork'}
-use Rattle.prefix_map.specs.declared.trie.Node.{Node, Blank, Full}
+use Rattle.prefix_map.specs.declared.trie.Trie.{Trie, Empty, Lone, Fork'}
+use Rattle.prefix_map.specs.declared.trie.Node.{Node}
 use Rattle.net_types.specs.Routes.{first_of_list}
 
 -- a prefix with its value, where it has one
@@ -16,15 +16,15 @@ abbrev pub own : {V : Type 0} → Prefix → Option V → List (Prefix × V)
 own at None = []
 own at (Some value) = (at, value) ∷ []
 
--- a node's own prefix, those of its lower half, and those of its upper half
-abbrev mutual
-  pub entries_of : {V : Type 0} → Trie V → List (Prefix × V)
-  entries_of Empty = []
-  entries_of (Fork' p node) = node_entries node
+-- a fork's own prefix, those of its lower half, and those of its upper half
+abbrev pub entries_of : {V : Type 0} → Trie V → List (Prefix × V)
+entries_of Empty = []
+entries_of (Lone at value) = (at, value) ∷ []
+entries_of (Fork' p at held low high) = own at held ++ (entries_of low ++ entries_of high)
 
-  pub node_entries : {V : Type 0} → Node V → List (Prefix × V)
-  node_entries Blank = []
-  node_entries (Full at held low high) = own at held ++ (entries_of low ++ entries_of high)
+-- those of a fork with this node
+abbrev pub node_entries : {V : Type 0} → Node V → List (Prefix × V)
+node_entries node = own node.at node.held ++ (entries_of node.low ++ entries_of node.high)
 
 -- the entries with other prefixes
 abbrev pub without : {V : Type 0} → Prefix → List (Prefix × V) → List (Prefix × V)

@@ -16,14 +16,14 @@ use std::marker::Model;
 
 /// The most boxes that are made beside those that are needed. Boxes that are made at once lie side by side, so that a
 /// walk down the trie meets fewer pages of memory.
-const MORE_BOXES: usize = 126;
+const MORE_BOXES: usize = 63;
 
 /// A map from prefixes to values, and room for a number of new prefixes.
 #[derive(Drop)]
 pub struct PrefixMap<V> {
     alloc: Global,
     trie: Trie<V>,
-    // two or more for each new prefix that there is room for
+    // one or more for each new prefix that there is room for
     spare: Vec<Box<Node<V>>>,
     room: usize,
     count: usize,
@@ -101,13 +101,12 @@ impl<V: Drop> PrefixMap<V> {
         if entries <= self.room {
             return Ok(());
         }
-        if entries > usize::MAX / 2 || entries > usize::MAX - self.count {
+        if entries > usize::MAX - self.count {
             return Err(Memory);
         }
-        let boxes = 2 * entries;
-        if self.spare.len() < boxes {
+        if self.spare.len() < entries {
             let more = (self.count / 4).min(MORE_BOXES);
-            fill(self.alloc, &mut self.spare, boxes.saturating_add(more))?;
+            fill(self.alloc, &mut self.spare, entries.saturating_add(more))?;
         }
         self.room = entries;
         Ok(())

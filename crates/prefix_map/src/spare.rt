@@ -3,8 +3,19 @@
 ghost use Rattle.std.specs.Prelude.{◌≡◌, ◌≤◌, ◌<◌, ◌+◌, OnOk, IsOk};
 ghost use Rattle.std.specs.Vec.{vec_len};
 
-use crate::trie::Node;
+use crate::trie::{Node, Trie};
+use net_types::Prefix;
 use std::alloc::{AllocError, Global};
+
+// What a box holds that waits for a prefix.
+fn blank<V>() -> Node<V> {
+    Node {
+        at: Prefix::any(),
+        held: None,
+        low: Trie::Empty,
+        high: Trie::Empty,
+    }
+}
 
 /// Makes boxes until there are so many.
 pub(crate) fn fill<V: Drop>(
@@ -16,8 +27,8 @@ pub(crate) fn fill<V: Drop>(
     ensures kept { vec_len spare.old ≤ vec_len spare.new }
 {
     while spare.len() < boxes {
-        let blank = Box::new(alloc, Node::Blank)?;
-        spare.push(blank)?;
+        let waiting = Box::new(alloc, blank())?;
+        spare.push(waiting)?;
     }
     Ok(())
 }

@@ -17,20 +17,20 @@ use net_types::{Ip, Prefix};
 #[derive(Drop)]
 pub(crate) enum Trie<V> {
     Empty,
+    /// A prefix without others below it.
+    Lone { at: Prefix, value: V },
     Fork(Box<Node<V>>),
 }
 
-/// A prefix, its value where it has one, and the prefixes in its two halves; or nothing in a box that waits for a prefix.
+/// A prefix, its value where it has one, and the prefixes in its two halves.
 #[cycle(trie)]
 #[derive(Drop)]
-pub(crate) enum Node<V> {
-    Blank,
-    Full {
-        at: Prefix,
-        held: Option<V>,
-        low: Trie<V>,
-        high: Trie<V>,
-    },
+pub(crate) struct Node<V> {
+    // what each look-up reads stands first
+    pub(crate) at: Prefix,
+    pub(crate) held: Option<V>,
+    pub(crate) low: Trie<V>,
+    pub(crate) high: Trie<V>,
 }
 
 impl<V> Trie<V> {
@@ -39,6 +39,7 @@ impl<V> Trie<V> {
     {
         match self {
             Trie::Empty => true,
+            Trie::Lone { at: _, value: _ } => false,
             Trie::Fork(_) => false,
         }
     }
@@ -50,26 +51,26 @@ pub(crate) fn value_of<V>(trie: &Trie<V>, key: Prefix) -> Option<&V>
     ensures { option_copied result ≡ find prefix_cmp key (entries_of trie.now) }
 {
     let mut here = trie;
-    while let Trie::Fork(node) = here {
-        match &**node {
-            Node::Blank => return None,
-            Node::Full {
-                at,
-                held,
-                low,
-                high,
-            } => match place_of(*at, key) {
-                Place::Same => return held.as_ref(),
-                Place::Low => here = low,
-                Place::High => here = high,
-                Place::OverLow => return None,
-                Place::OverHigh => return None,
-                Place::Before => return None,
-                Place::After => return None,
-            },
+    loop {
+        match here {
+            Trie::Empty => return None,
+            Trie::Lone { at, value } => {
+                return if *at == key { Some(value) } else { None };
+            }
+            Trie::Fork(node) => {
+                let node = &**node;
+                match place_of(node.at, key) {
+                    Place::Same => return node.held.as_ref(),
+                    Place::Low => here = &node.low,
+                    Place::High => here = &node.high,
+                    Place::OverLow => return None,
+                    Place::OverHigh => return None,
+                    Place::Before => return None,
+                    Place::After => return None,
+                }
+            }
         }
     }
-    None
 }
 
 /// The longest prefix that covers an address, with its value.
@@ -79,26 +80,32 @@ pub(crate) fn longest_in<V>(trie: &Trie<V>, ip: Ip) -> Option<(Prefix, &V)>
 {
     let mut best = None;
     let mut here = trie;
-    while let Trie::Fork(node) = here {
-        match &**node {
-            Node::Blank => return best,
-            Node::Full {
-                at,
-                held,
-                low,
-                high,
-            } => {
-                if !at.covers(ip) {
+    loop {
+        match here {
+            Trie::Empty => return best,
+            Trie::Lone { at, value } => {
+                return if at.covers(ip) {
+                    Some((*at, value))
+                } else {
+                    best
+                };
+            }
+            Trie::Fork(node) => {
+                let node = &**node;
+                if !node.at.covers(ip) {
                     return best;
                 }
-                if let Some(value) = held {
-                    best = Some((*at, value));
+                if let Some(value) = &node.held {
+                    best = Some((node.at, value));
                 }
-                here = if is_below(ip, *at) { low } else { high };
+                here = if is_below(ip, node.at) {
+                    &node.low
+                } else {
+                    &node.high
+                };
             }
         }
     }
-    best
 }
 
 /// The entry with the least prefix.
@@ -107,19 +114,12 @@ pub(crate) fn first<V>(trie: &Trie<V>) -> Option<(Prefix, &V)>
 {
     match trie {
         Trie::Empty => None,
-        Trie::Fork(node) => match &**node {
-            Node::Blank => None,
-            Node::Full {
-                at,
-                held,
-                low,
-                high,
-            } => match held {
-                Some(value) => Some((*at, value)),
-                None => match first(low) {
-                    Some(entry) => Some(entry),
-                    None => first(high),
-                },
+        Trie::Lone { at, value } => Some((*at, value)),
+        Trie::Fork(node) => match &node.held {
+            Some(value) => Some((node.at, value)),
+            None => match first(&node.low) {
+                Some(entry) => Some(entry),
+                None => first(&node.high),
             },
         },
     }
@@ -132,25 +132,25 @@ pub(crate) fn next_after<V>(trie: &Trie<V>, key: Prefix) -> Option<(Prefix, &V)>
 {
     match trie {
         Trie::Empty => None,
-        Trie::Fork(node) => match &**node {
-            Node::Blank => None,
-            Node::Full {
-                at,
-                held: _,
-                low,
-                high,
-            } => {
-                if key.cmp(at).is_lt() {
-                    return first(trie);
-                }
-                if !is_below(key.address, *at) {
-                    return next_after(high, key);
-                }
-                match next_after(low, key) {
-                    Some(entry) => Some(entry),
-                    None => first(high),
-                }
+        Trie::Lone { at, value } => {
+            if key.cmp(at).is_lt() {
+                Some((*at, value))
+            } else {
+                None
             }
-        },
+        }
+        Trie::Fork(node) => {
+            let node = &**node;
+            if key.cmp(&node.at).is_lt() {
+                return first(trie);
+            }
+            if !is_below(key.address, node.at) {
+                return next_after(&node.high, key);
+            }
+            match next_after(&node.low, key) {
+                Some(entry) => Some(entry),
+                None => first(&node.high),
+            }
+        }
     }
 }

@@ -39,7 +39,7 @@ invariant_of-self g c =
     let room = ap (λ s. s.room) c.self.view_is in
     put_new c.self.inside.trie c.put_in-before.new.trie c.args.key (vec_len c.self.inside.spare) (vec_len c.put_in-before.new.spare) c.self.inside.room c.self.inside.count c.self.invariant c.put_in-before.ensures.halves c.args.value c.put_in-before.ensures.entries
     (ap is_some (sym c.put_in-before.ensures.value) ∙ none)
-    (subst (λ b. vec_len c.self.inside.spare ≤ vec_len c.put_in-before.new.spare + (if b then 0 else 2)) none c.put_in-before.ensures.room)
+    (subst (λ b. vec_len c.self.inside.spare ≤ vec_len c.put_in-before.new.spare + (if b then 0 else 1)) none c.put_in-before.ensures.room)
     (omega (arith, some, room))
 
 pub invariant_of-self-else-is_none : goal.invariant_of-self-else-is_none
@@ -47,7 +47,7 @@ invariant_of-self-else-is_none g c =
     let some : is_some c.put_in-before.result ≡ true = c.is_none.ensures ∙ ap not c.if-is_none.false in
     put_known c.self.inside.trie c.put_in-before.new.trie c.args.key (vec_len c.self.inside.spare) (vec_len c.put_in-before.new.spare) c.self.inside.room c.self.inside.count c.self.invariant c.put_in-before.ensures.halves c.args.value c.put_in-before.ensures.entries
     (ap is_some (sym c.put_in-before.ensures.value) ∙ some)
-    (subst (λ b. vec_len c.self.inside.spare ≤ vec_len c.put_in-before.new.spare + (if b then 0 else 2)) some c.put_in-before.ensures.room)
+    (subst (λ b. vec_len c.self.inside.spare ≤ vec_len c.put_in-before.new.spare + (if b then 0 else 1)) some c.put_in-before.ensures.room)
 
 pub returns-then-is_none-clause-value : goal.returns-then-is_none-clause-value
 returns-then-is_none-clause-value g c = c.put_in-before.ensures.value ∙ get_is c.self.inside.trie c.self.invariant.halves c.args.self.now.map (ap (λ s. s.map) c.self.view_is) c.args.key
