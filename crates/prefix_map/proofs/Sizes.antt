@@ -5,4 +5,4 @@ use Rattle.prefix_map.specs.declared.trie.Trie.{Trie, Empty, Lone, Fork'}
 abbrev pub size_of : {V : Type 0} → Trie V → ℕ
 size_of Empty = 0
 size_of (Lone at value) = 0
-size_of (Fork' p at held low high) = size_of low + size_of high + 1
+size_of (Fork' p at low high held) = size_of low + size_of high + 1

@@ -37,7 +37,7 @@ sorted_own at (Some v) es before h = and_from _ _ (below_before at es before) h
 pub trie_sorted : {V : Type 0} (t : Trie V) → IsTrie t → is_sorted prefix_cmp (entries_of t) ≡ true
 trie_sorted Empty h = refl
 trie_sorted (Lone at value) h = refl
-trie_sorted (Fork' p at held low high) h =
+trie_sorted (Fork' p at low high held) h =
     let apart : AllKeys (λ p. IsBefore p (entries_of high)) (entries_of low) =
     all_of (λ p (is : LiesLow at p). all_of (λ q there. low_before_high at p q is there) (entries_of high) h.1) (entries_of low) h.0 in
     sorted_own at held (entries_of low ++ entries_of high) (all_after at held (entries_of low) (entries_of high) h.0 h.1)

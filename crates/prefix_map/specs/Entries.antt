@@ -20,7 +20,7 @@ own at (Some value) = (at, value) ∷ []
 abbrev pub entries_of : {V : Type 0} → Trie V → List (Prefix × V)
 entries_of Empty = []
 entries_of (Lone at value) = (at, value) ∷ []
-entries_of (Fork' p at held low high) = own at held ++ (entries_of low ++ entries_of high)
+entries_of (Fork' p at low high held) = own at held ++ (entries_of low ++ entries_of high)
 
 -- those of a fork with this node
 abbrev pub node_entries : {V : Type 0} → Node V → List (Prefix × V)

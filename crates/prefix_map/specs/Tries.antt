@@ -15,7 +15,7 @@ AllKeys P (e ∷ es) = P e.0 × AllKeys P es
 abbrev pub IsTrie : {V : Type 0} → Trie V → Type 0
 IsTrie Empty = Unit {0}
 IsTrie (Lone at value) = Unit {0}
-IsTrie (Fork' p at held low high) = AllKeys (LiesLow at) (entries_of low) × AllKeys (LiesHigh at) (entries_of high) × IsTrie low × IsTrie high
+IsTrie (Fork' p at low high held) = AllKeys (LiesLow at) (entries_of low) × AllKeys (LiesHigh at) (entries_of high) × IsTrie low × IsTrie high
 
 -- so do those of a fork with this node
 abbrev pub IsNode : {V : Type 0} → Node V → Type 0
@@ -25,4 +25,4 @@ IsNode node = AllKeys (LiesLow node.at) (entries_of node.low) × AllKeys (LiesHi
 abbrev pub IsLone : {V : Type 0} → Trie V → Type 0
 IsLone Empty = ⊥
 IsLone (Lone at value) = Unit {0}
-IsLone (Fork' p at held low high) = ⊥
+IsLone (Fork' p at low high held) = ⊥

@@ -118,9 +118,9 @@ fn over_low<V>(at: Prefix, value: V, low: Trie<V>) -> Node<V>
 {
     Node {
         at,
-        held: Some(value),
         low,
         high: Trie::Empty,
+        held: Some(value),
     }
 }
 
@@ -133,9 +133,9 @@ fn over_high<V>(at: Prefix, value: V, high: Trie<V>) -> Node<V>
 {
     Node {
         at,
-        held: Some(value),
         low: Trie::Empty,
         high,
+        held: Some(value),
     }
 }
 
@@ -150,9 +150,9 @@ fn apart<V>(fork: Prefix, low: Trie<V>, high: Trie<V>) -> Node<V>
 {
     Node {
         at: fork,
-        held: None,
         low,
         high,
+        held: None,
     }
 }
 

@@ -11,9 +11,9 @@ use std::alloc::{AllocError, Global};
 fn blank<V>() -> Node<V> {
     Node {
         at: Prefix::any(),
-        held: None,
         low: Trie::Empty,
         high: Trie::Empty,
+        held: None,
     }
 }
 

@@ -22,15 +22,16 @@ pub(crate) enum Trie<V> {
     Fork(Box<Node<V>>),
 }
 
-/// A prefix, its value where it has one, and the prefixes in its two halves.
+/// A prefix, the prefixes in its two halves, and its value where it has one.
 #[cycle(trie)]
 #[derive(Drop)]
 pub(crate) struct Node<V> {
-    // what each look-up reads stands first
+    // the value stands last: a walk that looks at it beside the prefix, before it chooses a child, waits but once for a
+    // node that lies on two lines of the cache
     pub(crate) at: Prefix,
-    pub(crate) held: Option<V>,
     pub(crate) low: Trie<V>,
     pub(crate) high: Trie<V>,
+    pub(crate) held: Option<V>,
 }
 
 impl<V> Trie<V> {
