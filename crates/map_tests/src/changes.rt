@@ -51,6 +51,22 @@ fn a_changed_value_is_answered(rt: HostRuntime) -> Result<(), Fail> {
 }
 
 #[test]
+fn a_value_is_changed_or_given(rt: HostRuntime) -> Result<(), Fail> {
+    let mut map: OrderedMap<u32, u8> = OrderedMap::new(rt.alloc());
+    for key in [30, 20, 10, 20, 40, 10, 20] {
+        map.reserve(1)?;
+        map.change_or_put(key, &Add(5), 1);
+    }
+    assert!(rt;
+        map.iter()
+            .map(|entry| (*entry.0, *entry.1))
+            .eq([(10, 6), (20, 11), (30, 1), (40, 1)])
+    );
+    assert_eq!(rt; map.len(), 4);
+    Ok(())
+}
+
+#[test]
 fn the_first_entries_are_taken(rt: HostRuntime) -> Result<(), Fail> {
     let mut map: OrderedMap<u32, u8> = OrderedMap::new(rt.alloc());
     for key in [50, 20, 40, 10, 30] {

@@ -1,17 +1,18 @@
 -- What changes of values keep, what is found after one, and the entries on both sides of one that changes.
 use Rattle.std.proofs.Common.{◌≡◌, ℕ, Bool, true, false, cond, ◌&&◌, List, [], ◌∷◌, ◌++◌, length, map, sym, ap, ◌∙◌, refl, arith}
-use Rattle.std.specs.Prelude.{Option, Some, None}
+use Rattle.std.specs.Prelude.{Option, Some, None, unwrap_or}
 use Rattle.std.specs.Cmp.{IsTotalOrder, alike_right, eq_by_cmp_equiv}
-use Rattle.std.specs.Option.{option_map}
+use Rattle.std.specs.Option.{option_map, option_or}
 use Rattle.std.specs.Ordering.{eq_by_cmp, is_eq, is_lt}
 use Rattle.std.specs.declared.cmp.Ordering.{Ordering}
 use Rattle.std.specs.declared.cmp.Ordering.TheVariants.{Less, Equal, Greater}
-use Rattle.std.specs.FinMap.Entries.{find, is_sorted, below_all}
+use Rattle.std.specs.FinMap.Entries.{find, put, is_sorted, below_all}
 use Rattle.std.proofs.lemmas.Bool.{and_parts}
 use Rattle.std.proofs.lemmas.List.{length-map, map-append}
-use Rattle.ordered_map.specs.Changes.{with_values, changed_at}
+use Rattle.ordered_map.specs.Changes.{with_values, changed_at, changed_or_given, changed_or_put}
+use Rattle.ordered_map.specs.Entries.{put_given}
 use Rattle.ordered_map.specs.Kept.{IsKept}
-use Rattle.ordered_map.proofs.SplitLemmas.{less, IsPast, past_smaller, past_tied, below_smaller, below_tied, sorted_back}
+use Rattle.ordered_map.proofs.SplitLemmas.{less, IsPast, past_smaller, past_tied, below_smaller, below_tied, sorted_back, left_of, here_at, right_of}
 
 module _ {K V : Type 0} (R : K → K → Ordering) where
   below_values : (f : K → V → V) (x : K) (es : List (K × V)) → below_all R x (with_values f es) ≡ below_all R x es
@@ -85,3 +86,32 @@ module _ {K V : Type 0} (R : K → K → Ordering) where
       changed_right more =
           map-append one l (e ∷ r)
           ∙ (λ i. past_stay l (past_smaller R o q l e r h more) i ++ (e.0, cond (is_eq (more i)) (f e.1) e.1) ∷ map one r)
+
+  -- ---- a value that changes, or one that is given to a key without one
+
+  module _ (q : K) (f : V → V) where
+    -- where no entry stands, the one that is given
+    pub given_alone : (given : Option V) → changed_or_given R q f given [] ≡ put_given R q given []
+    given_alone given = refl
+
+    -- one that is given is put where there is none
+    pub given_some : (v : V) (es : List (K × V)) → changed_or_given R q f (Some v) es ≡ changed_or_put R q f v es
+    given_some v es = elim (find R q es) as (λ o. put_given R q (option_or (option_map f o) (Some v)) es ≡ put R q (unwrap_or (option_map f o) v) es) [ None ↦ refl | Some w ↦ refl ]
+
+    module _ (o : IsTotalOrder R) (given : Option V) (l : List (K × V)) (e : K × V) (r : List (K × V)) (h : is_sorted R (l ++ e ∷ r) ≡ true) where
+      pub given_left : R q e.0 ≡ Less → changed_or_given R q f given (l ++ e ∷ r) ≡ changed_or_given R q f given l ++ e ∷ r
+      given_left low =
+          let split = left_of R o q l e r h low in
+          ap (λ s. put_given R q (option_or (option_map f s) given) (l ++ e ∷ r)) split.find_is
+          ∙ split.put_is (option_or (option_map f (find R q l)) given)
+
+      pub given_here : R q e.0 ≡ Equal → changed_or_given R q f given (l ++ e ∷ r) ≡ l ++ (e.0, f e.1) ∷ r
+      given_here tie =
+          let split = here_at R o q l e r h tie in
+          ap (λ s. put_given R q (option_or (option_map f s) given) (l ++ e ∷ r)) split.find_is ∙ split.put_is (f e.1)
+
+      pub given_right : R q e.0 ≡ Greater → changed_or_given R q f given (l ++ e ∷ r) ≡ l ++ e ∷ changed_or_given R q f given r
+      given_right more =
+          let split = right_of R o q l e r h more in
+          ap (λ s. put_given R q (option_or (option_map f s) given) (l ++ e ∷ r)) split.find_is
+          ∙ split.put_is (option_or (option_map f (find R q r)) given)

@@ -3,11 +3,13 @@
 ghost use Rattle.std.specs.Prelude.{◌≡◌, ◌≤◌, ◌<◌, ◌+◌, ◌++◌, [], None, IsTrue, IfSome, IfNone, is_some, drop, if◌then◌else◌};
 ghost use Rattle.std.specs.Vec.{vec_len};
 ghost use Rattle.std.specs.FinMap.Entries.{find, is_sorted};
+ghost use Rattle.ordered_map.specs.Changes.{changed_or_given};
 ghost use Rattle.ordered_map.specs.Entries.{entries_of, own_entry, is_full, put_given, without, root_value, beside_root, head_of};
 
 use crate::balance::{Height, between, height_of, height_since, level, rebalance};
 use crate::spare::{give_back, lone};
 use crate::tree::{Node, Tree};
+use crate::values::Change;
 use std::cmp::Ordering;
 use std::mem;
 
@@ -46,6 +48,50 @@ pub(crate) fn put_in<K: Ord + Drop, V: Drop>(
                 }
                 Ordering::Greater => {
                     let side = put_in(right, spare, key, value);
+                    rebalance(tree, side)
+                }
+            },
+        },
+    }
+}
+
+/// Changes the value of a key, and gives it the one that is handed in where it has none: that is used up then, and the new
+/// key takes one of the spare boxes.
+pub(crate) fn change_or_put_in<K: Ord + Drop, V: Drop, C: Change<V>>(
+    tree: &mut Tree<K, V>,
+    spare: &mut Vec<Box<Node<K, V>>>,
+    key: K,
+    change: &C,
+    value: &mut Option<V>,
+) -> Height
+    requires rising { IsTrue (is_sorted K.cmp (entries_of tree.old)) }
+    requires room { find K.cmp key (entries_of tree.old) ≡ None → 0 < vec_len spare.old }
+    requires given { IsTrue (is_some value.old) }
+    ensures used { is_some value.new ≡ is_some (find K.cmp key (entries_of tree.old)) }
+    ensures entries { entries_of tree.new ≡ changed_or_given K.cmp key (C.changed change.now) value.old (entries_of tree.old) }
+    ensures room { vec_len spare.old ≡ vec_len spare.new + (if is_some value.new then 0 else 1) }
+{
+    match tree {
+        Tree::Empty => put_alone(tree, spare, key, value),
+        Tree::Fork(node) => match &mut **node {
+            Node::Blank => put_alone(tree, spare, key, value),
+            Node::Full {
+                height: _,
+                key: held,
+                left,
+                right,
+                value: old,
+            } => match key.cmp(held) {
+                Ordering::Less => {
+                    let side = change_or_put_in(left, spare, key, change, value);
+                    rebalance(tree, side)
+                }
+                Ordering::Equal => {
+                    change.change(old);
+                    Height::Same
+                }
+                Ordering::Greater => {
+                    let side = change_or_put_in(right, spare, key, change, value);
                     rebalance(tree, side)
                 }
             },

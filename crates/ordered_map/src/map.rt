@@ -4,10 +4,10 @@ ghost use Rattle.std.specs.Prelude.{◌≡◌, ◌≤◌, ◌<◌, ◌+◌, [], 
 ghost use Rattle.std.specs.Option.{option_map};
 ghost use Rattle.std.specs.Map.Iter.{deref_pair};
 ghost use Rattle.std.specs.FinMap.Entries.{find, put, is_sorted};
-ghost use Rattle.ordered_map.specs.Changes.{changed_all, changed_at};
+ghost use Rattle.ordered_map.specs.Changes.{changed_all, changed_at, changed_or_put};
 ghost use Rattle.ordered_map.specs.Entries.{without, above, head_of};
 
-use crate::change::{put_in, take_from, take_least};
+use crate::change::{change_or_put_in, put_in, take_from, take_least};
 use crate::iter::Iter;
 use crate::spare::fill;
 use crate::tree::{Node, Tree, first, next_after, value_of};
@@ -184,6 +184,21 @@ impl<K: Ord + Drop, V: Drop> OrderedMap<K, V> {
             self.count += 1;
         }
         before
+    }
+
+    /// Changes the value of a key in its place, and gives it this one where it has none. A new key needs room, and uses one
+    /// place of it.
+    pub fn change_or_put<C: Change<V>>(&mut self, key: K, change: &C, value: V)
+        requires room { find K.cmp key self.old.items ≡ None → 0 < self.old.room }
+        ensures items { self.new.items ≡ changed_or_put K.cmp key (C.changed change.now) value self.old.items }
+        ensures rising { IsTrue (is_sorted K.cmp self.new.items) }
+        ensures room { self.old.room ≤ self.new.room + (if is_some (find K.cmp key self.old.items) then 0 else 1) }
+    {
+        let mut given = Some(value);
+        change_or_put_in(&mut self.tree, &mut self.spare, key, change, &mut given);
+        if given.is_none() {
+            self.count += 1;
+        }
     }
 
     /// Takes a key out, and answers its value. It takes no memory.

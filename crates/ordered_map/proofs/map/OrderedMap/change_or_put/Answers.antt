@@ -1,0 +1,33 @@
+use Rattle.std.proofs.Common.{◌≡◌, ◌+◌, true, false, not, sym, ap, ◌∙◌, if◌then◌else◌}
+use Rattle.std.specs.Prelude.{is_some}
+use Rattle.std.specs.Vec.{vec_len}
+use Rattle.ordered_map.specs.Entries.{entries_of}
+use Rattle.ordered_map.proofs.ChangeLemmas.{given_some}
+use Rattle.ordered_map.proofs.CountLemmas.{put_new, put_known, put_rises}
+use Rattle.ordered_map.proofs.map.OrderedMap.change_or_put.Goals as goal
+
+pub invariant_of-self : goal.invariant_of-self
+invariant_of-self g c =
+    let none : is_some c.change_or_put_in.new.value ≡ false = c.is_none.ensures ∙ ap not c.if-is_none.true in
+    put_new g.K.Ord.cmp g.met.K.Ord.total (entries_of c.self.inside.tree) _ c.args.key _ (vec_len c.self.inside.spare) _ _ c.self.invariant
+    (c.change_or_put_in.ensures.entries ∙ given_some g.K.Ord.cmp c.args.key (g.C.Change.changed c.args.change.now) c.args.value (entries_of c.self.inside.tree))
+    (sym c.change_or_put_in.ensures.used ∙ none)
+    (c.change_or_put_in.ensures.room ∙ ap (λ b. vec_len c.change_or_put_in.new.spare + (if b then 0 else 1)) none)
+
+pub invariant_of-self-else-is_none : goal.invariant_of-self-else-is_none
+invariant_of-self-else-is_none g c =
+    let some : is_some c.change_or_put_in.new.value ≡ true = c.is_none.ensures ∙ ap not c.if-is_none.false in
+    put_known g.K.Ord.cmp g.met.K.Ord.total (entries_of c.self.inside.tree) _ c.args.key _ (vec_len c.self.inside.spare) _ _ c.self.invariant
+    (c.change_or_put_in.ensures.entries ∙ given_some g.K.Ord.cmp c.args.key (g.C.Change.changed c.args.change.now) c.args.value (entries_of c.self.inside.tree))
+    (sym c.change_or_put_in.ensures.used ∙ some)
+    (c.change_or_put_in.ensures.room ∙ ap (λ b. vec_len c.change_or_put_in.new.spare + (if b then 0 else 1)) some)
+
+pub returns-then-is_none-clause-rising : goal.returns-then-is_none-clause-rising
+returns-then-is_none-clause-rising g c =
+    put_rises g.K.Ord.cmp g.met.K.Ord.total (entries_of c.self.inside.tree) _ c.args.key _ c.self.invariant.rising
+    (c.change_or_put_in.ensures.entries ∙ given_some g.K.Ord.cmp c.args.key (g.C.Change.changed c.args.change.now) c.args.value (entries_of c.self.inside.tree))
+
+pub returns-clause-rising : goal.returns-clause-rising
+returns-clause-rising g c =
+    put_rises g.K.Ord.cmp g.met.K.Ord.total (entries_of c.self.inside.tree) _ c.args.key _ c.self.invariant.rising
+    (c.change_or_put_in.ensures.entries ∙ given_some g.K.Ord.cmp c.args.key (g.C.Change.changed c.args.change.now) c.args.value (entries_of c.self.inside.tree))
