@@ -1,6 +1,6 @@
 -- How the numbers of entries that have each tag change with one entry.
 use Rattle.std.proofs.Common.{◌≡◌, ℕ, ◌+◌, ◌≤◌, ◌<◌, ◌^◌, Bool, true, false, cond, ◌||◌, not, List, [], ◌∷◌, map, length, sym, ap, subst, ◌∙◌, refl, arith}
-use Rattle.std.specs.Prelude.{Option, Some, None, is_none, is_some, nat_eq}
+use Rattle.std.specs.Prelude.{Option, Some, None, is_some, nat_eq, unwrap_or}
 use Rattle.std.specs.Option.{option_map}
 use Rattle.std.specs.List.{list_any}
 use Rattle.std.specs.Ordering.{eq_by_cmp, is_eq, is_lt}
@@ -21,7 +21,7 @@ use Rattle.net_types.specs.Keys.{prefix_cmp, tag_cmp}
 use Rattle.net_types.specs.declared.address.Tag.{Tag}
 use Rattle.net_types.specs.declared.prefix.Prefix.{Prefix}
 use Rattle.ordered_map.proofs.ChangeLemmas.{find-changed}
-use Rattle.ordered_map.specs.Changes.{changed_at}
+use Rattle.ordered_map.specs.Changes.{changed_at, changed_or_put}
 use Rattle.ordered_map.specs.Entries.{without}
 use Rattle.advert_queue.proofs.RisingEntries.{without_first}
 use Rattle.advert_queue.specs.Changes.{Change, changed, tag_in}
@@ -194,13 +194,8 @@ now_changed t f cs ds is u =
       | false ↦ λ apart. refl
     ] refl
 
-now_put : (t : Tag) (now : Option Uses) (v : Uses) (cs ds es : List (Tag × Uses)) → HasNow t now cs ds → es ≡ put tag_cmp t v ds → HasNow t (Some v) cs es
-now_put t now v cs ds es before is u =
-    ap (find tag_cmp u) is ∙ find-put tag_cmp tags_total u t v ds
-    ∙ elim (eq_by_cmp tag_cmp u t) as (λ b. find tag_cmp u ds ≡ cond b now (find tag_cmp u cs) → cond b (Some v) (find tag_cmp u ds) ≡ cond b (Some v) (find tag_cmp u cs)) [
-      | true ↦ λ at. refl
-      | false ↦ λ at. at
-    ] (before u)
+now_put : (t : Tag) (v : Uses) (cs ds : List (Tag × Uses)) → ds ≡ put tag_cmp t v cs → HasNow t (Some v) cs ds
+now_put t v cs ds is u = ap (find tag_cmp u) is ∙ find-put tag_cmp tags_total u t v cs
 
 now_without : (t : Tag) (now : Option Uses) (cs ds es : List (Tag × Uses)) → HasNow t now cs ds → es ≡ without tag_cmp t ds → HasNow t None cs es
 now_without t now cs ds es before is u =
@@ -280,42 +275,29 @@ same_some u v e = ap uses_in e
 is_used_number : (side : Side) (u v : Uses) → Some u ≡ Some v → 0 < number side u → 0 < v.told + v.present
 is_used_number side u v e some = let most = number-le side v in let same = ap (number side) (same_some u v e) in omega (arith, most, same, some)
 
-module _ (side : Side) (tag : Tag) (cs ds : List (Tag × Uses)) (used : AreUsed cs) where
-  -- a tag that has numbers
-  pub raised : is_sorted tag_cmp ds ≡ true → is_none (option_map (recounted (More side)) (find tag_cmp tag cs)) ≡ false → counted side cs tag + 1 < 2 ^ 64
-      → ds ≡ changed_at tag_cmp tag (recounted (More side)) cs → IsRecounted side cs ds None (Some tag)
-  raised rising there small is = by (find tag_cmp tag cs) refl there
-    where
-      by : (o : Option Uses) → find tag_cmp tag cs ≡ o → is_none (option_map (recounted (More side)) o) ≡ false → IsRecounted side cs ds None (Some tag)
-      by None was some = absurd (cc)
-      by (Some u) was some =
-          let old : counted side cs tag ≡ number side u = ap (λ o. number side (uses_in o)) was in
-          let beside : counted (other side) cs tag ≡ number (other side) u = ap (λ o. number (other side) (uses_in o)) was in
-          let more = more_number side u (omega (arith, old, small)) in
-          let itself = is_tag-itself tag in
-          moved side tag (Some (recounted (More side) u)) cs ds None (Some tag) rising used
-          (λ v. now_changed tag (recounted (More side)) cs ds is v ∙ ap (λ o. cond (eq_by_cmp tag_cmp v tag) (option_map (recounted (More side)) o) (find tag_cmp v cs)) was)
-          (λ v e. is_used_number side _ v e (omega (arith, more)))
-          (omega (arith, old, more, itself)) (more_other side u ∙ sym beside)
-          (λ v apart. sym (is_tag-apart v tag apart))
+-- its numbers once it is used once more
+abbrev once_more : Side → Option Uses → Uses
+once_more side o = unwrap_or (option_map (recounted (More side)) o) (one_use side)
 
-  -- a tag that had none
-  pub raised_new : (es : List (Tag × Uses)) → is_sorted tag_cmp es ≡ true → is_none (option_map (recounted (More side)) (find tag_cmp tag cs)) ≡ true
-      → ds ≡ changed_at tag_cmp tag (recounted (More side)) cs → es ≡ put tag_cmp tag (one_use side) ds → IsRecounted side cs es None (Some tag)
-  raised_new es rising absent is put_is = by (find tag_cmp tag cs) refl absent
-    where
-      by : (o : Option Uses) → find tag_cmp tag cs ≡ o → is_none (option_map (recounted (More side)) o) ≡ true → IsRecounted side cs es None (Some tag)
-      by (Some u) was none = absurd (cc)
-      by None was none =
-          let old : counted side cs tag ≡ 0 = ap (λ o. number side (uses_in o)) was ∙ no_number side in
-          let beside : counted (other side) cs tag ≡ 0 = ap (λ o. number (other side) (uses_in o)) was ∙ no_number (other side) in
-          let one = one_number side in
-          let itself = is_tag-itself tag in
-          moved side tag (Some (one_use side)) cs es None (Some tag) rising used
-          (now_put tag _ (one_use side) cs ds es (now_changed tag (recounted (More side)) cs ds is) put_is)
-          (λ v e. is_used_number side _ v e (omega (arith, one)))
-          (omega (arith, old, one, itself)) (one_other side ∙ sym beside)
-          (λ v apart. sym (is_tag-apart v tag apart))
+once_more_number : (side : Side) (o : Option Uses) → number side (uses_in o) + 1 < 2 ^ 64 → number side (once_more side o) ≡ number side (uses_in o) + 1
+once_more_number side None small = let none = no_number side in let one = one_number side in omega (arith, none, one)
+once_more_number side (Some u) small = more_number side u small
+
+once_more_other : (side : Side) (o : Option Uses) → number (other side) (once_more side o) ≡ number (other side) (uses_in o)
+once_more_other side None = one_other side ∙ sym (no_number (other side))
+once_more_other side (Some u) = more_other side u
+
+module _ (side : Side) (tag : Tag) (cs ds : List (Tag × Uses)) (used : AreUsed cs) where
+  -- a tag, whether it has numbers or none
+  pub raised : is_sorted tag_cmp ds ≡ true → counted side cs tag + 1 < 2 ^ 64 → ds ≡ changed_or_put tag_cmp tag (recounted (More side)) (one_use side) cs → IsRecounted side cs ds None (Some tag)
+  raised rising small is =
+      let more = once_more_number side (find tag_cmp tag cs) small in
+      let itself = is_tag-itself tag in
+      moved side tag (Some (once_more side (find tag_cmp tag cs))) cs ds None (Some tag) rising used
+      (now_put tag _ cs ds is)
+      (λ v e. is_used_number side _ v e (omega (arith, more)))
+      (omega (arith, more, itself)) (once_more_other side (find tag_cmp tag cs))
+      (λ v apart. sym (is_tag-apart v tag apart))
 
   -- a tag that is in use still
   pub lowered : (v : Uses) → is_sorted tag_cmp ds ≡ true → option_map (recounted (Less side)) (find tag_cmp tag cs) ≡ Some v → 0 < v.told + v.present → 0 < counted side cs tag
@@ -381,12 +363,8 @@ new_places-le cs (Some t) = elim (is_some (find tag_cmp t cs)) as (λ b. cond b 
 pub no_place : (cs : List (Tag × Uses)) (t : Tag) → is_some (find tag_cmp t cs) ≡ true → new_places cs (Some t) ≡ 0
 no_place cs t there = ap (λ b. let n : ℕ = cond b 0 1 in n) there
 
-pub one_place : (cs : List (Tag × Uses)) (f : Uses → Uses) (t : Tag) → is_none (option_map f (find tag_cmp t cs)) ≡ true → new_places cs (Some t) ≡ 1
-one_place cs f t absent = by (find tag_cmp t cs) refl absent
-  where
-    by : (o : Option Uses) → find tag_cmp t cs ≡ o → is_none (option_map f o) ≡ true → new_places cs (Some t) ≡ 1
-    by None is none = ap (λ o. let n : ℕ = cond (is_some o) 0 1 in n) is
-    by (Some u) is none = absurd (cc)
+pub one_place : (cs : List (Tag × Uses)) (t : Tag) → find tag_cmp t cs ≡ None → new_places cs (Some t) ≡ 1
+one_place cs t none = ap (λ o. let n : ℕ = cond (is_some o) 0 1 in n) none
 
 -- first a use more, and then one less
 pub both_steps : (side : Side) (cs ds es : List (Tag × Uses)) (before after : Option Tag) → IsRecounted side cs ds None after → IsRecounted side ds es before None → IsRecounted side cs es before after

@@ -92,9 +92,7 @@ pub(crate) fn raise(counts: &mut Counts, side: Side, tag: Tag)
     ensures counts { IsRecounted side counts.old.items counts.new.items None (Some tag) }
     ensures room { counts.old.room ≤ counts.new.room + new_places counts.old.items (Some tag) }
 {
-    if counts.update(&tag, &Recount::More(side)).is_none() {
-        counts.put(tag, one_use(side));
-    }
+    counts.change_or_put(tag, &Recount::More(side), one_use(side));
 }
 
 /// Whether no entry is counted.
