@@ -1,5 +1,5 @@
 -- How the numbers of entries that have each tag change with one entry.
-use Rattle.std.proofs.Common.{◌≡◌, ℕ, ◌+◌, ◌≤◌, ◌<◌, ◌^◌, Bool, true, false, cond, ◌||◌, not, List, [], ◌∷◌, map, length, sym, ap, subst, ◌∙◌, refl, arith}
+use Rattle.std.proofs.Common.{◌≡◌, ℕ, zero, suc, ◌+◌, ◌≤◌, ◌<◌, ◌^◌, ◌&&◌, Bool, true, false, cond, ◌||◌, not, List, [], ◌∷◌, map, length, sym, ap, subst, ◌∙◌, refl, arith}
 use Rattle.std.specs.Prelude.{Option, Some, None, is_some, nat_eq, unwrap_or}
 use Rattle.std.specs.Option.{option_map}
 use Rattle.std.specs.List.{list_any}
@@ -20,13 +20,13 @@ use Rattle.net_types.proofs.ValueLemmas.{no_entries}
 use Rattle.net_types.specs.Keys.{prefix_cmp, tag_cmp}
 use Rattle.net_types.specs.declared.address.Tag.{Tag}
 use Rattle.net_types.specs.declared.prefix.Prefix.{Prefix}
-use Rattle.ordered_map.proofs.ChangeLemmas.{find-changed}
-use Rattle.ordered_map.specs.Changes.{changed_at, changed_or_put}
+use Rattle.ordered_map.specs.Changes.{changed_or_put}
 use Rattle.ordered_map.specs.Entries.{without}
+use Rattle.ordered_map.specs.Lapsed.{changed_or_without, lasting, with_value}
 use Rattle.advert_queue.proofs.RisingEntries.{without_first}
 use Rattle.advert_queue.specs.Changes.{Change, changed, tag_in}
 use Rattle.advert_queue.specs.Counts.{AreCounts, AreUsed, IsRecounted, by_side, counted, has_tag, is_tag, is_tag_of, new_places, number, other, total, uses, uses_in}
-use Rattle.advert_queue.specs.Recounted.{one_use, recounted}
+use Rattle.advert_queue.specs.Recounted.{is_unused, one_use, recounted}
 use Rattle.advert_queue.specs.declared.counts.Recount.TheVariants.{More, Less}
 use Rattle.advert_queue.specs.declared.counts.Side.{Side}
 use Rattle.advert_queue.specs.declared.counts.Side.TheVariants.{Told, Present}
@@ -186,24 +186,12 @@ is_tag-apart u t apart = is_tag_ties u t ∙ ap (λ b. let n : ℕ = cond b 1 0 
 abbrev HasNow : Tag → Option Uses → List (Tag × Uses) → List (Tag × Uses) → Type 0
 HasNow t now cs ds = (u : Tag) → find tag_cmp u ds ≡ cond (eq_by_cmp tag_cmp u t) now (find tag_cmp u cs)
 
-now_changed : (t : Tag) (f : Uses → Uses) (cs ds : List (Tag × Uses)) → ds ≡ changed_at tag_cmp t f cs → HasNow t (option_map f (find tag_cmp t cs)) cs ds
-now_changed t f cs ds is u =
-    ap (find tag_cmp u) is ∙ find-changed tag_cmp tags_total t f u cs
-    ∙ elim (eq_by_cmp tag_cmp u t) as (λ b. eq_by_cmp tag_cmp u t ≡ b → cond b (option_map f (find tag_cmp u cs)) (find tag_cmp u cs) ≡ cond b (option_map f (find tag_cmp t cs)) (find tag_cmp u cs)) [
-      | true ↦ λ tie. ap (λ v. option_map f (find tag_cmp v cs)) (tag_tie u t tie)
-      | false ↦ λ apart. refl
-    ] refl
-
 now_put : (t : Tag) (v : Uses) (cs ds : List (Tag × Uses)) → ds ≡ put tag_cmp t v cs → HasNow t (Some v) cs ds
 now_put t v cs ds is u = ap (find tag_cmp u) is ∙ find-put tag_cmp tags_total u t v cs
 
-now_without : (t : Tag) (now : Option Uses) (cs ds es : List (Tag × Uses)) → HasNow t now cs ds → es ≡ without tag_cmp t ds → HasNow t None cs es
-now_without t now cs ds es before is u =
-    ap (find tag_cmp u) is ∙ find-without tag_cmp tags_total t u ds
-    ∙ elim (eq_by_cmp tag_cmp u t) as (λ b. find tag_cmp u ds ≡ cond b now (find tag_cmp u cs) → cond b None (find tag_cmp u ds) ≡ cond b None (find tag_cmp u cs)) [
-      | true ↦ λ at. refl
-      | false ↦ λ at. at
-    ] (before u)
+now_with : (t : Tag) (now : Option Uses) (cs ds : List (Tag × Uses)) → ds ≡ with_value tag_cmp t now cs → HasNow t now cs ds
+now_with t None cs ds is u = ap (find tag_cmp u) is ∙ find-without tag_cmp tags_total t u cs
+now_with t (Some v) cs ds is u = now_put t v cs ds is u
 
 module _ (side : Side) (t : Tag) (now : Option Uses) (cs ds : List (Tag × Uses)) (before after : Option Tag) (rising : is_sorted tag_cmp ds ≡ true) (used : AreUsed cs) (found : HasNow t now cs ds) where
   moved : ((v : Uses) → now ≡ Some v → 0 < v.told + v.present)
@@ -287,6 +275,39 @@ once_more_other : (side : Side) (o : Option Uses) → number (other side) (once_
 once_more_other side None = one_other side ∙ sym (no_number (other side))
 once_more_other side (Some u) = more_other side u
 
+-- its numbers once it is used once less, where it is in use still
+abbrev once_less : Side → Option Uses → Option Uses
+once_less side o = lasting is_unused (option_map (recounted (Less side)) o)
+
+-- numbers that aren't kept are 0
+lasting_number : (side : Side) (u : Uses) → number side (uses_in (lasting is_unused (Some u))) ≡ number side u
+lasting_number side u = by (is_unused u) refl
+  where
+    by : (b : Bool) → is_unused u ≡ b → number side (uses_in (cond b None (Some u))) ≡ number side u
+    by true is = let parts = and_parts (nat_eq u.told 0) (nat_eq u.present 0) is in no_number side ∙ sym (unused_number side u (eqb-true u.told 0 parts.0) (eqb-true u.present 0 parts.1))
+    by false is = refl
+
+once_less_number : (side : Side) (o : Option Uses) → 0 < number side (uses_in o) → number side (uses_in (once_less side o)) + 1 ≡ number side (uses_in o)
+once_less_number side None some = let none = no_number side in absurd (omega (arith, none, some))
+once_less_number side (Some u) some = let kept = lasting_number side (recounted (Less side) u) in let less = less_number side u some in omega (arith, kept, less)
+
+once_less_other : (side : Side) (o : Option Uses) → number (other side) (uses_in (once_less side o)) ≡ number (other side) (uses_in o)
+once_less_other side None = refl
+once_less_other side (Some u) = lasting_number (other side) (recounted (Less side) u) ∙ less_other side u
+
+some_left : (n m : ℕ) → (nat_eq n 0 && nat_eq m 0) ≡ false → 0 < n + m
+some_left zero zero e = absurd (cc)
+some_left zero (suc m) e = omega arith
+some_left (suc n) m e = omega arith
+
+once_less_used : (side : Side) (o : Option Uses) (v : Uses) → once_less side o ≡ Some v → 0 < v.told + v.present
+once_less_used side None v is = absurd (cc)
+once_less_used side (Some u) v is = by (recounted (Less side) u) (is_unused (recounted (Less side) u)) refl is
+  where
+    by : (w : Uses) (b : Bool) → is_unused w ≡ b → cond b None (Some w) ≡ Some v → 0 < v.told + v.present
+    by w true unused is = absurd (cc)
+    by w false unused is = subst (λ x. 0 < x.told + x.present) (same_some w v is) (some_left w.told w.present unused)
+
 module _ (side : Side) (tag : Tag) (cs ds : List (Tag × Uses)) (used : AreUsed cs) where
   -- a tag, whether it has numbers or none
   pub raised : is_sorted tag_cmp ds ≡ true → counted side cs tag + 1 < 2 ^ 64 → ds ≡ changed_or_put tag_cmp tag (recounted (More side)) (one_use side) cs → IsRecounted side cs ds None (Some tag)
@@ -299,48 +320,16 @@ module _ (side : Side) (tag : Tag) (cs ds : List (Tag × Uses)) (used : AreUsed 
       (omega (arith, more, itself)) (once_more_other side (find tag_cmp tag cs))
       (λ v apart. sym (is_tag-apart v tag apart))
 
-  -- a tag that is in use still
-  pub lowered : (v : Uses) → is_sorted tag_cmp ds ≡ true → option_map (recounted (Less side)) (find tag_cmp tag cs) ≡ Some v → 0 < v.told + v.present → 0 < counted side cs tag
-      → ds ≡ changed_at tag_cmp tag (recounted (Less side)) cs → IsRecounted side cs ds (Some tag) None
-  lowered v rising now left some is = by (find tag_cmp tag cs) refl now
-    where
-      by : (o : Option Uses) → find tag_cmp tag cs ≡ o → option_map (recounted (Less side)) o ≡ Some v → IsRecounted side cs ds (Some tag) None
-      by None was at = absurd (cc)
-      by (Some u) was at =
-          let old : counted side cs tag ≡ number side u = ap (λ o. number side (uses_in o)) was in
-          let beside : counted (other side) cs tag ≡ number (other side) u = ap (λ o. number (other side) (uses_in o)) was in
-          let less = less_number side u (omega (arith, old, some)) in
-          let itself = is_tag-itself tag in
-          moved side tag (Some (recounted (Less side) u)) cs ds (Some tag) None rising used
-          (λ w. now_changed tag (recounted (Less side)) cs ds is w ∙ ap (λ o. cond (eq_by_cmp tag_cmp w tag) (option_map (recounted (Less side)) o) (find tag_cmp w cs)) was)
-          (λ w e. subst (λ x. 0 < x.told + x.present) (sym (same_some _ v at) ∙ same_some _ w e) left)
-          (omega (arith, old, less, itself)) (less_other side u ∙ sym beside)
-          (λ w apart. is_tag-apart w tag apart)
-
-  -- a tag that isn't in use any more
-  pub dropped : (v : Uses) (es : List (Tag × Uses)) → is_sorted tag_cmp es ≡ true → option_map (recounted (Less side)) (find tag_cmp tag cs) ≡ Some v → v.told ≡ 0 → v.present ≡ 0 → 0 < counted side cs tag
-      → ds ≡ changed_at tag_cmp tag (recounted (Less side)) cs → es ≡ without tag_cmp tag ds → IsRecounted side cs es (Some tag) None
-  dropped v es rising now no_told no_present some is without_is = by (find tag_cmp tag cs) refl now
-    where
-      by : (o : Option Uses) → find tag_cmp tag cs ≡ o → option_map (recounted (Less side)) o ≡ Some v → IsRecounted side cs es (Some tag) None
-      by None was at = absurd (cc)
-      by (Some u) was at =
-          let old : counted side cs tag ≡ number side u = ap (λ o. number side (uses_in o)) was in
-          let beside : counted (other side) cs tag ≡ number (other side) u = ap (λ o. number (other side) (uses_in o)) was in
-          let less = less_number side u (omega (arith, old, some)) in
-          let rest = ap (number side) (same_some _ v at) in
-          let rest_other = ap (number (other side)) (same_some _ v at) in
-          let none = unused_number side v no_told no_present in
-          let none_other = unused_number (other side) v no_told no_present in
-          let same_other = less_other side u in
-          let itself = is_tag-itself tag in
-          let nothing = no_number side in
-          let nothing_other = no_number (other side) in
-          moved side tag None cs es (Some tag) None rising used
-          (now_without tag _ cs ds es (now_changed tag (recounted (Less side)) cs ds is) without_is)
-          (λ w e. absurd (cc))
-          (omega (arith, old, less, itself, rest, none, nothing)) (omega (arith, beside, rest_other, none_other, same_other, nothing_other))
-          (λ w apart. is_tag-apart w tag apart)
+  -- a tag, whether it is in use still or not
+  pub lowered : is_sorted tag_cmp ds ≡ true → 0 < counted side cs tag → ds ≡ changed_or_without tag_cmp tag (recounted (Less side)) is_unused cs → IsRecounted side cs ds (Some tag) None
+  lowered rising some is =
+      let less = once_less_number side (find tag_cmp tag cs) some in
+      let itself = is_tag-itself tag in
+      moved side tag (once_less side (find tag_cmp tag cs)) cs ds (Some tag) None rising used
+      (now_with tag _ cs ds is)
+      (once_less_used side (find tag_cmp tag cs))
+      (omega (arith, less, itself)) (once_less_other side (find tag_cmp tag cs))
+      (λ v apart. is_tag-apart v tag apart)
 
 -- a tag with a number is kept
 pub kept_some : (side : Side) (cs : List (Tag × Uses)) (tag : Tag) → 0 < counted side cs tag → find tag_cmp tag cs ≡ None → ⊥

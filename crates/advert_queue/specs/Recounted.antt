@@ -1,5 +1,5 @@
 -- How often a tag is in use once it is once more or less.
-use Rattle.std.specs.Prelude.{◌+◌, ◌-◌, ◌^◌, min}
+use Rattle.std.specs.Prelude.{◌+◌, ◌-◌, ◌^◌, ◌&&◌, Bool, min, nat_eq}
 use Rattle.advert_queue.specs.declared.counts.Recount.{Recount}
 use Rattle.advert_queue.specs.declared.counts.Recount.TheVariants.{More, Less}
 use Rattle.advert_queue.specs.declared.counts.Side.{Side}
@@ -17,3 +17,7 @@ recounted (Less Present) u = record u { present = u.present - 1 }
 abbrev pub one_use : Side → Uses
 one_use Told = record { told = 1; present = 0 }
 one_use Present = record { told = 0; present = 1 }
+
+-- no entry is counted
+abbrev pub is_unused : Uses → Bool
+is_unused u = nat_eq u.told 0 && nat_eq u.present 0

@@ -1,14 +1,14 @@
 //! How many entries have each tag.
 
-ghost use Rattle.std.specs.Prelude.{◌≡◌, ◌&&◌, nat_eq, ◌≤◌, ◌<◌, ◌+◌, ◌^◌, None, Some, IfOk, IfSome, IsTrue, is_some, if◌then◌else◌, map, filter};
+ghost use Rattle.std.specs.Prelude.{◌≡◌, ◌≤◌, ◌<◌, ◌+◌, ◌^◌, None, Some, IfOk, IfSome, IsTrue, is_some, if◌then◌else◌, map, filter};
 ghost use Rattle.std.specs.FinMap.Entries.{find, is_sorted};
 ghost use Rattle.net_types.specs.Keys.{tag_cmp};
 ghost use Rattle.net_types.specs.declared.address.Tag.{Tag as AnyTag};
 ghost use Rattle.advert_queue.specs.Counts.{AreUsed, IsRecounted, counted, entry_tag, is_told_tag, new_places, uses_in};
-ghost use Rattle.advert_queue.specs.Recounted.{one_use, recounted};
+ghost use Rattle.advert_queue.specs.Recounted.{is_unused, one_use, recounted};
 
 use net_types::{Memory, Tag};
-use ordered_map::{Change, OrderedMap};
+use ordered_map::{Change, Lapse, OrderedMap};
 use std::alloc::Global;
 
 /// Which entries are counted: those that were told, or those that are present.
@@ -23,6 +23,14 @@ pub(crate) enum Side {
 pub(crate) struct Uses {
     pub(crate) told: usize,
     pub(crate) present: usize,
+}
+
+impl Lapse for Uses {
+    ghost lapsed = { is_unused };
+
+    fn has_lapsed(&self) -> bool {
+        self.told == 0 && self.present == 0
+    }
 }
 
 /// The tags that are in use, and how often each is.
@@ -95,13 +103,6 @@ pub(crate) fn raise(counts: &mut Counts, side: Side, tag: Tag)
     counts.change_or_put(tag, &Recount::More(side), one_use(side));
 }
 
-/// Whether no entry is counted.
-fn is_unused(uses: Uses) -> bool
-    ensures { result ≡ (nat_eq uses.told 0 && nat_eq uses.present 0) }
-{
-    uses.told == 0 && uses.present == 0
-}
-
 /// Counts a use of a tag less. A tag that isn't in use any more gives its place back.
 pub(crate) fn lower(counts: &mut Counts, side: Side, tag: Tag)
     requires used { AreUsed counts.old.items }
@@ -109,11 +110,7 @@ pub(crate) fn lower(counts: &mut Counts, side: Side, tag: Tag)
     ensures counts { IsRecounted side counts.old.items counts.new.items (Some tag) None }
     ensures room { counts.old.room ≤ counts.new.room }
 {
-    if let Some(uses) = counts.update(&tag, &Recount::Less(side)) {
-        if is_unused(uses) {
-            counts.remove(&tag);
-        }
-    }
+    counts.change_or_remove(&tag, &Recount::Less(side));
 }
 
 /// Counts what had one tag, or none, as what has another one, or none.

@@ -1,6 +1,6 @@
 //! Values that change where they stand, and walks from a key.
 
-use ordered_map::{Change, OrderedMap};
+use ordered_map::{Change, Lapse, OrderedMap};
 use std::test::Fail;
 
 /// Adds to a value.
@@ -14,6 +14,36 @@ impl Change<u8> for Add {
 
     fn change(&self, value: &mut u8) {
         *value = value.wrapping_add(self.0);
+    }
+}
+
+/// How often it may be spent.
+#[derive(Clone, Copy)]
+struct Left {
+    times: u8,
+}
+
+impl Lapse for Left {
+    ghost use Rattle.std.specs.Prelude.{nat_eq};
+
+    ghost lapsed = { λ a. nat_eq a.times 0 };
+
+    fn has_lapsed(&self) -> bool {
+        self.times == 0
+    }
+}
+
+/// Spends a value once.
+#[derive(Clone, Copy)]
+struct Spend;
+
+impl Change<Left> for Spend {
+    ghost use Rattle.std.specs.Prelude.{◌-◌};
+
+    ghost changed = { λ a v. record v { times = v.times - 1 } };
+
+    fn change(&self, value: &mut Left) {
+        value.times = value.times.saturating_sub(1);
     }
 }
 
@@ -35,22 +65,6 @@ fn values_change_in_their_place(rt: HostRuntime) -> Result<(), Fail> {
 }
 
 #[test]
-fn a_changed_value_is_answered(rt: HostRuntime) -> Result<(), Fail> {
-    let mut map: OrderedMap<u32, u8> = OrderedMap::new(rt.alloc());
-    for key in [50, 20, 40] {
-        map.insert(key, 1)?;
-    }
-    assert_eq!(rt; map.update(&40, &Add(5)), Some(6));
-    assert_eq!(rt; map.update(&45, &Add(7)), None);
-    assert!(rt;
-        map.iter()
-            .map(|entry| (*entry.0, *entry.1))
-            .eq([(20, 1), (40, 6), (50, 1)])
-    );
-    Ok(())
-}
-
-#[test]
 fn a_value_is_changed_or_given(rt: HostRuntime) -> Result<(), Fail> {
     let mut map: OrderedMap<u32, u8> = OrderedMap::new(rt.alloc());
     for key in [30, 20, 10, 20, 40, 10, 20] {
@@ -63,6 +77,24 @@ fn a_value_is_changed_or_given(rt: HostRuntime) -> Result<(), Fail> {
             .eq([(10, 6), (20, 11), (30, 1), (40, 1)])
     );
     assert_eq!(rt; map.len(), 4);
+    Ok(())
+}
+
+#[test]
+fn a_value_lapses(rt: HostRuntime) -> Result<(), Fail> {
+    let mut map: OrderedMap<u32, Left> = OrderedMap::new(rt.alloc());
+    for (key, times) in [(50, 1), (20, 2), (40, 1), (10, 3), (30, 1)] {
+        map.insert(key, Left { times })?;
+    }
+    for key in [40, 20, 25, 10, 40, 50] {
+        map.change_or_remove(&key, &Spend);
+    }
+    assert!(rt;
+        map.iter()
+            .map(|entry| (*entry.0, entry.1.times))
+            .eq([(10, 2), (20, 1), (30, 1)])
+    );
+    assert_eq!(rt; map.len(), 3);
     Ok(())
 }
 

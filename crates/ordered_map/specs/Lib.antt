@@ -2,3 +2,4 @@ pub mod Entries
 pub mod Held
 pub mod Kept
 pub mod Changes
+pub mod Lapsed

@@ -4,12 +4,14 @@ ghost use Rattle.std.specs.Prelude.{◌≡◌, ◌≤◌, ◌<◌, ◌+◌, ◌+
 ghost use Rattle.std.specs.Vec.{vec_len};
 ghost use Rattle.std.specs.FinMap.Entries.{find, is_sorted};
 ghost use Rattle.ordered_map.specs.Changes.{changed_or_given};
+ghost use Rattle.std.specs.Option.{option_map};
+ghost use Rattle.ordered_map.specs.Lapsed.{changed_or_without, lapsing};
 ghost use Rattle.ordered_map.specs.Entries.{entries_of, own_entry, is_full, put_given, without, root_value, beside_root, head_of};
 
 use crate::balance::{Height, between, height_of, height_since, level, rebalance};
 use crate::spare::{give_back, lone};
 use crate::tree::{Node, Tree};
-use crate::values::Change;
+use crate::values::{Change, Lapse};
 use std::cmp::Ordering;
 use std::mem;
 
@@ -170,6 +172,59 @@ pub(crate) fn take_from<K: Ord + Drop, V: Drop>(
                 Ordering::Equal => take_root(tree, spare, taken),
                 Ordering::Greater => {
                     let side = take_from(right, spare, key, taken);
+                    rebalance(tree, side)
+                }
+            },
+        },
+    }
+}
+
+/// Changes the value of a key, where it has one, and takes the key out where the value has lapsed then: that is handed out.
+/// Its box waits for another entry, or is freed.
+pub(crate) fn change_or_take<K: Ord + Drop, V: Lapse + Drop, C: Change<V>>(
+    tree: &mut Tree<K, V>,
+    spare: &mut Vec<Box<Node<K, V>>>,
+    key: &K,
+    change: &C,
+    taken: &mut Option<V>,
+) -> Height
+    requires rising { IsTrue (is_sorted K.cmp (entries_of tree.old)) }
+    ensures value { taken.new ≡ lapsing V.lapsed (option_map (C.changed change.now) (find K.cmp key.now (entries_of tree.old))) }
+    ensures entries { entries_of tree.new ≡ changed_or_without K.cmp key.now (C.changed change.now) V.lapsed (entries_of tree.old) }
+    ensures room { vec_len spare.old ≤ vec_len spare.new }
+    ensures one { vec_len spare.new ≤ vec_len spare.old + (if is_some taken.new then 1 else 0) }
+{
+    match tree {
+        Tree::Empty => {
+            *taken = None;
+            Height::Same
+        }
+        Tree::Fork(node) => match &mut **node {
+            Node::Blank => {
+                *taken = None;
+                Height::Same
+            }
+            Node::Full {
+                height: _,
+                key: held,
+                left,
+                right,
+                value,
+            } => match key.cmp(held) {
+                Ordering::Less => {
+                    let side = change_or_take(left, spare, key, change, taken);
+                    rebalance(tree, side)
+                }
+                Ordering::Equal => {
+                    change.change(value);
+                    if value.has_lapsed() {
+                        return take_root(tree, spare, taken);
+                    }
+                    *taken = None;
+                    Height::Same
+                }
+                Ordering::Greater => {
+                    let side = change_or_take(right, spare, key, change, taken);
                     rebalance(tree, side)
                 }
             },

@@ -11,4 +11,4 @@ mod values;
 
 pub use iter::Iter;
 pub use map::OrderedMap;
-pub use values::Change;
+pub use values::{Change, Lapse};

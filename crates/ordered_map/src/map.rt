@@ -5,13 +5,14 @@ ghost use Rattle.std.specs.Option.{option_map};
 ghost use Rattle.std.specs.Map.Iter.{deref_pair};
 ghost use Rattle.std.specs.FinMap.Entries.{find, put, is_sorted};
 ghost use Rattle.ordered_map.specs.Changes.{changed_all, changed_at, changed_or_put};
+ghost use Rattle.ordered_map.specs.Lapsed.{changed_or_without};
 ghost use Rattle.ordered_map.specs.Entries.{without, above, head_of};
 
-use crate::change::{change_or_put_in, put_in, take_from, take_least};
+use crate::change::{change_or_put_in, change_or_take, put_in, take_from, take_least};
 use crate::iter::Iter;
 use crate::spare::fill;
 use crate::tree::{Node, Tree, first, next_after, value_of};
-use crate::values::{Change, change_all, change_at, update_at};
+use crate::values::{Change, Lapse, change_all, change_at};
 use std::alloc::{AllocError, Global};
 use std::marker::Model;
 
@@ -120,20 +121,6 @@ impl<K: Ord, V> OrderedMap<K, V> {
     }
 }
 
-impl<K: Ord, V: Copy> OrderedMap<K, V> {
-    /// Changes the value of a key in its place, and answers what it is then, where it has one.
-    pub fn update<C: Change<V>>(&mut self, key: &K, change: &C) -> Option<V>
-        ensures value { result ≡ option_map (C.changed change.now) (find K.cmp key.now self.old.items) }
-        ensures items { self.new.items ≡ changed_at K.cmp key.now (C.changed change.now) self.old.items }
-        ensures rising { IsTrue (is_sorted K.cmp self.new.items) }
-        ensures room { self.new.room ≡ self.old.room }
-    {
-        let mut now = None;
-        update_at(&mut self.tree, key, change, &mut now);
-        now
-    }
-}
-
 impl<K: Ord + Drop, V: Drop> OrderedMap<K, V> {
     /// Makes room for so many new keys. It takes memory only where there is less, and may then make more room than that.
     pub fn reserve(&mut self, keys: usize) -> Result<(), AllocError>
@@ -228,5 +215,21 @@ impl<K: Ord + Drop, V: Drop> OrderedMap<K, V> {
             self.count -= 1;
         }
         first
+    }
+}
+
+impl<K: Ord + Drop, V: Lapse + Drop> OrderedMap<K, V> {
+    /// Changes the value of a key in its place, where it has one, and takes the key out where the value has lapsed then. It
+    /// takes no memory.
+    pub fn change_or_remove<C: Change<V>>(&mut self, key: &K, change: &C)
+        ensures items { self.new.items ≡ changed_or_without K.cmp key.now (C.changed change.now) V.lapsed self.old.items }
+        ensures rising { IsTrue (is_sorted K.cmp self.new.items) }
+        ensures room { self.old.room ≤ self.new.room }
+    {
+        let mut taken = None;
+        change_or_take(&mut self.tree, &mut self.spare, key, change, &mut taken);
+        if taken.is_some() {
+            self.count -= 1;
+        }
     }
 }

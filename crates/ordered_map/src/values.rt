@@ -1,8 +1,7 @@
 //! Values that change where they stand.
 
-ghost use Rattle.std.specs.Prelude.{◌≡◌, IsTrue};
-ghost use Rattle.std.specs.FinMap.Entries.{find, is_sorted};
-ghost use Rattle.std.specs.Option.{option_map};
+ghost use Rattle.std.specs.Prelude.{◌≡◌, Bool, IsTrue};
+ghost use Rattle.std.specs.FinMap.Entries.{is_sorted};
 ghost use Rattle.ordered_map.specs.Changes.{changed_all, changed_at};
 ghost use Rattle.ordered_map.specs.Entries.{entries_of};
 
@@ -17,6 +16,16 @@ pub trait Change<V> {
     /// Changes a value.
     fn change(&self, value: &mut V)
         ensures { value.new ≡ changed self.now value.old };
+}
+
+/// A value that may lapse, so that its key needs none any more.
+pub trait Lapse {
+    /// Whether it has lapsed.
+    ghost lapsed: { Self → Bool };
+
+    /// Whether it has lapsed.
+    fn has_lapsed(&self) -> bool
+        ensures { result ≡ lapsed self.now };
 }
 
 /// Changes the value of a key, where it has one.
@@ -38,39 +47,6 @@ pub(crate) fn change_at<K: Ord, V, C: Change<V>>(tree: &mut Tree<K, V>, key: &K,
                 Ordering::Less => change_at(left, key, change),
                 Ordering::Equal => change.change(value),
                 Ordering::Greater => change_at(right, key, change),
-            },
-        },
-    }
-}
-
-/// Changes the value of a key, and hands out what it is then, where it has one.
-pub(crate) fn update_at<K: Ord, V: Copy, C: Change<V>>(
-    tree: &mut Tree<K, V>,
-    key: &K,
-    change: &C,
-    now: &mut Option<V>,
-)
-    requires rising { IsTrue (is_sorted K.cmp (entries_of tree.old)) }
-    ensures value { now.new ≡ option_map (C.changed change.now) (find K.cmp key.now (entries_of tree.old)) }
-    ensures entries { entries_of tree.new ≡ changed_at K.cmp key.now (C.changed change.now) (entries_of tree.old) }
-{
-    match tree {
-        Tree::Empty => *now = None,
-        Tree::Fork(node) => match &mut **node {
-            Node::Blank => *now = None,
-            Node::Full {
-                height: _,
-                key: held,
-                left,
-                right,
-                value,
-            } => match key.cmp(held) {
-                Ordering::Less => update_at(left, key, change, now),
-                Ordering::Equal => {
-                    change.change(value);
-                    *now = Some(*value);
-                }
-                Ordering::Greater => update_at(right, key, change, now),
             },
         },
     }
