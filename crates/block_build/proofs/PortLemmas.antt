@@ -13,7 +13,8 @@ use Rattle.net_types.specs.Cubes.{everything}
 use Rattle.net_types.specs.Sets.{Member}
 use Rattle.net_types.specs.declared.address.PortNo.{PortNo}
 use Rattle.net_types.specs.declared.cube.Cube.{Cube}
-use Rattle.block_build.specs.Spreads.{are_for_any_port, restricted}
+use Rattle.block_build.specs.Right.{are_for_any_port}
+use Rattle.block_build.specs.Spreads.{restricted}
 
 -- ---- a port makes no difference
 
@@ -21,7 +22,7 @@ not_some : {A : Type 0} (o : Option A) → not (is_some o) ≡ true → o ≡ No
 not_some None e = refl
 not_some (Some x) e = absurd (false≢true e)
 
-restricted_any : (port : PortNo) (xs : List Line) → are_for_any_port xs ≡ true → restricted port xs ≡ xs
+pub restricted_any : (port : PortNo) (xs : List Line) → are_for_any_port xs ≡ true → restricted port xs ≡ xs
 restricted_any port [] e = refl
 restricted_any port (x ∷ xs) e =
     let parts = and_parts (not (is_some x.cube.inport)) (are_for_any_port xs) e in

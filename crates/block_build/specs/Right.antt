@@ -1,6 +1,7 @@
 -- When rules are right for a view, and when there may be none (this exchange's own rule).
-use Rattle.std.specs.Prelude.{ℕ, ◌<◌, ◌≤◌, List, length}
+use Rattle.std.specs.Prelude.{ℕ, ◌<◌, ◌≤◌, Bool, true, not, ◌&&◌, List, [], ◌∷◌, length, is_some}
 use Rattle.classifier.specs.Meaning as lines
+use Rattle.classifier.specs.declared.line.Line.{Line}
 use Rattle.events.specs.Sound.{IsRightBy}
 use Rattle.net_types.specs.Answers.{Leaving}
 use Rattle.net_types.specs.Meets.{meets}
@@ -26,6 +27,15 @@ view_atoms v port part = atoms_from port (lines.cubes_of v.outbound) (λ who. li
 -- the rules are right for a view, a port and a part
 abbrev pub IsRightFor : Viewed → PortNo → Part → List Rule → Type 0
 IsRightFor v port part rules = IsRightBy port (view_answer v part) (view_atoms v port part) rules
+
+-- none of the rules tells by which port a packet has to come in
+abbrev pub are_for_any_port : List Line → Bool
+are_for_any_port [] = true
+are_for_any_port (x ∷ xs) = not (is_some x.cube.inport) && are_for_any_port xs
+
+-- the rules are right for a view and a part at every port
+abbrev pub IsRightAnywhere : Viewed → Part → List Rule → Type 0
+IsRightAnywhere v part rules = (port : PortNo) → IsRightFor v port part rules
 
 -- how many different cubes right rules for a view can have
 abbrev pub view_cells : Viewed → PortNo → Part → ℕ

@@ -1,5 +1,5 @@
 -- The rules of a sender, spread over the receivers that they send to.
-use Rattle.std.specs.Prelude.{Bool, true, not, ◌&&◌, List, [], ◌∷◌, ◌++◌, map, if◌then◌else◌, is_some}
+use Rattle.std.specs.Prelude.{Bool, List, [], ◌∷◌, ◌++◌, map, if◌then◌else◌}
 use Rattle.classifier.specs.Items.{Item}
 use Rattle.classifier.specs.Lines.{add_lines, line, product}
 use Rattle.classifier.specs.declared.join.Join.TheVariants.{Union}
@@ -13,11 +13,6 @@ use Rattle.block_build.specs.Offers.{goes_to, has_one_left}
 use Rattle.block_build.specs.Receivers.{receivers}
 use Rattle.block_build.specs.Views.{Viewed, inbound_of}
 use Rattle.block_build.specs.declared.receive.Receiver.{Receiver}
-
--- none of the rules tells by which port a packet has to come in
-abbrev pub are_for_any_port : List Line → Bool
-are_for_any_port [] = true
-are_for_any_port (x ∷ xs) = not (is_some x.cube.inport) && are_for_any_port xs
 
 -- the rules of what comes in by a port
 abbrev pub restricted : PortNo → List Line → List Line

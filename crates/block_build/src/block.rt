@@ -1,9 +1,10 @@
 //! Blocks of rules.
 
-ghost use Rattle.std.specs.Prelude.{◌≡◌};
+ghost use Rattle.std.specs.Prelude.{◌≡◌, IfOk};
 ghost use Rattle.block_build.specs.declared.block.BuildFault.TheVariants as fault;
 
-use net_types::{Items, Memory, Rule};
+use net_types::{Items, Memory, Rule, TryCopy};
+use std::alloc::Global;
 use std::marker::Model;
 
 /// The rules of a pair. Only building makes one. Contracts see the rules, in their order.
@@ -21,6 +22,38 @@ impl Model for Block {
     ghost view = { λ b. b.rules.items };
 }
 
+/// The same rules, of which copies share the actions.
+fn shared_rules(rules: Vec<Rule>) -> Result<Vec<Rule>, Memory>
+    ensures { IfOk result (λ shared. shared.items ≡ rules.items) }
+{
+    let mut shared = Vec::with_capacity(*rules.allocator(), rules.len())?;
+    for rule in rules {
+        let Rule { cube, actions } = rule;
+        let actions = actions.shared()?;
+        shared.push(Rule { cube, actions })?;
+    }
+    Ok(shared)
+}
+
+/// Copies of rules, which share their actions where these are shared.
+fn copied_rules(alloc: Global, rules: &[Rule]) -> Result<Vec<Rule>, Memory>
+    ensures { IfOk result (λ copies. copies.items ≡ rules.now) }
+{
+    let mut copies = Vec::with_capacity(alloc, rules.len())?;
+    for rule in rules {
+        let rule = rule.copy()?;
+        copies.push(rule)?;
+    }
+    Ok(copies)
+}
+
+impl TryCopy for Block {
+    fn copy(&self) -> Result<Block, Memory> {
+        let rules = copied_rules(*self.rules.allocator(), self.rules.as_slice())?;
+        Ok(Block { rules })
+    }
+}
+
 impl Block {
     pub(crate) fn new(rules: Vec<Rule>) -> Block
         ensures { result ≡ rules.items }
@@ -33,6 +66,14 @@ impl Block {
         ensures { result.now ≡ self.now }
     {
         self.rules.as_slice()
+    }
+
+    /// The same rules, of which a copy shares the actions.
+    pub fn shared(self) -> Result<Block, Memory>
+        ensures { IfOk result (λ shared. shared ≡ self) }
+    {
+        let rules = shared_rules(self.rules)?;
+        Ok(Block { rules })
     }
 
     /// The rules as a list, in their order.

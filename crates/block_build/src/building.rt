@@ -1,9 +1,9 @@
 //! Building the rules of a pair.
 
-ghost use Rattle.std.specs.Prelude.{◌≡◌, ◌+◌, ◌≤◌, IsTrue, IfOk, IfErr, length};
+ghost use Rattle.std.specs.Prelude.{◌≡◌, ◌+◌, ◌≤◌, true, IsTrue, IfOk, IfErr, length};
 ghost use Rattle.net_types.specs.Answers.{is_offered};
 ghost use Rattle.block_build.specs.Offers.{each_once};
-ghost use Rattle.block_build.specs.Right.{IsRightFor, IsWide, view_cells};
+ghost use Rattle.block_build.specs.Right.{are_for_any_port, IsRightAnywhere, IsRightFor, IsWide, view_cells};
 ghost use Rattle.block_build.specs.Rules.{rules_of};
 ghost use Rattle.block_build.specs.Views.{has_all};
 
@@ -28,6 +28,7 @@ fn lines_for(
     requires once { IsTrue (each_once part.now.offers) }
     requires all { IsTrue (has_all view.now part.now.offers) }
     ensures right { IfOk result (λ v. length v.items ≤ limit → IsRightFor view.now port part.now (rules_of v.items)) }
+    ensures anywhere { IfOk result (λ v. length v.items ≤ limit → are_for_any_port view.now.outbound ≡ true → IsRightAnywhere view.now part.now (rules_of v.items)) }
     ensures cells { IfOk result (λ v. length v.items ≤ view_cells view.now port part.now) }
 {
     view.known();
@@ -37,6 +38,7 @@ fn lines_for(
 
 /// The rules for what comes in by a port and is sent by a part of a signature, by the classifiers of a view. It counts one
 /// step. What goes to a hole is discarded. Where it finds more rules than the room it stops, and answers how many it found.
+/// Where the sender's rules don't tell by which port a packet has to come in, the rules are right at every port.
 pub fn build<L: Ledger>(
     alloc: Global,
     view: &View<'_>,
@@ -50,6 +52,7 @@ pub fn build<L: Ledger>(
     requires all { IsTrue (has_all view.now part.now.offers) }
     ensures step { steps.new ≡ steps.old + 1 }
     ensures right { IfOk result (λ block. IsRightFor view.now port part.now block) }
+    ensures anywhere { IfOk result (λ block. are_for_any_port view.now.outbound ≡ true → IsRightAnywhere view.now part.now block) }
     ensures room { IfOk result (λ block. length block ≤ room) }
     ensures wide { IfErr result (λ fault. IsWide room (view_cells view.now port part.now) fault) }
 {

@@ -9,7 +9,8 @@ ghost use Rattle.net_types.specs.Cells.{freed};
 ghost use Rattle.block_build.specs.Bounds.{AreMeets, IsAdded, IsEnd, IsGrown, IsReached, IsSome, IsSomeBeside};
 ghost use Rattle.block_build.specs.Closed.{AreClosed};
 ghost use Rattle.block_build.specs.Receivers.{receivers};
-ghost use Rattle.block_build.specs.Spreads.{are_for_any_port, blocks, built, restricted, spread, within_rule};
+ghost use Rattle.block_build.specs.Right.{are_for_any_port};
+ghost use Rattle.block_build.specs.Spreads.{blocks, built, restricted, spread, within_rule};
 ghost use Rattle.block_build.specs.Views.{inbound_of};
 
 use crate::alone::beside_alone;
@@ -383,7 +384,7 @@ fn exits_of<'v>(
 }
 
 /// Whether none of the rules tells by which port a packet has to come in.
-fn are_for_any_port(xs: &[Line]) -> bool
+pub(crate) fn are_for_any_port(xs: &[Line]) -> bool
     ensures { result ≡ are_for_any_port xs.now }
 {
     for x in xs {

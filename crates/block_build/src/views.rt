@@ -4,10 +4,12 @@ ghost use Rattle.std.specs.Prelude.{◌≡◌, ◌<◌, ◌++◌, ◌∷◌, [],
 ghost use Rattle.classifier.specs.Classifiers.{lines_of};
 ghost use Rattle.net_types.specs.Sets.{Member};
 ghost use Rattle.block_build.specs.Lent.{inbound_at, outbound_at};
+ghost use Rattle.block_build.specs.Right.{are_for_any_port};
 ghost use Rattle.block_build.specs.Views.{has_all, inbound_of};
 
+use crate::spread::are_for_any_port;
 use crate::view::View;
-use classifier::Classifier;
+use classifier::{Classifier, Line};
 use net_types::{Memory, Offer, Part, Pid};
 use std::alloc::Global;
 use std::marker::Model;
@@ -23,6 +25,28 @@ pub struct Both<'p> {
 #[derive(Drop)]
 pub struct Views<'p> {
     all: Vec<Both<'p>>,
+}
+
+/// Whether two rules are the same.
+fn is_same(one: &Line, other: &Line) -> bool
+    ensures { IsTrue result → one.now ≡ other.now }
+{
+    one.cube == other.cube && one.results.equals(&other.results)
+}
+
+/// Whether two lists have the same rules in the same order.
+fn are_same(one: &[Line], other: &[Line]) -> bool
+    ensures { IsTrue result → one.now ≡ other.now }
+{
+    if one.len() != other.len() {
+        return false;
+    }
+    for i in 0..one.len() {
+        if !is_same(&one[i], &other[i]) {
+            return false;
+        }
+    }
+    true
 }
 
 impl<'p> Model for Views<'p> {
@@ -69,6 +93,26 @@ impl<'p> Views<'p> {
             view.add(who, self.both(who).inbound)?;
         }
         Ok(view)
+    }
+
+    /// Whether two participants have the same rules as senders. Where they have, the rules may still be said not to be.
+    pub fn send_alike(&self, one: Pid, other: Pid) -> bool
+        requires one { one.0 < length self.now }
+        requires other { other.0 < length self.now }
+        ensures { IsTrue result → outbound_at self.now one ≡ outbound_at self.now other }
+    {
+        let one = self.both(one).outbound;
+        let other = self.both(other).outbound;
+        are_same(one.lines(), other.lines())
+    }
+
+    /// Whether no rule of a participant as a sender tells by which port a packet has to come in.
+    pub fn sends_from_any_port(&self, who: Pid) -> bool
+        requires { who.0 < length self.now }
+        ensures { result ≡ are_for_any_port (outbound_at self.now who) }
+    {
+        let own = self.both(who).outbound;
+        are_for_any_port(own.lines())
     }
 
     /// The classifiers of a participant.

@@ -1,6 +1,6 @@
 -- What is left decides.
 use Rattle.std.proofs.Common.{◌≡◌, drop}
-use Rattle.block_build.specs.Spreads.{are_for_any_port}
+use Rattle.block_build.specs.Right.{are_for_any_port}
 use Rattle.block_build.proofs.spread.are_for_any_port.Given as goal
 
 abbrev pub invariant-loop-x : goal.invariant-loop-x
