@@ -37,3 +37,4 @@ pub mod OffersPlanned
 pub mod OffersCounted
 pub mod PlanFound
 pub mod PlanMade
+pub mod LastLemmas

@@ -13,3 +13,4 @@ pub mod Planned
 pub mod Carried
 pub mod Building
 pub mod Drafts
+pub mod Last

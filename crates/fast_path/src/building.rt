@@ -1,9 +1,10 @@
 //! Building the rules of the pairs that come, and of those that are built anew.
 
-ghost use Rattle.std.specs.Prelude.{◌≡◌, ◌≤◌, ◌<◌, ◌+◌, ◌-◌, ◌^◌, ◌++◌, ◌∷◌, [], length, map, sum_by, IfOk, IfErr, OnOk, MatchResult, option_copied, find};
+ghost use Rattle.std.specs.Prelude.{◌≡◌, ◌≤◌, ◌<◌, ◌+◌, ◌-◌, ◌^◌, ◌++◌, ◌∷◌, [], Option, Some, length, map, sum_by, IfOk, IfErr, IfSome, OnOk, MatchResult, option_copied, find};
 ghost use Rattle.std.specs.Option.{option_and_then};
 ghost use Rattle.net_types.specs.Answers.{Policies};
 ghost use Rattle.net_types.specs.Sets.{Member, union_over};
+ghost use Rattle.net_types.specs.declared.route.Part.{Part as AnyPart};
 ghost use Rattle.net_types.specs.declared.rule.Pair.{Pair as AnyPair};
 ghost use Rattle.events.specs.Fits.{flows_of};
 ghost use Rattle.events.specs.Sound.{IsRight, part_of};
@@ -11,8 +12,11 @@ ghost use Rattle.exchange_laws.specs.Whole.{IsWhole};
 ghost use Rattle.block_build.specs.Installed.{count_at, rule_count};
 ghost use Rattle.block_build.specs.Lent.{AreOf};
 ghost use Rattle.fast_path.specs.Building.{AreBlocksFor, AreInOrder, HasPart, IsBlockFor, IsFaultBeside, IsFaultFor, IsRefusedFor, IsWideBy, is_class_of, part_at, refused, rules_left, sig_after, site_of};
+ghost use Rattle.fast_path.specs.Grouping.{Known};
+ghost use Rattle.fast_path.specs.Last.{IsLast};
 
 use crate::known::{KnownClasses, part_in};
+use crate::last::{Last, built_again, keep};
 use crate::planned::{Class, FastFault};
 use block_build::{
     Block, Blocks, BuildFault, Views, build, no_more_cells, right_for_policies, views_are_of,
@@ -77,9 +81,12 @@ fn block_of<L: Ledger>(
     port: PortNo,
     part: &Part,
     room: usize,
+    last: &mut Option<Last>,
     steps: &mut Steps<L>,
 ) -> Result<Block, BuildFault>
-    requires { IsWhole (length views.now) part.now }
+    requires whole { IsWhole (length views.now) part.now }
+    requires last { IsLast views.now last.old }
+    ensures last { IsLast views.now last.new }
     ensures steps { steps.new ≤ steps.old + 1 }
     ensures right { IfOk result (λ block. (ps : Policies) → AreOf ps views.now → IsRight ps part.now port block) }
     ensures room { IfOk result (λ block. length block ≤ room) }
@@ -89,8 +96,55 @@ fn block_of<L: Ledger>(
     views_are_of();
     right_for_policies();
     no_more_cells();
+    if let Some(block) = built_again(views, last, part, room)? {
+        steps.tick();
+        return Ok(block);
+    }
     let view = views.view(alloc, part)?;
-    build(alloc, &view, port, part, room, steps)
+    let block = build(alloc, &view, port, part, room, steps)?;
+    let block = keep(views, last, part, block)?;
+    Ok(block)
+}
+
+/// The same, where the tag is fresh, as its class has it.
+fn part_of_fresh<'c>(names: &Registry, fresh: &'c [Class], pair: Pair) -> Option<&'c Part>
+    requires { AreInOrder fresh.now }
+    ensures { IfSome result (λ part. (known : Known) → part_at names.now known fresh.now pair ≡ Some part.now) }
+{
+    let class = class_of(fresh, pair.tag)?;
+    let port = names.port(pair.port)?;
+    part_in(class.sig.items(), port.owner)
+}
+
+/// The rules of a pair with this part, where there is room for them beside as many as were built. Else it answers how many there
+/// are with those.
+fn block_within<L: Ledger>(
+    alloc: Global,
+    views: &Views<'_>,
+    pair: Pair,
+    part: &Part,
+    built: usize,
+    room: usize,
+    last: &mut Option<Last>,
+    steps: &mut Steps<L>,
+) -> Result<Block, BuildFault>
+    requires whole { IsWhole (length views.now) part.now }
+    requires within { built ≤ room }
+    requires small { room < 2 ^ 32 }
+    requires last { IsLast views.now last.old }
+    ensures last { IsLast views.now last.new }
+    ensures steps { steps.new ≤ steps.old + 1 }
+    ensures right { IfOk result (λ block. (at : AnyPair → Option AnyPart) → at pair ≡ Some part.now → IsBlockFor (record { part = at; all = views.now }) pair block) }
+    ensures room { IfOk result (λ block. built + length block ≤ room) }
+    ensures wide { IfErr result (λ fault. (at : AnyPair → Option AnyPart) → at pair ≡ Some part.now → IsFaultBeside (record { part = at; all = views.now }) pair built room fault) }
+{
+    match block_of(alloc, views, pair.port, part, room - built, last, steps) {
+        Ok(block) => Ok(block),
+        Err(BuildFault::Memory) => Err(BuildFault::Memory),
+        Err(BuildFault::Wide { rules }) => Err(BuildFault::Wide {
+            rules: built.saturating_add(rules),
+        }),
+    }
 }
 
 /// The rules of a pair, where there is room for them beside as many as were built. Else it answers how many there are
@@ -104,27 +158,27 @@ fn block_beside<L: Ledger>(
     pair: Pair,
     built: usize,
     room: usize,
+    last: &mut Option<Last>,
     steps: &mut Steps<L>,
 ) -> Result<Block, BuildFault>
     requires part { HasPart (site_of names.now known.now fresh.now views.now) pair }
     requires rising { AreInOrder fresh.now }
     requires within { built ≤ room }
     requires small { room < 2 ^ 32 }
+    requires last { IsLast views.now last.old }
+    ensures last { IsLast views.now last.new }
     ensures steps { steps.new ≤ steps.old + 1 }
     ensures right { IfOk result (IsBlockFor (site_of names.now known.now fresh.now views.now) pair) }
     ensures room { IfOk result (λ block. built + length block ≤ room) }
     ensures wide { IfErr result (IsFaultBeside (site_of names.now known.now fresh.now views.now) pair built room) }
 {
+    if let Some(part) = part_of_fresh(names, fresh, pair) {
+        return block_within(alloc, views, pair, part, built, room, last, steps);
+    }
     let Some(part) = part_at(names, known, fresh, pair)? else {
         unreachable!()
     };
-    match block_of(alloc, views, pair.port, &part, room - built, steps) {
-        Ok(block) => Ok(block),
-        Err(BuildFault::Memory) => Err(BuildFault::Memory),
-        Err(BuildFault::Wide { rules }) => Err(BuildFault::Wide {
-            rules: built.saturating_add(rules),
-        }),
-    }
+    block_within(alloc, views, pair, &part, built, room, last, steps)
 }
 
 /// Puts the rules of a pair last.
@@ -155,9 +209,10 @@ fn blocks_for<L: Ledger>(
 {
     let mut blocks = Vec::new(alloc);
     let mut built = 0;
+    let mut last = None;
     for &pair in pairs {
         let block = match block_beside(
-            alloc, names, known, fresh, views, pair, built, room, steps,
+            alloc, names, known, fresh, views, pair, built, room, &mut last, steps,
         ) {
             Ok(block) => block,
             Err(fault) => return Err(fault),

@@ -12,6 +12,7 @@ mod fresh;
 mod group_key;
 mod grouping;
 mod known;
+mod last;
 mod newly;
 mod offering;
 mod pairs;

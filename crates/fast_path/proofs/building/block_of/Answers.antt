@@ -1,15 +1,34 @@
--- What is right for the view is right for the policies, and what is within its cells is within theirs.
-use Rattle.fast_path.proofs.BlockLemmas.{right_by, wide_by}
+-- What is right for a view is right for the policies, whether it is built by the view or was before.
+use Rattle.std.proofs.Common.{ap, subst, sym, ◌∙◌}
+use Rattle.std.specs.Prelude.{IfSome}
+use Rattle.block_build.specs.Right.{IsRightFor, are_for_any_port}
+use Rattle.fast_path.specs.Last.{IsRightByViews}
 use Rattle.fast_path.proofs.building.block_of.Goals as goal
 
-pub returns-clause-right : goal.returns-clause-right
-returns-clause-right g c =
-    let view = c.in_ok-view.ensures in
-    right_by c.args.views.now c.args.part.now c.args.port c.in_ok-view.view c.build.result c.requires c.right_for_policies.ensures
-    (λ ps of. c.views_are_of.ensures ps c.args.views.now c.args.part.now c.in_ok-view.view of c.requires.sender c.requires.exporters view.outbound view.receivers) c.build.ensures.right
+pub returns-in-Some-clause-right : goal.returns-in-Some-clause-right
+returns-in-Some-clause-right g c = λ ps of.
+    let all = c.args.views.now in
+    let part = c.args.part.now in
+    let whole = c.requires.whole in
+    let again : IsRightByViews all part c.in-Some.block = subst (λ o. IfSome o (IsRightByViews all part)) c.in-Some.is c.in_ok-block.ensures.right in
+    c.right_for_policies.ensures ps part c.args.port again.view c.in-Some.block whole.best
+    (c.views_are_of.ensures ps all part again.view of whole.sender whole.exporters again.outbound again.inbound) (again.right c.args.port)
 
-pub returns-clause-wide : goal.returns-clause-wide
-returns-clause-wide g c =
+pub keep-requires-clause-right : goal.keep-requires-clause-right
+keep-requires-clause-right g c = λ any.
     let view = c.in_ok-view.ensures in
-    wide_by c.args.views.now c.args.part.now c.args.port c.in_ok-view.view c.args.room c.build.result c.no_more_cells.ensures
-    (λ ps of. c.views_are_of.ensures ps c.args.views.now c.args.part.now c.in_ok-view.view of c.requires.sender c.requires.exporters view.outbound view.receivers) c.build.ensures.wide
+    record {
+      view = c.in_ok-view.view;
+      outbound = view.outbound;
+      inbound = view.receivers;
+      right = c.in_ok-block-2.ensures.anywhere (ap are_for_any_port view.outbound ∙ any);
+    }
+
+pub returns-clause-right : goal.returns-clause-right
+returns-clause-right g c = λ ps of.
+    let part = c.args.part.now in
+    let whole = c.requires.whole in
+    let view = c.in_ok-view.ensures in
+    c.right_for_policies.ensures ps part c.args.port c.in_ok-view.view c.in_ok-block-3.block whole.best
+    (c.views_are_of.ensures ps c.args.views.now part c.in_ok-view.view of whole.sender whole.exporters view.outbound view.receivers)
+    (subst (IsRightFor c.in_ok-view.view c.args.port part) (sym c.in_ok-block-3.ensures.block) c.in_ok-block-2.ensures.right)

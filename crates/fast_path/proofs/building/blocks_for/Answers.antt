@@ -30,5 +30,6 @@ loop-pair-preserved g c =
       right = subst (AreRightFor site) (sym more) (more_right site c.loop-pair.blocks.items pair c.in-Ok.block before.right c.in-Ok.ensures.right);
       counted = ap (λ n. c.loop-pair.built + n) (ap length c.rules.ensures) ∙ ap (λ n. n + length c.in-Ok.block) before.counted ∙ sym (ap block_count more ∙ more_rules c.loop-pair.blocks.items pair c.in-Ok.block);
       within = (let room = c.in-Ok.ensures.room in let rules = ap length c.rules.ensures in omega (arith, room, rules));
+      last = c.block_beside.ensures.last;
       few = (let one = c.block_beside.ensures.steps in let few = before.few in omega (arith, one, few));
     }
