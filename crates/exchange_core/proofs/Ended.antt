@@ -88,8 +88,8 @@ steady_with core s is steady few = record { steady = subst IsSteady (sym is) ste
 
 module _ (core : State) (names : Registered) (classes : Classes) (pool : Tags) (switch : Installed) (adverts : Advertised) (shows : Shows core names classes pool switch adverts) (s : State) (is : without_job s ≡ core) where
   -- so the parts are ending
-  pub ending : IsSteadyInJob s → (pairs : List Pair) (swap : Swap) → pairs ≡ keys core.table → IsSwap (setting_of core) swap → IsEnding s names classes adverts switch pairs swap
-  ending steady pairs swap listed swaps = record {
+  pub ending : IsSteadyInJob s → (swap : Swap) → IsSwap (setting_of core) swap → IsEnding s names classes adverts switch swap
+  ending steady swap swaps = record {
     steady = steady;
     participants = ap (λ (x : State). x.routing.participants) is ∙ shows.participants;
     ports = ap (λ (x : State). x.routing.ports) is ∙ shows.ports;
@@ -98,7 +98,6 @@ module _ (core : State) (names : Registered) (classes : Classes) (pool : Tags) (
     told = ap (λ (x : State). x.told) is ∙ shows.told;
     present = ap all_present is ∙ shows.present;
     table = ap (λ (x : State). x.table) is ∙ shows.table;
-    listed = listed ∙ ap keys shows.table;
     is_swap = subst (λ (x : State). IsSwap (setting_of x) swap) (sym is) swaps;
   }
 

@@ -17,18 +17,16 @@ use Rattle.recompile.specs.Setting.{setting}
 use Rattle.recompile.specs.Underway.{Underway}
 use Rattle.recompile.proofs.ChangeLemmas.{counted_is_there, second}
 
--- where neither the prefixes nor the pairs are too many
-pub begun_covers : (classes : Classes) (table : FinMap pair_cmp (List Rule)) (pairs : List Pair) (j : Underway) → pairs ≡ keys table → length pairs ≤ 1048576 → length (entries classes.tag) ≤ 1048576 → CoversListed classes.tag [] pairs j → Covers (setting classes table) j
-begun_covers classes table pairs j all few carried covers = covers (setting classes table) (record {
+-- where the prefixes aren't too many
+pub begun_covers : (classes : Classes) (table : FinMap pair_cmp (List Rule)) (pairs : List Pair) (j : Underway) → pairs ≡ keys table → length (entries classes.tag) ≤ 1048576 → CoversListed classes.tag [] pairs j → Covers (setting classes table) j
+begun_covers classes table pairs j all carried covers = covers (setting classes table) (record {
   prefixes = omega arith;
   tags = λ t used. inl used;
   pairs = there;
   few = record {
     tags = map second (entries classes.tag);
-    pairs = pairs;
-    few = let count : length (map second (entries classes.tag)) ≡ length (entries classes.tag) = length-map (entries classes.tag) second in omega (arith, count, few, carried);
+    few = let count : length (map second (entries classes.tag)) ≡ length (entries classes.tag) = length-map (entries classes.tag) second in omega (arith, count, carried);
     all_tags = λ t used. counted_is_there t (entries classes.tag) used;
-    all_pairs = there;
   };
 })
   where

@@ -12,7 +12,7 @@ use prefix_classes::{ClassMap, new_ones_are_few};
 use std::alloc::Global;
 use std::sync::ledger::Ledger;
 
-/// As many prefixes or pairs as a job is given at most.
+/// As many prefixes as a job is given at most.
 const MANY: usize = 1048576;
 
 /// For how many rules a table has room.
@@ -73,17 +73,15 @@ impl Desk {
         }
     }
 
-    /// The pairs of the table, where neither they nor the prefixes are too many for a job.
-    pub fn few_pairs(&self, alloc: Global) -> Result<Pairs, Wrong>
+    /// The pairs of the table, where the prefixes aren't too many for a job.
+    pub fn pairs_for_job(&self, alloc: Global) -> Result<Pairs, Wrong>
         ensures pairs { IfOk result (λ pairs. pairs ≡ keys self.now.switch.table) }
-        ensures few { IfOk result (λ pairs. length pairs ≤ 1048576) }
         ensures carried { IfOk result (λ _. length (entries self.now.classes.tag) ≤ 1048576) }
     {
-        let pairs = pairs_of(alloc, &self.switch)?;
-        if pairs.len() > MANY || self.classes.carried() > MANY {
+        if self.classes.carried() > MANY {
             return Err(Wrong::Row);
         }
-        Ok(pairs)
+        Ok(pairs_of(alloc, &self.switch)?)
     }
 
     /// How many prefixes, tags, pairs and rules there are.

@@ -20,7 +20,7 @@ fn started(alloc: Global, desk: &Desk) -> Result<Job, Wrong>
     ensures covers { IfOk result (Covers (setting desk.now.classes desk.now.switch.table)) }
     ensures owed { IfOk result (λ job. job.owed ≡ capped (length (entries desk.now.classes.tag) + length (keys desk.now.switch.table))) }
 {
-    let pairs = desk.few_pairs(alloc)?;
+    let pairs = desk.pairs_for_job(alloc)?;
     Ok(Job::start(alloc, &desk.classes, pairs)?)
 }
 
@@ -29,7 +29,7 @@ fn begun_anew(alloc: Global, job: &mut Job, desk: &Desk) -> Result<(), Wrong>
     ensures covers { OnOk result (Covers (setting desk.now.classes desk.now.switch.table) job.new) }
     ensures owed { OnOk result (job.new.owed ≡ capped (length (entries desk.now.classes.tag) + length (keys desk.now.switch.table))) }
 {
-    let pairs = desk.few_pairs(alloc)?;
+    let pairs = desk.pairs_for_job(alloc)?;
     Ok(job.on_policy(&desk.classes, &[], pairs)?)
 }
 

@@ -43,7 +43,6 @@ use Rattle.prefix_classes.proofs.MemberLemmas.{no_members}
 use Rattle.prefix_classes.specs.Classes.{Classes}
 use Rattle.prefix_classes.specs.Merging.{IsMergeOf, moved}
 use Rattle.recompile.specs.Setting.{setting_of}
-use Rattle.recompile.specs.Underway.{others_of}
 use Rattle.recompile.specs.Working.{IsSwap}
 use Rattle.recompile.specs.declared.swap.Swap.{Swap}
 use Rattle.std.specs.List.{list_any}
@@ -163,7 +162,7 @@ module _ (s : State) (swap : Swap) (end : End) (steady : IsSteadyInJob s) (is_sw
   })
 
   abbrev rules_then : Pair → List Rule
-  rules_then pair = unwrap_or (others_of swap.built pair) []
+  rules_then pair = unwrap_or (get swap.built pair) []
 
   those_come : AreThose (comes s s2 (has_other_rules s s2)) end.changed
   those_come = record {

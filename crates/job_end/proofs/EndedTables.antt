@@ -39,7 +39,7 @@ use Rattle.net_types.specs.Sets.{IsRising, Member}
 use Rattle.net_types.specs.declared.rule.Pair.{Pair}
 use Rattle.net_types.specs.declared.rule.Rule.{Rule}
 use Rattle.recompile.specs.Setting.{setting_of}
-use Rattle.recompile.specs.Underway.{BuiltPairs, others_of}
+use Rattle.recompile.specs.Underway.{BuiltPairs}
 use Rattle.recompile.specs.Working.{IsSwap}
 use Rattle.recompile.specs.declared.swap.Swap.{Swap}
 use Rattle.std.proofs.lemmas.Option.{same_Some}
@@ -94,63 +94,56 @@ module _ (s : State) (swap : Swap) (end : End) (steady : IsSteadyInJob s) (is_sw
 
   -- ---- what the table has at a pair
 
-  -- the rules of a live pair, and those that were built for it
+  -- the rules of a live pair, of which those that were built for it, or else they themselves, are a tight form
   pub record HasBuilt (pair : Pair) : Type 0 where
     pub old : List Rule
     pub had : get s.table pair ≡ Some old
-    pub made : Option (List Rule)
-    pub built_is : get swap.built pair ≡ Some made
-    pub tight : IsTightForm old (unwrap_or made old)
+    pub tight : IsTightForm old (unwrap_or (get swap.built pair) old)
 
   pub has_built : (pair : Pair) → is_live_pair s pair ≡ true → HasBuilt pair
   has_built pair live = by (get s.table pair) refl
     where
       by : (o : Option (List Rule)) → get s.table pair ≡ o → HasBuilt pair
-      by (Some old) had = let built = is_swap.built pair old had in record { old = old; had = had; made = built.0; built_is = built.1; tight = built.2 }
+      by (Some old) had = record { old = old; had = had; tight = is_swap.built pair old had }
       by None had = absurd (clash (steady.steady.sound.pairs pair ∙ live) (ap is_some had))
 
   -- a pair that stays live isn't taken out
   pub left_at : (pair : Pair) → is_live_pair s1 pair ≡ true → get left pair ≡ get s.table pair
   left_at pair now = ap (λ t. get t pair) (without_is s.table end.gone) ∙ get_without_others pair_cmp pairs_total pair_tie end.gone s.table pair (λ m. clash now (is.gone.each pair m).1)
 
-  pub changed_at : (pair : Pair) → Member pair end.changed → get table pair ≡ Some (unwrap_or (others_of swap.built pair) [])
+  pub changed_at : (pair : Pair) → Member pair end.changed → get table pair ≡ Some (unwrap_or (get swap.built pair) [])
   changed_at pair m =
-      let b : Block = (pair, unwrap_or (others_of swap.built pair) []) in
+      let b : Block = (pair, unwrap_or (get swap.built pair) []) in
       ap (λ t. get t pair) (with_is left blocks)
-      ∙ get_with_those pair_cmp pairs_total pair_tie blocks left blocks_apart b (Member-map (λ q. let c : Block = (q, unwrap_or (others_of swap.built q) []) in c) end.changed pair m)
+      ∙ get_with_those pair_cmp pairs_total pair_tie blocks left blocks_apart b (Member-map (λ q. let c : Block = (q, unwrap_or (get swap.built q) []) in c) end.changed pair m)
 
   unchanged_at : (pair : Pair) → (Member pair end.changed → ⊥) → get table pair ≡ get left pair
   unchanged_at pair none =
       ap (λ t. get t pair) (with_is left blocks)
       ∙ get_with_others pair_cmp pairs_total pair_tie blocks left pair (λ b m at. none (subst (λ ps. Member pair ps) (block_pairs swap.built end.changed) (subst (λ q. Member q (map pair_of blocks)) at (Member-map pair_of blocks b m))))
 
-  -- the other rules of a live pair
-  others_at : (pair : Pair) (built : HasBuilt pair) → others_of swap.built pair ≡ built.made
-  others_at pair built = ap (λ o. unwrap_or o None) built.built_is
-
   -- a live pair has the rules that were built for it, or those that it had
-  pub live_at_end : (pair : Pair) → is_live_pair s1 pair ≡ true → (built : HasBuilt pair) → get table pair ≡ Some (unwrap_or built.made built.old)
+  pub live_at_end : (pair : Pair) → is_live_pair s1 pair ≡ true → (built : HasBuilt pair) → get table pair ≡ Some (unwrap_or (get swap.built pair) built.old)
   live_at_end pair now built = by (other pair) refl
     where
       live : is_live_pair s pair ≡ true
       live = pair_was_live s steady.steady pair now
 
-      other_is : other pair ≡ are_others (Some built.old) built.made
-      other_is = λ i. are_others (built.had i) (others_at pair built i)
+      other_is : other pair ≡ are_others (Some built.old) (get swap.built pair)
+      other_is = λ i. are_others (built.had i) (get swap.built pair)
 
       come : other pair ≡ true → comes s s1 other pair ≡ true
       come is_new_now = λ i. now i && (not (live i) || is_new_now i)
 
-      by : (b : Bool) → other pair ≡ b → get table pair ≡ Some (unwrap_or built.made built.old)
+      by : (b : Bool) → other pair ≡ b → get table pair ≡ Some (unwrap_or (get swap.built pair) built.old)
       by true others =
           changed_at pair (is.changed.all pair (come others))
-          ∙ ap (λ o. Some (unwrap_or o [])) (others_at pair built)
-          ∙ made_is built.made built.old (sym other_is ∙ others)
+          ∙ made_is (get swap.built pair) built.old (sym other_is ∙ others)
       by false same =
           unchanged_at pair (λ m. clash (second (is_live_pair s pair) (other pair) live (and_parts (is_live_pair s1 pair) (is_new s other pair) (is.changed.each pair m)).1) same)
           ∙ left_at pair now
           ∙ built.had
-          ∙ made_same built.made built.old (sym other_is ∙ same)
+          ∙ made_same (get swap.built pair) built.old (sym other_is ∙ same)
 
   -- and any other pair has none
   pub dead_at_end : (pair : Pair) → is_live_pair s1 pair ≡ false → get table pair ≡ None
@@ -183,7 +176,7 @@ module _ (s : State) (swap : Swap) (end : End) (steady : IsSteadyInJob s) (is_sw
   rebuilt pair rules at =
       let now : is_live_pair s1 pair ≡ true = sym (pairs_at_end pair) ∙ is_some_of (get table pair) rules at in
       let built = has_built pair (pair_was_live s steady.steady pair now) in
-      let same : unwrap_or built.made built.old ≡ rules = same_Some (unwrap_or built.made built.old) rules (sym (live_at_end pair now built) ∙ at) in
+      let same : unwrap_or (get swap.built pair) built.old ≡ rules = same_Some (unwrap_or (get swap.built pair) built.old) rules (sym (live_at_end pair now built) ∙ at) in
       record { now = now; old = built.old; had = built.had; tight = subst (IsTightForm built.old) same built.tight }
 
   right_at_end : (ps : Policies) → ArePolicies s ps → (pair : Pair) (rules : List Rule) → get table pair ≡ Some rules → IsRightAt ps s1 pair rules
@@ -217,7 +210,7 @@ module _ (s : State) (swap : Swap) (end : End) (steady : IsSteadyInJob s) (is_sw
   same_others : (pair : Pair) → is_live_pair s1 pair ≡ true → has_other_rules s (ended s swap end) pair ≡ other pair
   same_others pair now =
       let built = has_built pair (pair_was_live s steady.steady pair now) in
-      (λ i. not (same_option (pointwise same_rule) (built.had i) (live_at_end pair now built i))) ∙ others_tell built.made built.old ∙ sym (λ i. are_others (built.had i) (others_at pair built i))
+      (λ i. not (same_option (pointwise same_rule) (built.had i) (live_at_end pair now built i))) ∙ others_tell (get swap.built pair) built.old ∙ sym (λ i. are_others (built.had i) (get swap.built pair))
 
   pub same_comes : (pair : Pair) → comes s (ended s swap end) (has_other_rules s (ended s swap end)) pair ≡ comes s s1 other pair
   same_comes pair = by (is_live_pair s1 pair) refl
@@ -248,5 +241,5 @@ module _ (s : State) (swap : Swap) (end : End) (steady : IsSteadyInJob s) (is_sw
       let built = has_built pair (pair_was_live s steady.steady pair now) in
       let live : is_live_pair s pair ≡ true = pair_was_live s steady.steady pair now in
       let others : other pair ≡ true = second (is_live_pair s pair) (other pair) live (and_parts (is_live_pair s1 pair) (is_new s other pair) (is.changed.each pair m)).1 in
-      let made = other_made built.made built.old (sym (λ i. are_others (built.had i) (others_at pair built i)) ∙ others) in
-      record { old = built.old; had = left_at pair now ∙ built.had; rules = made.0; is = others_at pair built ∙ made.1; fewer = subst (λ o. length (unwrap_or o built.old) ≤ length built.old) made.1 built.tight.fewer }
+      let made = other_made (get swap.built pair) built.old (sym (λ i. are_others (built.had i) (get swap.built pair)) ∙ others) in
+      record { old = built.old; had = left_at pair now ∙ built.had; rules = made.0; is = made.1; fewer = subst (λ o. length (unwrap_or o built.old) ≤ length built.old) made.1 built.tight.fewer }

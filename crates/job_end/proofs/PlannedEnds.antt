@@ -1,6 +1,5 @@
 -- What is found by the parts that show a state is an end for it.
 use Rattle.std.proofs.Common.{◌≡◌, List, length, ap, sym, subst, ◌∙◌}
-use Rattle.std.specs.FinMap.{keys}
 use Rattle.advert_queue.specs.Advertised.{Advertised}
 use Rattle.block_build.specs.Installed.{Installed}
 use Rattle.events.specs.After.{merged}
@@ -20,12 +19,11 @@ use Rattle.job_end.specs.Rebuilt.{changed_pairs}
 use Rattle.job_end.specs.declared.ended.End.{End}
 use Rattle.net_types.specs.Sets.{IsRising}
 use Rattle.net_types.specs.declared.address.Tag.{Tag}
-use Rattle.net_types.specs.declared.rule.Pair.{Pair}
 use Rattle.prefix_classes.specs.Classes.{Classes}
 use Rattle.recompile.specs.declared.swap.Swap.{Swap}
 use Rattle.registry.specs.Registered.{Registered}
 
-module _ (s : State) (names : Registered) (classes : Classes) (adverts : Advertised) (switch : Installed) (pairs : List Pair) (swap : Swap) (ending : IsEnding s names classes adverts switch pairs swap) where
+module _ (s : State) (names : Registered) (classes : Classes) (adverts : Advertised) (switch : Installed) (swap : Swap) (ending : IsEnding s names classes adverts switch swap) where
   abbrev s1 : State
   s1 = merged s
 
@@ -39,15 +37,12 @@ module _ (s : State) (names : Registered) (classes : Classes) (adverts : Adverti
   abbrev left : List Tag
   left = left_tags s.tag swap.moves
 
-  module _ (end : End) (draft : IsDraft names classes adverts switch.table pairs swap end) where
+  module _ (end : End) (draft : IsDraft names classes adverts switch.table swap end) where
     gone_is : gone_pairs (registered s) s.kept s.told left ≡ end.gone
     gone_is = (λ i. gone_pairs (names_are i) (ending.kept i) (ending.told i) (left_tags (ending.tag i) swap.moves)) ∙ sym draft.gone
 
-    changed_is : changed_pairs s.table swap.built end.gone (keys s.table) ≡ end.changed
-    changed_is =
-        (λ i. changed_pairs (ending.table i) swap.built end.gone (keys (ending.table i)))
-        ∙ ap (changed_pairs switch.table swap.built end.gone) (sym ending.listed)
-        ∙ sym draft.changed
+    changed_is : changed_pairs s.table swap.built end.gone ≡ end.changed
+    changed_is = ap (λ t. changed_pairs t swap.built end.gone) ending.table ∙ sym draft.changed
 
     dead_is : untold s.told left ≡ end.dead.items
     dead_is = (λ i. untold (ending.told i) (left_tags (ending.tag i) swap.moves)) ∙ sym draft.dead

@@ -14,7 +14,7 @@ use Rattle.net_types.proofs.RisingLemmas.{before_itself}
 use Rattle.net_types.specs.Keys.{pair_cmp}
 use Rattle.net_types.specs.Sets.{IsRising, Member}
 use Rattle.net_types.specs.declared.rule.Pair.{Pair}
-use Rattle.recompile.specs.Underway.{BuiltPairs, others_of}
+use Rattle.recompile.specs.Underway.{BuiltPairs}
 use Rattle.net_types.proofs.TieLemmas.{pair_tie}
 
 -- what comes later is another pair
@@ -22,16 +22,16 @@ apart : (pair q : Pair) → is_pair_before pair q ≡ true → eq_by_cmp pair_cm
 apart pair q above = false_from_ne_true (eq_by_cmp pair_cmp q pair) (λ ties. before_itself pair_cmp pairs_total pair (subst (λ k. is_pair_before pair k ≡ true) (pair_tie q pair ties) above))
 
 -- what was built for another pair stays, where a pair is taken out
-others_stay : (b : BuiltPairs) (pair q : Pair) → eq_by_cmp pair_cmp q pair ≡ false → others_of (remove b pair) q ≡ others_of b q
-others_stay b pair q other = ap (λ o. unwrap_or o None) (get-remove pairs_total b pair q ∙ ap (λ c. cond c None (get b q)) other)
+others_stay : (b : BuiltPairs) (pair q : Pair) → eq_by_cmp pair_cmp q pair ≡ false → get (remove b pair) q ≡ get b q
+others_stay b pair q other = get-remove pairs_total b pair q ∙ ap (λ c. cond c None (get b q)) other
 
 -- the blocks of other pairs stay, where that of one is taken
 blocks_stay : (b : BuiltPairs) (pair : Pair) (qs : List Pair) → ((q : Pair) → Member q qs → is_pair_before pair q ≡ true) → blocks_of (remove b pair) qs ≡ blocks_of b qs
 blocks_stay b pair [] above = refl
 blocks_stay b pair (q ∷ qs) above =
-    let same : others_of (remove b pair) q ≡ others_of b q = others_stay b pair q (apart pair q (above q (inl refl))) in
+    let same : get (remove b pair) q ≡ get b q = others_stay b pair q (apart pair q (above q (inl refl))) in
     ap (λ o. (let x : Block = (q, unwrap_or o []) in x) ∷ blocks_of (remove b pair) qs) same
-    ∙ ap (λ bs. (let x : Block = (q, unwrap_or (others_of b q) []) in x) ∷ bs) (blocks_stay b pair qs (λ r m. above r (inr m)))
+    ∙ ap (λ bs. (let x : Block = (q, unwrap_or (get b q) []) in x) ∷ bs) (blocks_stay b pair qs (λ r m. above r (inr m)))
 
 -- what is left once the rules of the next pair are swapped
 pub record IsNext (t t1 : TableOf) (b b1 : BuiltPairs) (now next : List Pair) : Type 0 where
@@ -39,22 +39,22 @@ pub record IsNext (t t1 : TableOf) (b b1 : BuiltPairs) (now next : List Pair) : 
   pub rising : IsRising is_pair_before next
   pub fewer : (q : Pair) → Member q next → IsFewer t1 b1 q
 
-module _ (t t1 : TableOf) (b b1 : BuiltPairs) (pair : Pair) (put : t1 ≡ insert t pair (unwrap_or (others_of b pair) [])) (taken : b1 ≡ remove b pair) where
+module _ (t t1 : TableOf) (b b1 : BuiltPairs) (pair : Pair) (put : t1 ≡ insert t pair (unwrap_or (get b pair) [])) (taken : b1 ≡ remove b pair) where
   fewer_still : (q : Pair) → is_pair_before pair q ≡ true → IsFewer t b q → IsFewer t1 b1 q
   fewer_still q above is =
       let other = apart pair q above in record {
         old = is.old;
-        had = ap (λ m. get m q) put ∙ get-insert pairs_total t pair (unwrap_or (others_of b pair) []) q ∙ ap (λ c. cond c (Some (unwrap_or (others_of b pair) [])) (get t q)) other ∙ is.had;
+        had = ap (λ m. get m q) put ∙ get-insert pairs_total t pair (unwrap_or (get b pair) []) q ∙ ap (λ c. cond c (Some (unwrap_or (get b pair) [])) (get t q)) other ∙ is.had;
         rules = is.rules;
-        is = ap (λ m. others_of m q) taken ∙ others_stay b pair q other ∙ is.is;
+        is = ap (λ m. get m q) taken ∙ others_stay b pair q other ∙ is.is;
         fewer = is.fewer;
       }
 
   swap_front : (qs : List Pair) → IsRising is_pair_before (pair ∷ qs) → ((q : Pair) → Member q (pair ∷ qs) → IsFewer t b q) → IsNext t t1 b b1 (pair ∷ qs) qs
   swap_front qs rises fewer = record {
     rest = ap (λ m. with_blocks m (blocks_of b1 qs)) put
-        ∙ ap (λ m. with_blocks (insert t pair (unwrap_or (others_of b pair) [])) (blocks_of m qs)) taken
-        ∙ ap (with_blocks (insert t pair (unwrap_or (others_of b pair) []))) (blocks_stay b pair qs rises.0);
+        ∙ ap (λ m. with_blocks (insert t pair (unwrap_or (get b pair) [])) (blocks_of m qs)) taken
+        ∙ ap (with_blocks (insert t pair (unwrap_or (get b pair) []))) (blocks_stay b pair qs rises.0);
     rising = rises.1;
     fewer = λ q m. fewer_still q (rises.0 q m) (fewer q (inr m));
   }

@@ -13,7 +13,6 @@ use Rattle.net_types.specs.Keys.{prefix_cmp, tag_cmp}
 use Rattle.net_types.specs.Maps.{ordered}
 use Rattle.net_types.specs.Sets.{union_over}
 use Rattle.net_types.specs.declared.address.Tag.{Tag}
-use Rattle.net_types.specs.declared.rule.Pair.{Pair}
 use Rattle.advert_queue.specs.Advertised.{Advertised}
 use Rattle.prefix_classes.specs.Classes.{Classes}
 use Rattle.recompile.specs.declared.swap.Swap.{Swap}
@@ -27,11 +26,11 @@ told_change m = record { prefix = m.0; tag = Some m.1 }
 abbrev pub left_tags : FinMap prefix_cmp Tag → List Move → List Tag
 left_tags tags moves = ordered tag_cmp (old_tags tags (map told_change moves))
 
--- each part of an end, as it is found; pairs are those of the table
-pub record IsDraft (names : Registered) (classes : Classes) (adverts : Advertised) (table : Rules) (pairs : List Pair) (swap : Swap) (end : End) : Type 0 where
+-- each part of an end, as it is found
+pub record IsDraft (names : Registered) (classes : Classes) (adverts : Advertised) (table : Rules) (swap : Swap) (end : End) : Type 0 where
   pub tags : end.tags ≡ map told_change swap.moves
   pub gone : end.gone ≡ gone_pairs names classes.kept adverts.told (left_tags classes.tag swap.moves)
-  pub changed : end.changed ≡ changed_pairs table swap.built end.gone pairs
+  pub changed : end.changed ≡ changed_pairs table swap.built end.gone
   pub drops : end.drops ≡ dropped_pairs end.gone end.changed
   pub adds : end.adds ≡ union_over flows_of (blocks_of swap.built end.changed)
   pub dead : end.dead.items ≡ untold adverts.told (left_tags classes.tag swap.moves)

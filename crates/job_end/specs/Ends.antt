@@ -1,6 +1,5 @@
 -- What the end of a job says (this exchange's own rule).
-use Rattle.std.specs.Prelude.{◌≡◌, Bool, List}
-use Rattle.std.specs.FinMap.{keys}
+use Rattle.std.specs.Prelude.{◌≡◌, Bool}
 use Rattle.block_build.specs.Installed.{Installed}
 use Rattle.events.specs.After.{merged}
 use Rattle.events.specs.Fits.{flows_of, tag_changes}
@@ -22,9 +21,8 @@ use Rattle.recompile.specs.Working.{IsSwap}
 use Rattle.recompile.specs.declared.swap.Swap.{Swap}
 use Rattle.registry.specs.Registered.{Registered}
 
--- The parts of an exchange show a steady state, in which a job may run, the swap is one for it, and the pairs are those of the
--- table, in order.
-pub record IsEnding (s : State) (names : Registered) (classes : Classes) (adverts : Advertised) (switch : Installed) (pairs : List Pair) (swap : Swap) : Type 0 where
+-- the parts of an exchange show a steady state, in which a job may run, and the swap is one for it
+pub record IsEnding (s : State) (names : Registered) (classes : Classes) (adverts : Advertised) (switch : Installed) (swap : Swap) : Type 0 where
   pub steady : IsSteadyInJob s
   pub participants : s.routing.participants ≡ names.participants
   pub ports : s.routing.ports ≡ names.ports
@@ -33,12 +31,11 @@ pub record IsEnding (s : State) (names : Registered) (classes : Classes) (advert
   pub told : s.told ≡ adverts.told
   pub present : all_present s ≡ adverts.present
   pub table : s.table ≡ switch.table
-  pub listed : pairs ≡ keys switch.table
   pub is_swap : IsSwap (setting_of s) swap
 
 -- some state for which the parts are ending
-abbrev pub IsEndingFor : Registered → Classes → Advertised → Installed → List Pair → Swap → Type 0
-IsEndingFor names classes adverts switch pairs swap = (s : State) × IsEnding s names classes adverts switch pairs swap
+abbrev pub IsEndingFor : Registered → Classes → Advertised → Installed → Swap → Type 0
+IsEndingFor names classes adverts switch swap = (s : State) × IsEnding s names classes adverts switch swap
 
 -- the rules of a pair go, and those of one that stays come: other ones were built for it
 abbrev pub is_other : State → BuiltPairs → Pair → Bool

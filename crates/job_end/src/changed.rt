@@ -1,11 +1,11 @@
 //! The pairs that stay and get other rules.
 
-ghost use Rattle.std.specs.Prelude.{◌≡◌, IfOk};
+ghost use Rattle.std.specs.Prelude.{◌≡◌, filter, IfOk};
 ghost use Rattle.std.specs.Cmp.Lexicographic.{pointwise};
 ghost use Rattle.events.specs.Fits.{flows_of};
 ghost use Rattle.events.specs.Sound.{same_rule};
 ghost use Rattle.exchange_laws.specs.Listed.{is_pair_before};
-ghost use Rattle.job_end.specs.Rebuilt.{blocks_of, changed_pairs, has_others};
+ghost use Rattle.job_end.specs.Rebuilt.{blocks_of, changed_pairs, has_others, is_changed};
 ghost use Rattle.net_types.specs.Sets.{IsRising, union_over};
 
 use block_build::Blocks;
@@ -39,7 +39,7 @@ fn same_rules(one: &[Rule], other: &[Rule]) -> bool
     true
 }
 
-/// Whether other rules were built for a pair than it has. Where its rules were tight nothing was built, and nothing is compared.
+/// Whether a pair has rules, and other ones were built for it. Where its rules were tight nothing was built, and nothing is compared.
 fn has_others<B: Blocks>(switch: &B, built: &Built, pair: Pair) -> bool
     ensures { result ≡ has_others (B.installed switch.now).table built.now pair }
 {
@@ -48,12 +48,12 @@ fn has_others<B: Blocks>(switch: &B, built: &Built, pair: Pair) -> bool
     };
     match switch.rules_of(pair) {
         Some(old) => !same_rules(old, rules),
-        None => true,
+        None => false,
     }
 }
 
-/// Those of the pairs that don't go and get other rules, in their order. Memory is the only refusal.
-pub fn changed_pairs<B: Blocks>(
+/// Those of the pairs that don't go and get other rules, in their order.
+fn changed_among<B: Blocks>(
     alloc: Global,
     switch: &B,
     built: &Built,
@@ -61,7 +61,7 @@ pub fn changed_pairs<B: Blocks>(
     pairs: &[Pair],
 ) -> Result<Pairs, Memory>
     requires { IsRising is_pair_before gone.now }
-    ensures { IfOk result (λ changed. changed ≡ changed_pairs (B.installed switch.now).table built.now gone.now pairs.now) }
+    ensures { IfOk result (λ changed. changed ≡ filter (is_changed (B.installed switch.now).table built.now gone.now) pairs.now) }
 {
     let mut changed = Items::new(alloc);
     for &pair in pairs {
@@ -69,6 +69,22 @@ pub fn changed_pairs<B: Blocks>(
             changed.push(pair)?;
         }
     }
+    Ok(changed)
+}
+
+/// The pairs that don't go and get other rules, ascending by port, and then by tag. Only those are looked at for which other rules
+/// were built. Memory is the only refusal.
+pub fn changed_pairs<B: Blocks>(
+    alloc: Global,
+    switch: &B,
+    built: &Built,
+    gone: &[Pair],
+) -> Result<Pairs, Memory>
+    requires { IsRising is_pair_before gone.now }
+    ensures { IfOk result (λ changed. changed ≡ changed_pairs (B.installed switch.now).table built.now gone.now) }
+{
+    let pairs = built.pairs(alloc)?;
+    let changed = changed_among(alloc, switch, built, gone, pairs.items())?;
     Ok(changed)
 }
 

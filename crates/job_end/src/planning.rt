@@ -15,7 +15,7 @@ use advert_queue::Adverts;
 use block_build::Blocks;
 use events::{TagChange, TagChanges};
 use fast_path::{dropped_pairs, gone_pairs, old_tags, untold};
-use net_types::{Items, Memory, Pair, Prefix, Tag, ascending};
+use net_types::{Items, Memory, Prefix, Tag, ascending};
 use prefix_classes::ClassMap;
 use recompile::Swap;
 use registry::Registry;
@@ -50,17 +50,16 @@ fn drafted<B: Blocks>(
     classes: &ClassMap,
     adverts: &Adverts,
     switch: &B,
-    pairs: &[Pair],
     swap: &Swap,
 ) -> Result<End, Memory>
     requires { length names.now.participants ≡ length adverts.now.told }
-    ensures { IfOk result (IsDraft names.now classes.now adverts.now (B.installed switch.now).table pairs.now swap.now) }
+    ensures { IfOk result (IsDraft names.now classes.now adverts.now (B.installed switch.now).table swap.now) }
 {
     let moves = swap.moves.list();
     let tags = tag_changes(alloc, moves)?;
     let left = left_tags(alloc, classes, tags.items())?;
     let gone = gone_pairs(alloc, names, classes, adverts, &left)?;
-    let changed = changed_pairs(alloc, switch, &swap.built, gone.items(), pairs)?;
+    let changed = changed_pairs(alloc, switch, &swap.built, gone.items())?;
     let drops = dropped_pairs(alloc, gone.items(), changed.items())?;
     let adds = built_flows(alloc, &swap.built, changed.items())?;
     let dead = untold(alloc, adverts, &left)?;
@@ -76,20 +75,18 @@ fn drafted<B: Blocks>(
     })
 }
 
-/// What the end of a job does, by what the job ends with. The pairs are those of the table, in order. Memory is the only
-/// refusal.
+/// What the end of a job does, by what the job ends with. Memory is the only refusal.
 pub fn plan_end<B: Blocks>(
     alloc: Global,
     names: &Registry,
     classes: &ClassMap,
     adverts: &Adverts,
     switch: &B,
-    pairs: &[Pair],
     swap: &Swap,
 ) -> Result<End, Memory>
-    requires { IsEndingFor names.now classes.now adverts.now (B.installed switch.now) pairs.now swap.now }
-    ensures { (s : State) → IsEnding s names.now classes.now adverts.now (B.installed switch.now) pairs.now swap.now → IfOk result (IsEnd s swap.now) }
+    requires { IsEndingFor names.now classes.now adverts.now (B.installed switch.now) swap.now }
+    ensures { (s : State) → IsEnding s names.now classes.now adverts.now (B.installed switch.now) swap.now → IfOk result (IsEnd s swap.now) }
 {
-    let end = drafted(alloc, names, classes, adverts, switch, pairs, swap)?;
+    let end = drafted(alloc, names, classes, adverts, switch, swap)?;
     Ok(end)
 }

@@ -8,7 +8,6 @@ ghost use Rattle.fast_path.specs.Committing.{with_blocks};
 ghost use Rattle.job_end.specs.Rebuilt.{IsFewer, blocks_of};
 ghost use Rattle.net_types.specs.Sets.{IsRising, Member};
 ghost use Rattle.net_types.specs.declared.rule.Pair.{Pair as AnyPair};
-ghost use Rattle.recompile.specs.Underway.{others_of};
 
 use block_build::Blocks;
 use net_types::Pair;
@@ -18,7 +17,7 @@ use recompile::Built;
 fn swap_one<B: Blocks>(switch: &mut B, built: &mut Built, pair: Pair)
     requires fewer { IsFewer (B.installed switch.old).table built.old pair }
     requires few { rule_count (B.installed switch.old).table ≤ (B.installed switch.old).capacity }
-    ensures table { (B.installed switch.new).table ≡ map.insert (B.installed switch.old).table pair (unwrap_or (others_of built.old pair) []) }
+    ensures table { (B.installed switch.new).table ≡ map.insert (B.installed switch.old).table pair (unwrap_or (map.get built.old pair) []) }
     ensures capacity { (B.installed switch.new).capacity ≡ (B.installed switch.old).capacity }
     ensures few { rule_count (B.installed switch.new).table ≤ (B.installed switch.new).capacity }
     ensures built { built.new ≡ map.remove built.old pair }

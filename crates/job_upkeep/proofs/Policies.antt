@@ -17,7 +17,6 @@ use Rattle.exchange_laws.proofs.Lists.{clash, key_Member}
 use Rattle.exchange_laws.proofs.TagsAfter.{carried_have_tags, tags_stay_pooled}
 use Rattle.exchange_laws.specs.Editing.{IsEdit}
 use Rattle.exchange_laws.specs.Listed.{goes, is_pair_before}
-use Rattle.exchange_laws.specs.Replies.{RightRulesAreSome}
 use Rattle.exchange_laws.specs.Rerouting.{is_rerouting}
 use Rattle.exchange_laws.specs.Rules.{is_new}
 use Rattle.exchange_laws.specs.Steady.{IsSteady, StepsStaySteady}
@@ -168,7 +167,7 @@ module _ (s : State) (e : Event) (s0 : State) (r : Routing) (is_rebuilt : Pair �
 
 -- ---- the line
 
-module _ (some : RightRulesAreSome) (steps : StepsStaySteady) (fit : PlansFitLines) (leave : JobsLeaveLines) (units : UnitsStartAnew) (s : State) (e : Event) (s0 : State) (r : Routing) (is_rebuilt : Pair → Bool) (plan : Plan)
+module _ (steps : StepsStaySteady) (fit : PlansFitLines) (leave : JobsLeaveLines) (units : UnitsStartAnew) (s : State) (e : Event) (s0 : State) (r : Routing) (is_rebuilt : Pair → Bool) (plan : Plan)
     (steady : IsSteady (without_job s)) (formed : IsWellFormed e) (other : is_rerouting e ≡ false) (edit : IsEdit (without_job s) e s0 r is_rebuilt) (made : IsPlanned s0 r is_rebuilt plan) where
   abbrev c : State
   c = without_job s
@@ -186,7 +185,7 @@ module _ (some : RightRulesAreSome) (steps : StepsStaySteady) (fit : PlansFitLin
   equal_most m n same = omega (arith, same)
 
   few : AreFew (setting_of s2)
-  few = few_planned some steps fit c e s0 r is_rebuilt plan steady formed edit made
+  few = few_planned steps fit c e s0 r is_rebuilt plan steady formed edit made
 
   listed : IsListed (setting_of s2) s.tag (fresh_of plan) (pairs_after c plan)
   listed = record {
@@ -213,6 +212,6 @@ module _ (some : RightRulesAreSome) (steps : StepsStaySteady) (fit : PlansFitLin
     subst (λ x. Covers x new) (sym (setting_without leave s e (plan_reply plan) (building_other e edit.building) ∙ ap setting_of (fit c e s0 r is_rebuilt plan made edit).0)) (covers (setting_of s2) listed),
   )
 
-pub anew : RightRulesAreSome → StepsStaySteady → PlansFitLines → JobsLeaveLines → UnitsStartAnew → PoliciesKeepJobs
-anew some steps fit leave units s e s0 r is_rebuilt plan old new steady formed other edit made covers owes has =
-    begun some steps fit leave units s e s0 r is_rebuilt plan steady formed other edit made old new covers owes has
+pub anew : StepsStaySteady → PlansFitLines → JobsLeaveLines → UnitsStartAnew → PoliciesKeepJobs
+anew steps fit leave units s e s0 r is_rebuilt plan old new steady formed other edit made covers owes has =
+    begun steps fit leave units s e s0 r is_rebuilt plan steady formed other edit made old new covers owes has

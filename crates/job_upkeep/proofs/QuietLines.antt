@@ -10,7 +10,6 @@ use Rattle.events.specs.declared.Event.{Event}
 use Rattle.events.specs.declared.Reply.{Reply}
 use Rattle.exchange_laws.proofs.Lists.{key_Member}
 use Rattle.exchange_laws.specs.Counts.{PairsAreLive}
-use Rattle.exchange_laws.specs.Replies.{RightRulesAreSome}
 use Rattle.exchange_laws.specs.Steady.{StepsStaySteady}
 use Rattle.job_laws.specs.Jobs.{without_job}
 use Rattle.job_laws.specs.Steps.{JobsLeaveLines, UnitsStay}
@@ -26,8 +25,8 @@ use Rattle.recompile.specs.Setting.{setting_of}
 use Rattle.recompile.specs.Underway.{Underway}
 use Rattle.net_types.proofs.TieLemmas.{pair_tie}
 
-pub settings_are_few : RightRulesAreSome → SteadySettingsAreFew
-settings_are_few some s steady = few_steady some (without_job s) steady
+pub settings_are_few : SteadySettingsAreFew
+settings_are_few s steady = few_steady (without_job s) steady
 
 pub refused_keep : RefusedLinesKeepJobs
 refused_keep s e why job has = has
@@ -36,8 +35,8 @@ refused_keep s e why job has = has
 pub setting_without : JobsLeaveLines → (s : State) (e : Event) (r : Reply) → is_of_job e ≡ false → setting_of (next s e r) ≡ setting_of (next (without_job s) e r)
 setting_without leave s e r other = ap setting_of (leave s e r other).1
 
-pub quiet_keep : RightRulesAreSome → StepsStaySteady → JobsLeaveLines → UnitsStay → QuietChangesKeepJobs → QuietLinesKeepJobs
-quiet_keep some steps leave units changes s e r job steady formed other quiet fits has = by job has
+pub quiet_keep : StepsStaySteady → JobsLeaveLines → UnitsStay → QuietChangesKeepJobs → QuietLinesKeepJobs
+quiet_keep steps leave units changes s e r job steady formed other quiet fits has = by job has
   where
     by : (o : Option Underway) → HasJob s o → HasJob (next s e r) o
     by None none = quiet_owed units s e r other quiet ∙ none
@@ -46,13 +45,13 @@ quiet_keep some steps leave units changes s e r job steady formed other quiet fi
       subst (λ x. Covers x j) (sym (setting_without leave s e r other))
           (changes (setting_of s) (setting_of (next (without_job s) e r)) j has_job.1
           (stays_change (without_job s) (next (without_job s) e r) (quiet_stays (without_job s) e r other quiet fits)
-          (few_steady some (next (without_job s) e r) (steps (without_job s) e r steady formed other fits)))),
+          (few_steady (next (without_job s) e r) (steps (without_job s) e r steady formed other fits)))),
     )
 
 -- ---- a job begins
 
-pub begin : RightRulesAreSome → PairsAreLive → JobsBegin
-begin some live s j steady covers owed = (units, (ap Some (sym units), covers (setting_of s) listed))
+pub begin : PairsAreLive → JobsBegin
+begin live s j steady covers owed = (units, (ap Some (sym units), covers (setting_of s) listed))
   where
     units : j.owed ≡ all_units s
     units = owed ∙ ap capped (
@@ -61,7 +60,7 @@ begin some live s j steady covers owed = (units, (ap Some (sym units), covers (s
         )
 
     listed : IsListed (setting_of s) s.tag [] (keys s.table)
-    listed = let few = few_steady some (without_job s) steady in record {
+    listed = let few = few_steady (without_job s) steady in record {
       prefixes = no_more (length (entries s.tag));
       tags = λ t has. inl has;
       pairs = λ pair there. key_Member pair_cmp pairs_total pair_tie s.table pair there;

@@ -14,7 +14,6 @@ use Rattle.events.specs.declared.Event.TheVariants.{Bad, Exchange, Participant a
 use Rattle.exchange_laws.proofs.LineSteps.{building_other}
 use Rattle.exchange_laws.proofs.Rerouted.{Rerouted, rerouted}
 use Rattle.exchange_laws.specs.Editing.{IsEdit}
-use Rattle.exchange_laws.specs.Replies.{RightRulesAreSome}
 use Rattle.exchange_laws.specs.Steady.{IsSteady, StepsStaySteady}
 use Rattle.fast_path.proofs.CommittedPlans.{plan_tags}
 use Rattle.fast_path.specs.Carried.{IsPlanned, PlansFitLines, plan_reply}
@@ -56,11 +55,11 @@ refused_alike s Table building = absurd (cc)
 
 -- ---- the state after a plan
 
-module _ (some : RightRulesAreSome) (steps : StepsStaySteady) (fit : PlansFitLines) where
+module _ (steps : StepsStaySteady) (fit : PlansFitLines) where
   pub few_planned : (s : State) (e : Event) (s0 : State) (r : Routing) (is_rebuilt : Pair → Bool) (plan : Plan) → IsSteady s → IsWellFormed e → IsEdit s e s0 r is_rebuilt → IsPlanned s0 r is_rebuilt plan → AreFew (setting_of (planned s0 r plan))
   few_planned s e s0 r is_rebuilt plan steady formed edit made =
       let fits = fit s e s0 r is_rebuilt plan made edit in
-      subst (λ x. AreFew (setting_of x)) fits.0 (few_steady some (next s e (plan_reply plan)) (steps s e (plan_reply plan) steady formed (building_other e edit.building) fits.1))
+      subst (λ x. AreFew (setting_of x)) fits.0 (few_steady (next s e (plan_reply plan)) (steps s e (plan_reply plan) steady formed (building_other e edit.building) fits.1))
 
   pub tells : PlansTellChanges
   tells s e s0 r is_rebuilt plan steady formed edit made = told s0 r is_rebuilt plan made.base made.alike made.planned (few_planned s e s0 r is_rebuilt plan steady formed edit made)

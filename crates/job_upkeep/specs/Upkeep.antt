@@ -33,7 +33,7 @@ abbrev pub HasJob : State → Option Underway → Type 0
 HasJob s None = s.owed ≡ None
 HasJob s (Some j) = (s.owed ≡ Some j.owed) × Covers (setting_of s) j
 
--- the tags and pairs of a steady state are few
+-- the tags of a steady state are few
 abbrev pub SteadySettingsAreFew : Type 0
 SteadySettingsAreFew = (s : State) → IsSteady (without_job s) → AreFew (setting_of s)
 

@@ -2,16 +2,14 @@
 
 ghost use Rattle.job_upkeep.specs.Upkeep.{JobsBegin, NoJobsStart, QuietLinesKeepJobs, RefusedLinesKeepJobs, SteadySettingsAreFew};
 
-use exchange_laws::{pairs_are_live, right_rules_are_some, steps_stay_steady};
+use exchange_laws::{pairs_are_live, steps_stay_steady};
 use job_laws::{jobs_leave_lines, units_stay};
 use recompile::quiet_changes_keep_jobs;
 
-/// The tags and pairs of a steady state are few.
+/// The tags of a steady state are few.
 pub fn steady_settings_are_few()
     ensures { SteadySettingsAreFew }
-{
-    right_rules_are_some();
-}
+{}
 
 /// A refused line leaves the job as it is.
 pub fn refused_lines_keep_jobs()
@@ -22,7 +20,6 @@ pub fn refused_lines_keep_jobs()
 pub fn quiet_lines_keep_jobs()
     ensures { QuietLinesKeepJobs }
 {
-    right_rules_are_some();
     steps_stay_steady();
     jobs_leave_lines();
     units_stay();
@@ -40,6 +37,5 @@ pub fn no_jobs_start()
 pub fn jobs_begin()
     ensures { JobsBegin }
 {
-    right_rules_are_some();
     pairs_are_live();
 }

@@ -2,7 +2,7 @@
 
 ghost use Rattle.job_upkeep.specs.Upkeep.{AddedAreFew, PlansTellChanges, PoliciesKeepJobs, ReroutingsKeepJobs};
 
-use exchange_laws::{right_rules_are_some, steps_stay_steady};
+use exchange_laws::steps_stay_steady;
 use fast_path::plans_are_committed;
 use job_laws::{jobs_leave_lines, units_start_anew};
 
@@ -10,7 +10,6 @@ use job_laws::{jobs_leave_lines, units_start_anew};
 pub fn plans_tell_changes()
     ensures { PlansTellChanges }
 {
-    right_rules_are_some();
     steps_stay_steady();
     plans_are_committed();
 }
@@ -24,7 +23,6 @@ pub fn added_are_few()
 pub fn reroutings_keep_jobs()
     ensures { ReroutingsKeepJobs }
 {
-    right_rules_are_some();
     steps_stay_steady();
     plans_are_committed();
     jobs_leave_lines();
@@ -34,7 +32,6 @@ pub fn reroutings_keep_jobs()
 pub fn policies_keep_jobs()
     ensures { PoliciesKeepJobs }
 {
-    right_rules_are_some();
     steps_stay_steady();
     plans_are_committed();
     jobs_leave_lines();

@@ -20,19 +20,21 @@ use Rattle.net_types.specs.declared.rule.Pair.{Pair}
 use Rattle.prefix_classes.specs.Classes.{count_of, members}
 use Rattle.recompile.proofs.CoverLemmas.{needs_more}
 use Rattle.recompile.specs.Changing.{CoversAfter, CoversListed, IsChange, QuietChangesKeepJobs}
-use Rattle.recompile.specs.Covering.{AreFew, IsKeptUp, IsPairToDo, IsTagToDo, NeedsAtMost}
+use Rattle.recompile.specs.Covering.{AreFew, IsKeptUp, IsTagToDo, NeedsAtMost}
 use Rattle.recompile.specs.Setting.{Setting}
 use Rattle.recompile.specs.Underway.{Underway}
-use Rattle.recompile.specs.Units.{AreListed, without_each}
+use Rattle.recompile.specs.Units.{AreListable, AreListed, without_each}
 
 -- ---- enough units
 
--- where there are few, as many units are enough as tags and pairs that hold what is to do, and the most that a job owes are too
-pub capped_enough : (s : Setting) (j : Underway) (n : ℕ) → AreFew s → NeedsAtMost s j n → NeedsAtMost s j (capped n)
-capped_enough s j n few needs = by (nat_lt 1125899906842624 n) refl
+-- where the tags are few and no more pairs are listed than may be, the most that a job owes are enough
+pub capped_enough : (s : Setting) (j : Underway) (n : ℕ) → AreFew s → AreListable j.pairs → NeedsAtMost s j n → NeedsAtMost s j (capped n)
+capped_enough s j n few listable needs = by (nat_lt 1125899906842624 n) refl
   where
     by : (b : Bool) → nat_lt 1125899906842624 n ≡ b → NeedsAtMost s j (cond b 1125899906842624 n)
-    by true e = record { tags = few.tags; pairs = few.pairs; few = few.few; all_tags = λ t todo. few.all_tags t todo.0; all_pairs = λ pair todo. few.all_pairs pair todo.0 }
+    by true e =
+        let tags : length few.tags ≤ 562949953421312 = few.few in
+        let pairs : length j.pairs ≤ 562949953421312 = listable in record { tags = few.tags; few = omega (arith, tags, pairs); all_tags = λ t todo. few.all_tags t todo.0 }
     by false e = needs
 
 -- ---- the start
@@ -49,26 +51,25 @@ counted_is_there t (e ∷ es) some = by (eq_by_cmp tag_cmp t e.1) refl some (cou
     by true is more later = inl (tag_tie t e.1 is)
     by false is more later = inr (later (omega (arith, more)))
 
-pub begun_covers : (before : FinMap prefix_cmp Tag) (fresh : List Tag) (pairs : List Pair) (j : Underway) → j.placed ≡ empty → j.built ≡ empty → AreListed before j.tags → ((t : Tag) → Member t fresh → Member t j.tags) → j.pairs ≡ pairs → j.owed ≡ capped (length (entries before) + length pairs) → CoversListed before fresh pairs j
-begun_covers before fresh pairs j no_tags no_pairs used more same owed s listed = record {
+pub begun_covers : (before : FinMap prefix_cmp Tag) (fresh : List Tag) (pairs : List Pair) (j : Underway) → j.placed ≡ empty → j.built ≡ empty → AreListed before j.tags → ((t : Tag) → Member t fresh → Member t j.tags) → j.pairs ≡ pairs → AreListable j.pairs → j.owed ≡ capped (length (entries before) + length pairs) → CoversListed before fresh pairs j
+begun_covers before fresh pairs j no_tags no_pairs used more same listable owed s listed = record {
   kept_up = record {
     placed = λ t sig has. absurd (not_there (get j.placed t) sig (ap (λ m. get m t) no_tags ∙ get-empty tag_cmp t) has);
     tags = λ t todo. elim (listed.tags t todo.0) [ inl was ↦ used t was | inr new ↦ more t new ];
-    pairs = λ pair todo. subst (Member pair) (sym same) (listed.pairs pair todo.0);
-    built = λ pair rules old has there. absurd (not_there (get j.built pair) rules (ap (λ m. get m pair) no_pairs ∙ get-empty pair_cmp pair) has);
+    pairs = λ pair rules at none. inl (subst (Member pair) (sym same) (listed.pairs pair (ap is_some at)));
+    built = λ pair made rules has at. absurd (not_there (get j.built pair) made (ap (λ m. get m pair) no_pairs ∙ get-empty pair_cmp pair) has);
   };
-  enough = subst (NeedsAtMost s j) (sym owed) (capped_enough s j (length (entries before) + length pairs) listed.few needs);
+  enough = subst (NeedsAtMost s j) (sym owed) (capped_enough s j (length (entries before) + length pairs) listed.few listable needs);
 }
   where
     needs : NeedsAtMost s j (length (entries before) + length pairs)
     needs =
         let prefixes : length (entries s.tag) ≤ length (entries before) = listed.prefixes in
-        let count : length (map second (entries s.tag)) ≡ length (entries s.tag) = length-map (entries s.tag) second in record {
+        let count : length (map second (entries s.tag)) ≡ length (entries s.tag) = length-map (entries s.tag) second in
+        let all : length j.pairs ≡ length pairs = ap length same in record {
           tags = map second (entries s.tag);
-          pairs = pairs;
-          few = omega (arith, prefixes, count);
+          few = omega (arith, prefixes, count, all);
           all_tags = λ t todo. counted_is_there t (entries s.tag) todo.0;
-          all_pairs = λ pair todo. listed.pairs pair todo.0;
         }
 
 -- ---- keys are taken out
@@ -118,15 +119,8 @@ module _ (before after : Setting) (fresh emptied : List Tag) (added : List Pair)
     ]
   ]
 
-  -- a pair that is to do was to do, or is added
-  pair_from : (pair : Pair) → IsPairToDo after.table new.built pair → IsPairToDo before.table old.built pair ⊎ Member pair added
-  pair_from pair todo = elim (change.table pair todo.0) [
-    | inl more ↦ inr more
-    | inr same ↦ elim (pair_cases pair) [
-      | inl gone ↦ inr gone.0
-      | inr stays ↦ inl (sym (ap is_some same) ∙ todo.0, sym stays.1 ∙ todo.1)
-    ]
-  ]
+  added_listed : (pair : Pair) → Member pair added → Member pair new.pairs
+  added_listed pair more = subst (Member pair) (sym pairs) (Member-append_right old.pairs added pair more)
 
   pub changed_kept : IsKeptUp before old → IsKeptUp after new
   changed_kept kept = record {
@@ -143,41 +137,42 @@ module _ (before after : Setting) (fresh emptied : List Tag) (added : List Pair)
       | inl was ↦ Member-append_left old.tags fresh t (kept.tags t was)
       | inr new ↦ Member-append_right old.tags fresh t new
     ]);
-    pairs = λ pair todo. subst (Member pair) (sym pairs) (elim (pair_from pair todo) [
-      | inl was ↦ Member-append_left old.pairs added pair (kept.pairs pair was)
-      | inr new ↦ Member-append_right old.pairs added pair new
-    ]);
-    built = λ pair rules had has there. elim (pair_cases pair) [
-      | inl gone ↦ absurd (not_there (get new.built pair) rules gone.1 has)
-      | inr stays ↦ elim (change.table pair (ap is_some there)) [
+    pairs = λ pair rules at none. elim (pair_cases pair) [
+      | inl gone ↦ inl (added_listed pair gone.0)
+      | inr stays ↦ elim (change.table pair (ap is_some at)) [
+        | inl more ↦ inl (added_listed pair more)
+        | inr same ↦ elim (kept.pairs pair rules (sym same ∙ at) (sym stays.1 ∙ none)) [
+          | inl was ↦ inl (subst (Member pair) (sym pairs) (Member-append_left old.pairs added pair was))
+          | inr tight ↦ inr tight
+        ]
+      ]
+    ];
+    built = λ pair made rules has at. elim (pair_cases pair) [
+      | inl gone ↦ absurd (not_there (get new.built pair) made gone.1 has)
+      | inr stays ↦ elim (change.table pair (ap is_some at)) [
         | inl more ↦ absurd (stays.0 more)
-        | inr same ↦ kept.built pair rules had (sym stays.1 ∙ has) (sym same ∙ there)
+        | inr same ↦ kept.built pair made rules (sym stays.1 ∙ has) (sym same ∙ at)
       ]
     ];
   }
 
   pub changed_needs : (units : ℕ) → NeedsAtMost before old units → NeedsAtMost after new (units + (length fresh + length added))
   changed_needs units needs =
-      let few : length needs.tags + length needs.pairs ≤ units = needs.few in
+      let few : length needs.tags + length old.pairs ≤ units = needs.few in
       let more_tags : length (needs.tags ++ fresh) ≡ length needs.tags + length fresh = length-append needs.tags fresh in
-      let more_pairs : length (needs.pairs ++ added) ≡ length needs.pairs + length added = length-append needs.pairs added in record {
+      let more_pairs : length new.pairs ≡ length old.pairs + length added = ap length pairs ∙ length-append old.pairs added in record {
         tags = needs.tags ++ fresh;
-        pairs = needs.pairs ++ added;
         few = omega (arith, few, more_tags, more_pairs);
         all_tags = λ t todo. elim (tag_from t todo) [
           | inl was ↦ Member-append_left needs.tags fresh t (needs.all_tags t was)
           | inr new ↦ Member-append_right needs.tags fresh t new
         ];
-        all_pairs = λ pair todo. elim (pair_from pair todo) [
-          | inl was ↦ Member-append_left needs.pairs added pair (needs.all_pairs pair was)
-          | inr new ↦ Member-append_right needs.pairs added pair new
-        ];
       }
 
-pub changed_covers : (fresh emptied : List Tag) (added : List Pair) (newly ports : ℕ) (old new : Underway) → length added ≤ length fresh * ports → new.placed ≡ without_each emptied old.placed → new.built ≡ without_each added old.built → new.tags ≡ old.tags ++ fresh → new.pairs ≡ old.pairs ++ added → new.owed ≡ capped (old.owed + (newly + length fresh * (ports + 1))) → CoversAfter fresh emptied added old new
-changed_covers fresh emptied added newly ports old new few placed built tags pairs owed before after covers change = record {
+pub changed_covers : (fresh emptied : List Tag) (added : List Pair) (newly ports : ℕ) (old new : Underway) → length added ≤ length fresh * ports → new.placed ≡ without_each emptied old.placed → new.built ≡ without_each added old.built → new.tags ≡ old.tags ++ fresh → new.pairs ≡ old.pairs ++ added → AreListable new.pairs → new.owed ≡ capped (old.owed + (newly + length fresh * (ports + 1))) → CoversAfter fresh emptied added old new
+changed_covers fresh emptied added newly ports old new few placed built tags pairs listable owed before after covers change = record {
   kept_up = changed_kept before after fresh emptied added old new placed built tags pairs change covers.kept_up;
-  enough = subst (NeedsAtMost after new) (sym owed) (capped_enough after new (old.owed + (newly + length fresh * (ports + 1))) change.few (
+  enough = subst (NeedsAtMost after new) (sym owed) (capped_enough after new (old.owed + (newly + length fresh * (ports + 1))) change.few listable (
       needs_more after new (old.owed + (length fresh + length added)) (old.owed + (newly + length fresh * (ports + 1)))
       (let each : length fresh * (ports + 1) ≡ length fresh * ports + length fresh = one_more (length fresh) ports in omega (arith, each, few))
       (changed_needs before after fresh emptied added old new placed built tags pairs change old.owed covers.enough)

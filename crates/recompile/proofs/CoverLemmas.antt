@@ -7,6 +7,7 @@ use Rattle.std.specs.Cmp.{IsTotalOrder}
 use Rattle.std.specs.Ordering.{eq_by_cmp}
 use Rattle.std.proofs.lemmas.Bool.{ltb-false, ltb-true}
 use Rattle.block_build.specs.Tight.{IsTightForm}
+use Rattle.events.specs.Sound.{IsTight}
 use Rattle.net_types.proofs.FindLemmas.{not_there}
 use Rattle.net_types.proofs.OrderLemmas.{pairs_total, tags_total}
 use Rattle.net_types.proofs.TieLemmas.{pair_tie, tag_tie, ties_itself}
@@ -18,22 +19,17 @@ use Rattle.net_types.specs.declared.rule.Pair.{Pair}
 use Rattle.net_types.specs.declared.rule.Rule.{Rule}
 use Rattle.prefix_classes.specs.Classes.{members}
 use Rattle.prefix_classes.specs.Merging.{IsFull, IsMergeOf}
-use Rattle.recompile.specs.Covering.{Covers, IsKeptUp, IsPairToDo, IsTagToDo, NeedsAtMost}
+use Rattle.recompile.proofs.TightRules.{own_form}
+use Rattle.recompile.specs.Covering.{Covers, IsKeptUp, IsTagToDo, NeedsAtMost}
 use Rattle.recompile.specs.Setting.{Setting}
 use Rattle.recompile.specs.Underway.{Underway}
-use Rattle.recompile.specs.Units.{KeepsThose, NeedsFewer}
+use Rattle.recompile.specs.Units.{HasRules, IsBuiltFrom, KeepsOthers, KeepsThose, NeedsFewer}
 use Rattle.recompile.specs.Working.{IsProgress, with_built}
 use Rattle.recompile.specs.declared.swap.Progress.TheVariants.{Ready}
 use Rattle.recompile.specs.declared.swap.Swap.{Swap}
 
 pub needs_more : (s : Setting) (j : Underway) (m n : ℕ) → m ≤ n → NeedsAtMost s j m → NeedsAtMost s j n
-needs_more s j m n le needs = record {
-  tags = needs.tags;
-  pairs = needs.pairs;
-  few = omega (arith, le, needs.few);
-  all_tags = needs.all_tags;
-  all_pairs = needs.all_pairs;
-}
+needs_more s j m n le needs = record { tags = needs.tags; few = omega (arith, le, needs.few); all_tags = needs.all_tags }
 
 -- ---- a member is taken out
 
@@ -84,40 +80,36 @@ module _ {K X : Type 0} (R : K → K → Ordering) (total : IsTotalOrder R) (tie
 
 -- ---- nothing is done but that a list is shortened
 
-module _ (s : Setting) (old new : Underway) (placed : new.placed ≡ old.placed) (built : new.built ≡ old.built) (tags : KeepsThose (IsTagToDo s.tag old.placed) old.tags new.tags) (pairs : KeepsThose (IsPairToDo s.table old.built) old.pairs new.pairs) where
+module _ (s : Setting) (old new : Underway) (placed : new.placed ≡ old.placed) (built : new.built ≡ old.built) (tags : KeepsThose (IsTagToDo s.tag old.placed) old.tags new.tags) (pairs : KeepsThose (HasRules s.table) old.pairs new.pairs) (fewer : length new.pairs ≤ length old.pairs) where
   tag_before : (t : Tag) → IsTagToDo s.tag new.placed t → IsTagToDo s.tag old.placed t
   tag_before t todo = (todo.0, ap (λ m. get m t) (sym placed) ∙ todo.1)
-
-  pair_before : (pair : Pair) → IsPairToDo s.table new.built pair → IsPairToDo s.table old.built pair
-  pair_before pair todo = (todo.0, ap (λ m. get m pair) (sym built) ∙ todo.1)
 
   pub shortened_kept : IsKeptUp s old → IsKeptUp s new
   shortened_kept kept = record {
     placed = λ t sig has. kept.placed t sig (ap (λ m. get m t) (sym placed) ∙ has);
     tags = λ t todo. tags t (tag_before t todo) (kept.tags t (tag_before t todo));
-    pairs = λ pair todo. pairs pair (pair_before pair todo) (kept.pairs pair (pair_before pair todo));
-    built = λ pair rules before has there. kept.built pair rules before (ap (λ m. get m pair) (sym built) ∙ has) there;
+    pairs = λ pair rules at none. elim (kept.pairs pair rules at (ap (λ m. get m pair) (sym built) ∙ none)) [
+      | inl listed ↦ inl (pairs pair (ap is_some at) listed)
+      | inr tight ↦ inr tight
+    ];
+    built = λ pair made rules has at. kept.built pair made rules (ap (λ m. get m pair) (sym built) ∙ has) at;
   }
 
   pub shortened_needs : NeedsFewer s 0 old new
-  shortened_needs units needs = record {
-    tags = needs.tags;
-    pairs = needs.pairs;
-    few = let few : length needs.tags + length needs.pairs ≤ units = needs.few in omega (arith, few);
-    all_tags = λ t todo. needs.all_tags t (tag_before t todo);
-    all_pairs = λ pair todo. needs.all_pairs pair (pair_before pair todo);
-  }
+  shortened_needs units needs =
+      let few : length needs.tags + length old.pairs ≤ units = needs.few in record {
+        tags = needs.tags;
+        few = omega (arith, few, fewer);
+        all_tags = λ t todo. needs.all_tags t (tag_before t todo);
+      }
 
 -- ---- a tag is placed
 
-module _ (s : Setting) (old new : Underway) (t : Tag) (sig : List Part) (todo : IsTagToDo s.tag old.placed t) (there : get s.kept t ≡ Some sig) (placed : new.placed ≡ insert old.placed t sig) (built : new.built ≡ old.built) (tags : KeepsThose (IsTagToDo s.tag old.placed) old.tags new.tags) (pairs : new.pairs ≡ old.pairs) where
+module _ (s : Setting) (old new : Underway) (t : Tag) (sig : List Part) (todo : IsTagToDo s.tag old.placed t) (there : get s.kept t ≡ Some sig) (placed : new.placed ≡ insert old.placed t sig) (built : new.built ≡ old.built) (tags : KeepsOthers (IsTagToDo s.tag old.placed) t old.tags new.tags) (pairs : new.pairs ≡ old.pairs) where
   tag_left : (u : Tag) → IsTagToDo s.tag new.placed u → (¬ (u ≡ t)) × IsTagToDo s.tag old.placed u
   tag_left u left =
       let before = none_put tag_cmp tags_total tag_tie old.placed new.placed t sig placed u left.1 in
       (before.0, (left.0, before.1))
-
-  pair_left : (pair : Pair) → IsPairToDo s.table new.built pair → IsPairToDo s.table old.built pair
-  pair_left pair left = (left.0, ap (λ m. get m pair) (sym built) ∙ left.1)
 
   pub placed_kept : IsKeptUp s old → IsKeptUp s new
   placed_kept kept = record {
@@ -125,58 +117,69 @@ module _ (s : Setting) (old new : Underway) (t : Tag) (sig : List Part) (todo : 
       | inl here ↦ (subst (λ x. 0 < members s.tag x) (sym here.0) todo.0, ap (get s.kept) here.0 ∙ there ∙ sym here.1 ∙ has)
       | inr same ↦ kept.placed u other (sym same ∙ has)
     ];
-    tags = λ u left. let before = (tag_left u left).1 in tags u before (kept.tags u before);
-    pairs = λ pair left. subst (Member pair) (sym pairs) (kept.pairs pair (pair_left pair left));
-    built = λ pair rules before has was. kept.built pair rules before (ap (λ m. get m pair) (sym built) ∙ has) was;
+    tags = λ u left. let before = tag_left u left in elim (tags u before.1 (kept.tags u before.1)) [ inl listed ↦ listed | inr same ↦ absurd (before.0 same) ];
+    pairs = λ pair rules at none. elim (kept.pairs pair rules at (ap (λ m. get m pair) (sym built) ∙ none)) [
+      | inl listed ↦ inl (subst (Member pair) (sym pairs) listed)
+      | inr tight ↦ inr tight
+    ];
+    built = λ pair made rules has at. kept.built pair made rules (ap (λ m. get m pair) (sym built) ∙ has) at;
   }
 
   pub placed_needs : NeedsFewer s 1 old new
   placed_needs units needs =
       let fewer = less t needs.tags (needs.all_tags t todo) in
       let short : length fewer.rest + 1 ≤ length needs.tags = fewer.short in
-      let few : length needs.tags + length needs.pairs ≤ units = needs.few in record {
+      let few : length needs.tags + length old.pairs ≤ units = needs.few in
+      let same : length new.pairs ≡ length old.pairs = ap length pairs in record {
         tags = fewer.rest;
-        pairs = needs.pairs;
-        few = omega (arith, short, few);
+        few = omega (arith, short, few, same);
         all_tags = λ u left. let before = tag_left u left in fewer.others u (needs.all_tags u before.1) before.0;
-        all_pairs = λ pair left. needs.all_pairs pair (pair_left pair left);
       }
 
 -- ---- a pair is built
 
-module _ (s : Setting) (old new : Underway) (p : Pair) (made : Option (List Rule)) (had : List Rule) (todo : IsPairToDo s.table old.built p) (there : get s.table p ≡ Some had) (tight : IsTightForm had (unwrap_or made had)) (placed : new.placed ≡ old.placed) (built : new.built ≡ insert old.built p made) (tags : KeepsThose (IsTagToDo s.tag old.placed) old.tags new.tags) (pairs : KeepsThose (IsPairToDo s.table old.built) old.pairs new.pairs) where
+module _ (s : Setting) (old new : Underway) (p : Pair) (had : List Rule) (there : get s.table p ≡ Some had) (placed : new.placed ≡ old.placed) (built : IsBuiltFrom p had old.built new.built) (tags : KeepsThose (IsTagToDo s.tag old.placed) old.tags new.tags) (pairs : KeepsOthers (HasRules s.table) p old.pairs new.pairs) (fewer : length new.pairs + 1 ≤ length old.pairs) where
   tag_still : (u : Tag) → IsTagToDo s.tag new.placed u → IsTagToDo s.tag old.placed u
   tag_still u left = (left.0, ap (λ m. get m u) (sym placed) ∙ left.1)
 
-  pair_still : (q : Pair) → IsPairToDo s.table new.built q → (¬ (q ≡ p)) × IsPairToDo s.table old.built q
-  pair_still q left =
-      let before = none_put pair_cmp pairs_total pair_tie old.built new.built p made built q left.1 in
-      (before.0, (left.0, before.1))
+  -- the rules of this pair are those that were built from
+  same_rules : (q : Pair) (rules : List Rule) → get s.table q ≡ Some rules → q ≡ p → had ≡ rules
+  same_rules q rules at same = let e : Some had ≡ Some rules = sym there ∙ ap (get s.table) (sym same) ∙ at in cc
+
+  -- a pair for which none are built is listed or tight, where it had none, or is this one and tight
+  listed_still : (q : Pair) (rules : List Rule) → get s.table q ≡ Some rules → (q ≡ p → IsTight rules) → Member q old.pairs ⊎ IsTight rules → Member q new.pairs ⊎ IsTight rules
+  listed_still q rules at here was = elim was [
+    | inl listed ↦ elim (pairs q (ap is_some at) listed) [ inl still ↦ inl still | inr same ↦ inr (here same) ]
+    | inr tight ↦ inr tight
+  ]
 
   pub built_kept : IsKeptUp s old → IsKeptUp s new
   built_kept kept = record {
     placed = λ u sig has. kept.placed u sig (ap (λ m. get m u) (sym placed) ∙ has);
     tags = λ u left. let before = tag_still u left in tags u before (kept.tags u before);
-    pairs = λ q left. let before = (pair_still q left).1 in pairs q before (kept.pairs q before);
-    built = λ q others before has was. elim (put_cases pair_cmp pairs_total pair_tie old.built new.built p made built q) [
-      | inl here ↦
-          let same_made : made ≡ others = let e : Some made ≡ Some others = sym here.1 ∙ has in cc in
-          let same_had : had ≡ before = let e : Some had ≡ Some before = sym there ∙ ap (get s.table) (sym here.0) ∙ was in cc in
-          subst (λ x. IsTightForm x (unwrap_or others x)) same_had (subst (λ m. IsTightForm had (unwrap_or m had)) same_made tight)
-      | inr same ↦ kept.built q others before (sym same ∙ has) was
+    pairs = λ q rules at none. elim built [
+      | inl stays ↦ listed_still q rules at (λ same. subst IsTight (same_rules q rules at same) stays.0) (kept.pairs q rules at (ap (λ m. get m q) (sym stays.1) ∙ none))
+      | inr put ↦
+          let before = none_put pair_cmp pairs_total pair_tie old.built new.built p put.0 put.2 q none in
+          listed_still q rules at (λ same. absurd (before.0 same)) (kept.pairs q rules at before.1)
+    ];
+    built = λ q made rules has at. elim built [
+      | inl stays ↦ kept.built q made rules (ap (λ m. get m q) (sym stays.1) ∙ has) at
+      | inr put ↦ elim (put_cases pair_cmp pairs_total pair_tie old.built new.built p put.0 put.2 q) [
+        | inl here ↦
+            let same_made : put.0 ≡ made = let e : Some put.0 ≡ Some made = sym here.1 ∙ has in cc in
+            subst (λ x. IsTightForm x made) (same_rules q rules at here.0) (subst (IsTightForm had) same_made put.1)
+        | inr same ↦ kept.built q made rules (sym same ∙ has) at
+      ]
     ];
   }
 
   pub built_needs : NeedsFewer s 1 old new
   built_needs units needs =
-      let fewer = less p needs.pairs (needs.all_pairs p todo) in
-      let short : length fewer.rest + 1 ≤ length needs.pairs = fewer.short in
-      let few : length needs.tags + length needs.pairs ≤ units = needs.few in record {
+      let few : length needs.tags + length old.pairs ≤ units = needs.few in record {
         tags = needs.tags;
-        pairs = fewer.rest;
-        few = omega (arith, short, few);
+        few = omega (arith, few, fewer);
         all_tags = λ u left. needs.all_tags u (tag_still u left);
-        all_pairs = λ q left. let before = pair_still q left in fewer.others q (needs.all_pairs q before.1) before.0;
       }
 
 -- ---- nothing is to do
@@ -188,18 +191,16 @@ no_member (y ∷ xs) x e m = absurd (omega (arith, e))
 pub nothing_needed : (s : Setting) (j : Underway) → IsKeptUp s j → j.tags ≡ [] → j.pairs ≡ [] → NeedsAtMost s j 0
 nothing_needed s j kept tags pairs = record {
   tags = [];
-  pairs = [];
-  few = omega arith;
+  few = let none : length j.pairs ≡ 0 = ap length pairs in omega (arith, none);
   all_tags = λ t todo. subst (Member t) tags (kept.tags t todo);
-  all_pairs = λ pair todo. subst (Member pair) pairs (kept.pairs pair todo);
 }
 
 module _ (s : Setting) (j : Underway) (kept : IsKeptUp s j) (needs : NeedsAtMost s j 0) where
   all_placed : (t : Tag) → ¬ IsTagToDo s.tag j.placed t
   all_placed t todo = no_member needs.tags t (omega (arith, needs.few)) (needs.all_tags t todo)
 
-  all_built : (pair : Pair) → ¬ IsPairToDo s.table j.built pair
-  all_built pair todo = no_member needs.pairs pair (omega (arith, needs.few)) (needs.all_pairs pair todo)
+  all_done : (pair : Pair) → ¬ Member pair j.pairs
+  all_done pair listed = no_member j.pairs pair (omega (arith, needs.few)) listed
 
   pub done_is_full : IsFull s.tag s.kept j.placed
   done_is_full t = by (get j.placed t) (nat_lt 0 (members s.tag t)) refl refl
@@ -216,12 +217,12 @@ module _ (s : Setting) (j : Underway) (kept : IsKeptUp s j) (needs : NeedsAtMost
       by None true has used = absurd (all_placed t (above used, has))
       by None false has used = has
 
-  pub done_is_built : (pair : Pair) (old : List Rule) → get s.table pair ≡ Some old → (made : Option (List Rule)) × (get j.built pair ≡ Some made) × IsTightForm old (unwrap_or made old)
+  pub done_is_built : (pair : Pair) (old : List Rule) → get s.table pair ≡ Some old → IsTightForm old (unwrap_or (get j.built pair) old)
   done_is_built pair old there = by (get j.built pair) refl
     where
-      by : (o : Option (Option (List Rule))) → get j.built pair ≡ o → (made : Option (List Rule)) × (get j.built pair ≡ Some made) × IsTightForm old (unwrap_or made old)
-      by (Some made) has = (made, has, kept.built pair made old has there)
-      by None has = absurd (all_built pair (ap is_some there, has))
+      by : (o : Option (List Rule)) → get j.built pair ≡ o → IsTightForm old (unwrap_or o old)
+      by (Some made) has = kept.built pair made old has there
+      by None has = elim (kept.pairs pair old there has) [ inl listed ↦ absurd (all_done pair listed) | inr tight ↦ own_form old tight ]
 
 -- ---- units one after another
 
@@ -249,7 +250,7 @@ module _ (s : Setting) (old mid : Underway) (covers : Covers s old) (kept : IsKe
   ready enough new owed is_new swap moves built = (
     enough,
     ap (λ (j : Underway). j.owed) is_new ∙ owed,
-    record { moves = moves; built = λ pair had there. let made = done_is_built s mid kept (none_left enough) pair had there in (made.0, ap (λ m. get m pair) built ∙ made.1, made.2) },
+    record { moves = moves; built = λ pair had there. subst (λ m. IsTightForm had (unwrap_or (get m pair) had)) (sym built) (done_is_built s mid kept (none_left enough) pair had there) },
     subst (Covers s) same (record { kept_up = kept; enough = needs_more s mid 0 mid.owed (omega arith) (none_left enough) }),
   )
     where
@@ -261,9 +262,7 @@ module _ (s : Setting) (old mid : Underway) (covers : Covers s old) (kept : IsKe
     kept_up = record { placed = kept.placed; tags = kept.tags; pairs = kept.pairs; built = kept.built };
     enough = let left = needs_more s mid (old.owed - count) (old.owed - units) (omega (arith, is, more)) (done old.owed covers.enough) in record {
       tags = left.tags;
-      pairs = left.pairs;
       few = left.few;
       all_tags = left.all_tags;
-      all_pairs = left.all_pairs;
     };
   })

@@ -1,8 +1,9 @@
 -- The last item of a list, and tags above another.
-use Rattle.std.proofs.Common.{◌≡◌, ℕ, zero, suc, ◌-◌, ◌<◌, ◌≤◌, ◌⊎◌, List, [], ◌∷◌, length, take, refl, sym, ap, subst, ◌∙◌, inl, inr, arith}
+use Rattle.std.proofs.Common.{◌≡◌, ℕ, zero, suc, ◌+◌, ◌-◌, ◌<◌, ◌≤◌, ◌⊎◌, List, [], ◌∷◌, length, take, refl, sym, ap, subst, ◌∙◌, inl, inr, arith}
 use Rattle.std.specs.Prelude.{Bool, true, false, nat_lt, Option, Some, None, slice_get}
 use Rattle.std.specs.FinMap.{FinMap}
 use Rattle.std.proofs.lemmas.Bool.{ltb-false, ltb-true}
+use Rattle.std.proofs.lemmas.List.{length-take-le}
 use Rattle.net_types.proofs.FindLemmas.{not_there, slice_get_some}
 use Rattle.net_types.specs.Keys.{prefix_cmp}
 use Rattle.net_types.specs.Sets.{Member}
@@ -33,6 +34,13 @@ all_but_last (z ∷ zs) rest n x count is at y m =
       | inl there ↦ inl (subst (Member y) (sym front) there)
       | inr last ↦ inr last
     ]
+
+-- and the others are one fewer
+pub fewer_by_last : {A : Type 0} (xs rest : List A) (n : ℕ) (x : A) → n ≡ length xs → rest ≡ take (n - 1) xs → Some x ≡ slice_get xs (length xs - 1) → length rest + 1 ≤ length xs
+fewer_by_last [] rest n x count is at = absurd (not_there (slice_get [] 0) x refl (sym at))
+fewer_by_last (z ∷ zs) rest n x count is at =
+    let long : length rest ≡ n - 1 = ap length is ∙ length-take-le (n - 1) (z ∷ zs) (omega (arith, count)) in
+    omega (arith, long, count)
 
 pub no_last : {A : Type 0} (xs : List A) → None ≡ slice_get xs (length xs - 1) → xs ≡ []
 no_last [] e = refl

@@ -1,8 +1,9 @@
 -- What single units of a job do (this exchange's own rule).
-use Rattle.std.specs.Prelude.{◌≡◌, ℕ, ◌-◌, ◌<◌, List, [], ◌∷◌, Option, Some, None, unwrap_or}
+use Rattle.std.specs.Prelude.{◌≡◌, ℕ, ◌-◌, ◌<◌, ◌≤◌, ◌⊎◌, true, List, [], ◌∷◌, length, Some, is_some, slice_get}
 use Rattle.std.specs.declared.cmp.Ordering.{Ordering}
 use Rattle.std.specs.FinMap.{FinMap, get, insert, remove}
 use Rattle.block_build.specs.Tight.{IsTightForm}
+use Rattle.events.specs.Sound.{IsTight}
 use Rattle.net_types.specs.Keys.{pair_cmp, prefix_cmp}
 use Rattle.net_types.specs.Sets.{Member}
 use Rattle.net_types.specs.declared.address.Tag.{Tag}
@@ -21,13 +22,25 @@ AreListed tags listed = (t : Tag) → 0 < members tags t → Member t listed
 abbrev pub KeepsThose : {A : Type 0} → (A → Type 0) → List A → List A → Type 0
 KeepsThose {A} P old new = (x : A) → P x → Member x old → Member x new
 
--- the table has these rules for a pair that isn't built
-abbrev pub IsFound : FinMap pair_cmp (List Rule) → BuiltPairs → Pair → List Rule → Type 0
-IsFound table built pair rules = (get table pair ≡ Some rules) × (get built pair ≡ None)
+-- a list ends with this one
+abbrev pub IsLast : {A : Type 0} → List A → A → Type 0
+IsLast xs x = Some x ≡ slice_get xs (length xs - 1)
 
--- the pair is built: a tight form of these rules is put in, or nothing where they are tight
+-- the second list has those of the first that satisfy this, but for this one
+abbrev pub KeepsOthers : {A : Type 0} → (A → Type 0) → A → List A → List A → Type 0
+KeepsOthers {A} P x old new = (y : A) → P y → Member y old → Member y new ⊎ (y ≡ x)
+
+-- the table has rules for a pair
+abbrev pub HasRules : FinMap pair_cmp (List Rule) → Pair → Type 0
+HasRules table pair = is_some (get table pair) ≡ true
+
+-- the pair is built: these rules are tight, or a tight form of them is put in
 abbrev pub IsBuiltFrom : Pair → List Rule → BuiltPairs → BuiltPairs → Type 0
-IsBuiltFrom pair old before after = (made : Option (List Rule)) × IsTightForm old (unwrap_or made old) × (after ≡ insert before pair made)
+IsBuiltFrom pair old before after = (IsTight old × (after ≡ before)) ⊎ ((made : List Rule) × IsTightForm old made × (after ≡ insert before pair made))
+
+-- no more pairs than a job lists, which are more than any memory holds
+abbrev pub AreListable : List Pair → Type 0
+AreListable pairs = length pairs ≤ 562949953421312
 
 -- what needed at most some units needs so many fewer
 abbrev pub NeedsFewer : Setting → ℕ → Underway → Underway → Type 0

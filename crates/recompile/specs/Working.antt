@@ -1,5 +1,5 @@
 -- What units of a job do (this exchange's own rule).
-use Rattle.std.specs.Prelude.{◌≡◌, ℕ, ◌-◌, ◌<◌, ◌≤◌, List, Option, Some, unwrap_or}
+use Rattle.std.specs.Prelude.{◌≡◌, ℕ, ◌-◌, ◌<◌, ◌≤◌, List, Some, unwrap_or}
 use Rattle.std.specs.FinMap.{get}
 use Rattle.block_build.specs.Tight.{IsTightForm}
 use Rattle.net_types.specs.declared.rule.Pair.{Pair}
@@ -12,10 +12,11 @@ use Rattle.recompile.specs.declared.swap.Progress.{Progress}
 use Rattle.recompile.specs.declared.swap.Progress.TheVariants.{Working, Ready}
 use Rattle.recompile.specs.declared.swap.Swap.{Swap}
 
--- The moves that merge the classes, and for each pair of the table a tight form of its rules, or nothing where they are their own.
+-- The moves that merge the classes, and other rules for pairs. For each pair of the table these, or where there are none those that
+-- it has, are a tight form of those that it has.
 pub record IsSwap (s : Setting) (swap : Swap) : Type 0 where
   pub moves : IsMergeOf s.tag s.kept swap.moves
-  pub built : (pair : Pair) (old : List Rule) → get s.table pair ≡ Some old → (made : Option (List Rule)) × (get swap.built pair ≡ Some made) × IsTightForm old (unwrap_or made old)
+  pub built : (pair : Pair) (old : List Rule) → get s.table pair ≡ Some old → IsTightForm old (unwrap_or (get swap.built pair) old)
 
 -- the job with what it had built
 abbrev pub with_built : Underway → Swap → Underway

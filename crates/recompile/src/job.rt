@@ -10,7 +10,7 @@ ghost use Rattle.recompile.specs.Setting.{setting};
 ghost use Rattle.recompile.specs.Units.{NeedsFewer};
 ghost use Rattle.recompile.specs.Working.{IsProgress, with_built};
 
-use crate::lists::{pair_to_do, push_both, tag_to_do, tags_with, take_out_each};
+use crate::lists::{listed, pair_to_do, push_both, tag_to_do, tags_with, take_out_each};
 use crate::swap::{Built, Progress, Swap};
 use crate::units::{all_units, more_units};
 use block_build::Blocks;
@@ -28,9 +28,10 @@ pub struct Job {
     owed: u64,
     placed: Grouping,
     built: Built,
-    /// The tags that may be still to do; those that are placed or have no members cost no unit.
+    /// The tags that are still to do, each of which is taken out once it is placed, among others that are gone or placed; these cost
+    /// no unit.
     tags: Vec<Tag>,
-    /// The pairs that may be still to do; those that are built or gone cost no unit.
+    /// The pairs that are still to do, each of which is taken out once it is done, among others that are gone; these cost no unit.
     pairs: Vec<Pair>,
 }
 
@@ -142,13 +143,14 @@ impl Job {
     {
         let tags = tags_with(alloc, classes, fresh)?;
         let owed = all_units(classes.carried(), pairs.len());
+        let pairs = listed(pairs)?;
         Ok(Job {
             alloc,
             owed,
             placed: Grouping::new(alloc),
             built: Built::new(alloc),
             tags,
-            pairs: pairs.into_vec(),
+            pairs,
         })
     }
 
@@ -169,10 +171,12 @@ impl Job {
     {
         if let Some(tag) = tag_to_do(&mut self.tags, &self.placed, classes) {
             self.placed.place(classes, tag, steps)?;
+            self.tags.pop();
             return Ok(true);
         }
-        if let Some((pair, old)) = pair_to_do(&mut self.pairs, &self.built, switch) {
+        if let Some((pair, old)) = pair_to_do(&mut self.pairs, switch) {
             self.built.build(self.alloc, pair, old, steps)?;
+            self.pairs.pop();
             return Ok(true);
         }
         Ok(false)

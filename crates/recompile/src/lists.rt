@@ -1,15 +1,15 @@
 //! The lists of what may be still to do.
 
-ghost use Rattle.std.specs.Prelude.{◌≡◌, ◌++◌, [], true, false, IfNone, IfOk, IfSome, OnErr, OnOk};
+ghost use Rattle.std.specs.Prelude.{◌≡◌, ◌≤◌, ◌++◌, [], true, false, length, Some, IfNone, IfOk, IfSome, OnErr, OnOk};
+ghost use Rattle.std.specs.FinMap.{get};
 ghost use Rattle.net_types.specs.Sets.{Member};
 ghost use Rattle.net_types.specs.declared.address.Tag.{Tag as AnyTag};
 ghost use Rattle.prefix_classes.specs.Classes.{members};
-ghost use Rattle.recompile.specs.Covering.{IsPairToDo, IsTagToDo};
-ghost use Rattle.recompile.specs.Units.{AreListed, IsFound, KeepsThose, without_each};
+ghost use Rattle.recompile.specs.Covering.{IsTagToDo};
+ghost use Rattle.recompile.specs.Units.{AreListable, AreListed, HasRules, IsLast, KeepsThose, without_each};
 
-use crate::swap::Built;
 use block_build::Blocks;
-use net_types::{Memory, Pair, Rule, Tag};
+use net_types::{Memory, Pair, Pairs, Rule, Tag};
 use prefix_classes::{ClassMap, Grouping};
 use std::alloc::Global;
 
@@ -40,6 +40,32 @@ pub(crate) fn tags_with(
     Ok(tags)
 }
 
+/// The most pairs that a job lists: more than any memory holds. With as many tags it owes no more than the most units.
+const MOST_PAIRS: usize = 1 << 49;
+
+/// The pairs of a table as a list. More than the most are refused like want of memory.
+pub(crate) fn listed(pairs: Pairs) -> Result<Vec<Pair>, Memory>
+    ensures { IfOk result (λ listed. (listed.items ≡ pairs) × AreListable listed.items) }
+{
+    if pairs.len() > MOST_PAIRS {
+        return Err(Memory);
+    }
+    Ok(pairs.into_vec())
+}
+
+/// Puts pairs last. More than the most are refused like want of memory.
+fn push_pairs(pairs: &mut Vec<Pair>, added: &[Pair]) -> Result<(), Memory>
+    ensures pairs { OnOk result (pairs.new.items ≡ pairs.old.items ++ added.now) }
+    ensures few { OnOk result (AreListable pairs.new.items) }
+    ensures same { OnErr result (pairs.new.items ≡ pairs.old.items) }
+{
+    if pairs.len().saturating_add(added.len()) > MOST_PAIRS {
+        return Err(Memory);
+    }
+    pairs.extend_from_slice(added)?;
+    Ok(())
+}
+
 /// Puts tags and pairs last, or after want of memory neither.
 pub(crate) fn push_both(
     tags: &mut Vec<Tag>,
@@ -49,12 +75,13 @@ pub(crate) fn push_both(
 ) -> Result<(), Memory>
     ensures tags { OnOk result (tags.new.items ≡ tags.old.items ++ fresh.now) }
     ensures pairs { OnOk result (pairs.new.items ≡ pairs.old.items ++ added.now) }
+    ensures few { OnOk result (AreListable pairs.new.items) }
     ensures same_tags { OnErr result (tags.new.items ≡ tags.old.items) }
     ensures same_pairs { OnErr result (pairs.new.items ≡ pairs.old.items) }
 {
     let before = tags.len();
     tags.extend_from_slice(fresh)?;
-    if pairs.extend_from_slice(added).is_err() {
+    if push_pairs(pairs, added).is_err() {
         tags.truncate(before);
         return Err(Memory);
     }
@@ -78,9 +105,10 @@ fn is_tag_to_do(placed: &Grouping, classes: &ClassMap, tag: Tag) -> bool
     classes.members(tag) > 0 && !placed.has(tag)
 }
 
-/// A tag that is still to do; those that come before it in the list and aren't any more are taken out.
+/// The last tag that is still to do; those that come after it in the list and aren't any more are taken out.
 pub(crate) fn tag_to_do(tags: &mut Vec<Tag>, placed: &Grouping, classes: &ClassMap) -> Option<Tag>
     ensures one { IfSome result (IsTagToDo classes.now.tag placed.now) }
+    ensures last { IfSome result (IsLast tags.new.items) }
     ensures none { IfNone result (tags.new.items ≡ []) }
     ensures kept { KeepsThose (IsTagToDo classes.now.tag placed.now) tags.old.items tags.new.items }
 {
@@ -93,29 +121,19 @@ pub(crate) fn tag_to_do(tags: &mut Vec<Tag>, placed: &Grouping, classes: &ClassM
     None
 }
 
-/// The rules of a pair that isn't built, where it has some.
-fn rules_to_do<'s, B: Blocks>(built: &Built, switch: &'s B, pair: Pair) -> Option<&'s [Rule]>
-    ensures found { IfSome result (λ rules. IsFound (B.installed switch.now).table built.now pair rules.now) }
-    ensures none { IfNone result (¬ IsPairToDo (B.installed switch.now).table built.now pair) }
-{
-    if built.has(pair) {
-        return None;
-    }
-    switch.rules_of(pair)
-}
-
-/// A pair that is still to do, with its rules; those that come before it in the list and aren't any more are taken out.
+/// The last pair of a list that has rules, with these; those that come after it and have none are taken out.
 pub(crate) fn pair_to_do<'s, B: Blocks>(
     pairs: &mut Vec<Pair>,
-    built: &Built,
     switch: &'s B,
 ) -> Option<(Pair, &'s [Rule])>
-    ensures found { IfSome result (λ found. IsFound (B.installed switch.now).table built.now found.0 found.1.now) }
+    ensures found { IfSome result (λ found. get (B.installed switch.now).table found.0 ≡ Some found.1.now) }
+    ensures last { IfSome result (λ found. IsLast pairs.new.items found.0) }
     ensures none { IfNone result (pairs.new.items ≡ []) }
-    ensures kept { KeepsThose (IsPairToDo (B.installed switch.now).table built.now) pairs.old.items pairs.new.items }
+    ensures kept { KeepsThose (HasRules (B.installed switch.now).table) pairs.old.items pairs.new.items }
+    ensures fewer { length pairs.new.items ≤ length pairs.old.items }
 {
     while let Some(&pair) = pairs.last() {
-        if let Some(rules) = rules_to_do(built, switch, pair) {
+        if let Some(rules) = switch.rules_of(pair) {
             return Some((pair, rules));
         }
         pairs.pop();

@@ -1,23 +1,22 @@
 //! What a job has done: the moves that merge the classes, and the tight rules.
 
-ghost use Rattle.std.specs.Prelude.{◌≡◌, ◌+◌, is_some, option_copied, OnErr, OnOk};
+ghost use Rattle.std.specs.Prelude.{◌≡◌, ◌+◌, option_copied, IfOk, OnErr, OnOk};
 ghost use Rattle.std.specs.FinMap as map;
-ghost use Rattle.recompile.specs.Underway.{others_of};
 ghost use Rattle.recompile.specs.Units.{IsBuiltFrom, without_each};
 
 use crate::tight::tightened;
 use block_build::Block;
-use net_types::{Memory, Pair, Rule, Steps};
+use net_types::{Memory, Pair, Pairs, Rule, Steps};
 use ordered_map::OrderedMap;
 use prefix_classes::Moves;
 use std::alloc::Global;
 use std::marker::Model;
 use std::sync::ledger::Ledger;
 
-/// The pairs that a job built; some may be gone from the table. Those whose rules were tight keep them, and are only marked.
+/// The other rules that a job built, for pairs whose rules weren't tight; some of these may be gone from the table.
 #[derive(Drop)]
 pub struct Built {
-    pairs: OrderedMap<Pair, Option<Block>>,
+    pairs: OrderedMap<Pair, Block>,
 }
 
 impl Model for Built {
@@ -55,16 +54,6 @@ pub enum Progress {
     Ready(Swap),
 }
 
-/// The rules of a block that may be absent.
-fn rules_in(made: &Option<Block>) -> Option<&[Rule]>
-    ensures { option_copied result ≡ made.now }
-{
-    match made {
-        Some(block) => Some(block.rules()),
-        None => None,
-    }
-}
-
 impl Built {
     pub(crate) fn new(alloc: Global) -> Built
         ensures { result ≡ map.empty }
@@ -74,32 +63,37 @@ impl Built {
         }
     }
 
-    /// Whether a pair is built.
-    pub(crate) fn has(&self, pair: Pair) -> bool
-        ensures { result ≡ is_some (map.get self.now pair) }
-    {
-        self.pairs.get(&pair).is_some()
-    }
-
     /// The other rules that were built for a pair; none where it keeps those it has.
     pub fn get(&self, pair: Pair) -> Option<&[Rule]>
-        ensures { option_copied result ≡ others_of self.now pair }
+        ensures { option_copied result ≡ map.get self.now pair }
     {
         match self.pairs.get(&pair) {
-            Some(made) => rules_in(made),
+            Some(block) => Some(block.rules()),
             None => None,
         }
     }
 
-    /// Takes a pair out, and answers the block of other rules. It takes no memory.
-    pub fn take(&mut self, pair: Pair) -> Option<Block>
-        ensures block { result ≡ others_of self.old pair }
-        ensures rest { self.new ≡ map.remove self.old pair }
+    /// The pairs with other rules, ascending by port, and then by tag. Memory is the only refusal.
+    pub fn pairs(&self, alloc: Global) -> Result<Pairs, Memory>
+        ensures { IfOk result (λ pairs. pairs ≡ map.keys self.now) }
     {
-        self.pairs.remove(&pair).unwrap_or(None)
+        let mut pairs = Pairs::new(alloc);
+        for (&pair, _) in self.pairs.iter() {
+            pairs.push(pair)?;
+        }
+        Ok(pairs)
     }
 
-    /// Makes the rules of a pair tight, and keeps them where they weren't. It counts one step, even where memory is wanting.
+    /// Takes a pair out, and answers the block of other rules. It takes no memory.
+    pub fn take(&mut self, pair: Pair) -> Option<Block>
+        ensures block { result ≡ map.get self.old pair }
+        ensures rest { self.new ≡ map.remove self.old pair }
+    {
+        self.pairs.remove(&pair)
+    }
+
+    /// Makes the rules of a pair tight, and keeps them where they weren't. It counts one step, even where memory is wanting; tight
+    /// rules need none.
     pub(crate) fn build<L: Ledger>(
         &mut self,
         alloc: Global,
@@ -111,8 +105,10 @@ impl Built {
         ensures unchanged { OnErr result (self.new ≡ self.old) }
         ensures step { steps.new ≡ steps.old + 1 }
     {
-        let made = tightened(alloc, old, steps)?;
-        self.pairs.insert(pair, made)?;
+        let Some(block) = tightened(alloc, old, steps)? else {
+            return Ok(());
+        };
+        self.pairs.insert(pair, block)?;
         Ok(())
     }
 

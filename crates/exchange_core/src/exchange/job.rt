@@ -34,14 +34,12 @@ impl Core {
         requires { IsSwap (setting_of self.now) swap.now }
         ensures { (s : State) → IsSteadyInJob s → without_job s ≡ self.now → IfOk result (IsEnd s swap.now) }
     {
-        let pairs = self.pairs()?;
         plan_end(
             self.alloc,
             &self.registry,
             &self.classes,
             &self.adverts,
             &self.switch,
-            pairs.items(),
             swap,
         )
     }

@@ -2,4 +2,4 @@ use Rattle.job_upkeep.proofs.QuietLines.{begin}
 use Rattle.job_upkeep.proofs.lines.jobs_begin.Goals as goal
 
 pub returns : goal.returns
-returns c = begin c.right_rules_are_some.ensures c.pairs_are_live.ensures
+returns c = begin c.pairs_are_live.ensures
