@@ -6,7 +6,6 @@ use Rattle.std.specs.FinMap.Entries.{find, is_sorted, is_some-find, below_all}
 use Rattle.std.specs.List.{list_any}
 use Rattle.std.specs.Ordering.{eq_by_cmp}
 use Rattle.std.proofs.lemmas.Bool.{and_from, and_parts, eq-eqb, eqb-true, false_from_ne_true}
-use Rattle.std.proofs.lemmas.List.{length-take, take_all}
 use Rattle.events.specs.Pending.{with_news}
 use Rattle.events.specs.Tags.{tells}
 use Rattle.events.specs.declared.Entry.{Entry}
@@ -21,7 +20,6 @@ use Rattle.net_types.specs.declared.prefix.Prefix.{Prefix}
 use Rattle.advert_queue.proofs.ChangedMaps.{Told}
 use Rattle.advert_queue.proofs.CountLemmas.{has_tag-le, kept_found, still_right, told_number, told_uses, untold_uses, uses_one, uses_with}
 use Rattle.advert_queue.proofs.EntryLists.{found_itself, map-filter}
-use Rattle.advert_queue.proofs.Fronts.{front_all, front_more}
 use Rattle.advert_queue.proofs.PendingLemmas.{told_among}
 use Rattle.advert_queue.proofs.RisingEntries.{find_below, keys_rise, rising_alike}
 use Rattle.advert_queue.proofs.TakenLemmas.{at_change}
@@ -253,36 +251,18 @@ left_last m [] c t = omega arith
 left_last m (d ∷ ds) c t = let rest = left_last m ds c t in omega (arith, rest)
 
 -- one prefix more
-pub leaving_next : (m : Told) (all later : List Change) (c : Change) (n : ℕ) (cs ds : List (Tag × Uses)) → AreCounts cs (by_side (left m (take n all)) none_present) → c ∷ later ≡ drop n all → IsRecounted sides.Told cs ds None (tag_in (get m c.0))
-    → AreCounts ds (by_side (left m (take (n + 1) all)) none_present)
-leaving_next m all later c n cs ds right here step =
-    still_right sides.Told cs ds None (tag_in (get m c.0)) (by_side (left m (take n all)) none_present) (by_side (left m (take (n + 1) all)) none_present) right step (λ t.
-    let more = ap (λ es. left m es t) (front_more n all later c here) in
-    let last = left_last m (take n all) c t in
-    omega (arith, more, last)) (λ t. refl)
+pub leaving_next : (m : Told) (front : List Change) (c : Change) (cs ds : List (Tag × Uses)) → AreCounts cs (by_side (left m front) none_present) → IsRecounted sides.Told cs ds None (tag_in (get m c.0))
+    → AreCounts ds (by_side (left m (front ++ c ∷ [])) none_present)
+leaving_next m front c cs ds right step =
+    still_right sides.Told cs ds None (tag_in (get m c.0)) (by_side (left m front) none_present) (by_side (left m (front ++ c ∷ [])) none_present) right step (λ t. let last = left_last m front c t in omega (arith, last)) (λ t. refl)
 
 left-le : (m : Told) (cs : List Change) (t : Tag) → left m cs t ≤ length cs
 left-le m [] t = omega arith
 left-le m (c ∷ cs) t = let one = has_tag-le t (tag_in (get m c.0)) in let rest = left-le m cs t in omega (arith, one, rest)
 
 -- a tag more can be counted
-pub leaving_small : (m : Told) (all : List Change) (n : ℕ) (cs : List (Tag × Uses)) → AreCounts cs (by_side (left m (take n all)) none_present) → n + 1 < 2 ^ 64 → (t : Tag) → counted sides.Told cs t + 1 < 2 ^ 64
-leaving_small m all n cs right few t =
-    let number : counted sides.Told cs t ≡ left m (take n all) t = right.counts sides.Told t in
-    let most = left-le m (take n all) t in
-    let front = length-take n all in
-    omega (arith, number, most, front, few)
-
-pub leaving_first : (m : Told) (all : List Change) (cs : List (Tag × Uses)) → cs ≡ [] → AreCounts cs (by_side (left m (take 0 all)) none_present)
-leaving_first m all cs none = subst (λ es. AreCounts es (by_side (left m (take 0 all)) none_present)) (sym none) (record { rising = refl; used = λ t u is. absurd (cc); counts = λ side t. by t side })
-  where
-    by : (t : Tag) (side : Side) → number side (uses_in None) ≡ by_side (left m []) none_present side t
-    by t sides.Told = refl
-    by t sides.Present = refl
-
--- no prefix is left, or enough were seen
-pub leaving_all : (m : Told) (all rest : List Change) (n count : ℕ) (cs : List (Tag × Uses)) → AreCounts cs (by_side (left m (take n all)) none_present) → rest ≡ drop n all → rest ≡ [] → n ≤ count
-    → AreCounts cs (by_side (left m (take count all)) none_present)
-leaving_all m all rest n count cs right is none few =
-    let long = front_all n all (sym none ∙ is) in
-    subst (λ es. AreCounts cs (by_side (left m es) none_present)) (take_all n all long ∙ sym (take_all count all (omega (arith, long, few)))) right
+pub leaving_small : (m : Told) (front : List Change) (cs : List (Tag × Uses)) → AreCounts cs (by_side (left m front) none_present) → length front + 1 < 2 ^ 64 → (t : Tag) → counted sides.Told cs t + 1 < 2 ^ 64
+leaving_small m front cs right few t =
+    let number : counted sides.Told cs t ≡ left m front t = right.counts sides.Told t in
+    let most = left-le m front t in
+    omega (arith, number, most, few)

@@ -187,12 +187,10 @@ fn copied(entry: Option<&Entry>) -> Result<Option<Entry>, Memory>
 pub(crate) fn first_entries(alloc: Global, news: &News, count: usize) -> Result<Entries, Memory>
     ensures { IfOk result (λ entries. entries ≡ take count news.now.items) }
 {
-    let mut entries = Items::new(alloc);
-    for (prefix, entry) in news.iter() {
-        if entries.len() == count {
-            return Ok(entries);
-        }
-        entries.push((*prefix, copied(entry.as_ref())?))?;
+    let firsts = news.first_entries(count)?;
+    let mut entries = Items::from_vec(Vec::with_capacity(alloc, firsts.len())?);
+    for (prefix, entry) in firsts.as_slice() {
+        entries.push((**prefix, copied(entry.as_ref())?))?;
     }
     Ok(entries)
 }
@@ -208,12 +206,10 @@ pub(crate) fn first_messages(
     requires small { AreSmall news.now.items }
     ensures { IfOk result (λ messages. messages ≡ map (message_of base) (take count news.now.items)) }
 {
-    let mut messages = Items::new(alloc);
-    for (prefix, entry) in news.iter() {
-        if messages.len() == count {
-            return Ok(messages);
-        }
-        messages.push(advert(alloc, base, *prefix, entry.as_ref())?)?;
+    let firsts = news.first_entries(count)?;
+    let mut messages = Items::from_vec(Vec::with_capacity(alloc, firsts.len())?);
+    for (prefix, entry) in firsts.as_slice() {
+        messages.push(advert(alloc, base, **prefix, entry.as_ref())?)?;
     }
     Ok(messages)
 }

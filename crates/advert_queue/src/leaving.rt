@@ -41,14 +41,10 @@ pub(crate) fn leaving(
 ) -> Result<Counts, Memory>
     ensures { IfOk result (λ counts. AreCounts counts.items (by_side (left told.now.map (take count news.now.items)) none_present)) }
 {
+    let firsts = news.first_entries(count)?;
     let mut counts = Counts::new(alloc);
-    let mut seen = 0;
-    for (prefix, _) in news.iter() {
-        if seen == count {
-            return Ok(counts);
-        }
-        count_told(&mut counts, told, *prefix)?;
-        seen += 1;
+    for (prefix, _) in firsts.as_slice() {
+        count_told(&mut counts, told, **prefix)?;
     }
     Ok(counts)
 }

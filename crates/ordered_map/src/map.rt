@@ -1,6 +1,6 @@
 //! The map: a tree of entries, and boxes that wait for more.
 
-ghost use Rattle.std.specs.Prelude.{◌≡◌, ◌≤◌, ◌<◌, ◌+◌, [], None, IsTrue, IsOk, OnOk, OnErr, IfOk, option_copied, is_some, length, drop, if◌then◌else◌};
+ghost use Rattle.std.specs.Prelude.{◌≡◌, ◌≤◌, ◌<◌, ◌+◌, [], None, IsTrue, IsOk, OnOk, OnErr, IfOk, option_copied, is_some, length, drop, map, take, if◌then◌else◌};
 ghost use Rattle.std.specs.Option.{option_map};
 ghost use Rattle.std.specs.Map.Iter.{deref_pair};
 ghost use Rattle.std.specs.FinMap.Entries.{find, put, is_sorted};
@@ -11,7 +11,7 @@ ghost use Rattle.ordered_map.specs.Entries.{without, above, head_of};
 use crate::change::{change_or_put_in, change_or_take, put_in, take_from, take_least};
 use crate::iter::Iter;
 use crate::spare::fill;
-use crate::tree::{Node, Tree, first, next_after, value_of};
+use crate::tree::{Node, Tree, first, gather, next_after, value_of};
 use crate::values::{Change, Lapse, change_all, change_at};
 use std::alloc::{AllocError, Global};
 use std::marker::Model;
@@ -93,6 +93,15 @@ impl<K: Ord, V> OrderedMap<K, V> {
         ensures { result ≡ self.now.items }
     {
         Iter::new(&self.tree)
+    }
+
+    /// The first entries in the order of their keys, so many at most: all in one walk over these.
+    pub fn first_entries(&self, count: usize) -> Result<Vec<(&K, &V)>, AllocError>
+        ensures { IfOk result (λ entries. map deref_pair entries.items ≡ take count self.now.items) }
+    {
+        let mut entries = Vec::with_capacity(self.alloc, count.min(self.count))?;
+        gather(&self.tree, count, &mut entries)?;
+        Ok(entries)
     }
 
     /// The entries with keys above this one, in their order. The key itself need not have a value.

@@ -1,11 +1,13 @@
 //! A tree of entries whose keys rise from left to right, one box an entry.
 
-ghost use Rattle.std.specs.Prelude.{◌≡◌, IsTrue, option_copied};
+ghost use Rattle.std.specs.Prelude.{◌≡◌, ◌≤◌, ◌++◌, IsTrue, OnOk, map, option_copied, take};
+ghost use Rattle.std.specs.Vec.{vec_len};
 ghost use Rattle.std.specs.Option.{option_map};
 ghost use Rattle.std.specs.Map.Iter.{deref_pair};
 ghost use Rattle.std.specs.FinMap.Entries.{find, is_sorted};
 ghost use Rattle.ordered_map.specs.Entries.{entries_of, above, head_of};
 
+use std::alloc::AllocError;
 use std::cmp::Ordering;
 
 #[cycle(tree)]
@@ -106,4 +108,35 @@ pub(crate) fn next_after<'a, K: Ord, V>(tree: &'a Tree<K, V>, key: &K) -> Option
         }
     }
     best
+}
+
+/// Puts the entries of a tree last, in the order of their keys, until there are so many.
+pub(crate) fn gather<'a, K, V>(
+    tree: &'a Tree<K, V>,
+    count: usize,
+    entries: &mut Vec<(&'a K, &'a V)>,
+) -> Result<(), AllocError>
+    requires { vec_len entries.old ≤ count }
+    ensures { OnOk result (map deref_pair entries.new.items ≡ take count (map deref_pair entries.old.items ++ entries_of tree.now)) }
+{
+    match tree {
+        Tree::Empty => Ok(()),
+        Tree::Fork(node) => match &**node {
+            Node::Blank => Ok(()),
+            Node::Full {
+                height: _,
+                key,
+                left,
+                right,
+                value,
+            } => {
+                gather(left, count, entries)?;
+                if entries.len() == count {
+                    return Ok(());
+                }
+                entries.push((key, value))?;
+                gather(right, count, entries)
+            }
+        },
+    }
 }

@@ -1,34 +1,28 @@
-use Rattle.std.proofs.Common.{◌≡◌, ◌∷◌, drop, sym, ◌∙◌, arith}
-use Rattle.advert_queue.proofs.Fronts.{front_left}
-use Rattle.advert_queue.proofs.GoneLemmas.{leaving_all, leaving_first, leaving_next, leaving_small}
+use Rattle.std.proofs.Common.{◌≡◌, ◌+◌, ◌++◌, ◌∷◌, [], length, map, take, sym, ap, subst, ◌∙◌, arith}
+use Rattle.std.proofs.lemmas.List.{length-map, length-take, map_more}
+use Rattle.std.specs.Map.Iter.{deref_pair}
+use Rattle.advert_queue.proofs.Fronts.{lent_few}
+use Rattle.advert_queue.proofs.GoneLemmas.{leaving_next, leaving_small}
 use Rattle.advert_queue.specs.Changes.{Change}
+use Rattle.advert_queue.specs.Counts.{AreCounts, by_side}
+use Rattle.advert_queue.specs.Leaving.{left, none_present}
 use Rattle.advert_queue.proofs.leaving.leaving.Goals as goal
 
-pub loop-prefix-init : goal.loop-prefix-init
-loop-prefix-init c = record {
-  rest = c.into_iter-prefix-iterator.ensures.into_iter_gives ∙ c.iter-prefix-items.ensures;
-  counts = leaving_first c.args.told.now.map c.args.news.now.items _ c.new-counts.ensures.items;
-  few = omega arith;
-}
-
-pub count_told-requires : goal.count_told-requires
-count_told-requires c = record {
-  rising = c.loop-prefix.invariant.counts.rising;
-  used = c.loop-prefix.invariant.counts.used;
-  small =
-      leaving_small c.args.told.now.map c.args.news.now.items c.loop-prefix.seen _ c.loop-prefix.invariant.counts
-      (let open_still = c.if-seen-count.false in let few = c.loop-prefix.invariant.few in omega (arith, open_still, few, c.ranges.count.fits));
-}
+pub count_told-requires-clause-small : goal.count_told-requires-clause-small
+count_told-requires-clause-small c =
+    let items = c.as_slice-prefix-items.result.now in
+    let front = take c.loop-prefix.prefix-index items in
+    let many = lent_few deref_pair items c.args.count c.args.news.now.items (ap (map deref_pair) c.as_slice-prefix-items.ensures.value ∙ c.in_ok-firsts.ensures) in
+    let short = length-take c.loop-prefix.prefix-index items in
+    let same = length-map front deref_pair in
+    leaving_small c.args.told.now.map (map deref_pair front) _ c.loop-prefix.invariant (let at = c.loop-prefix-test.true in omega (arith, same, short, many, at, c.ranges.count.fits))
 
 pub loop-prefix-preserved : goal.loop-prefix-preserved
 loop-prefix-preserved c =
-    let x : Change = (c.in-Some.prefix.now, c.in-Some.field-0-1.now) in
-    let here : x ∷ c.next.new.self ≡ drop c.loop-prefix.seen c.args.news.now.items = sym c.in-Some.ensures.steps ∙ c.loop-prefix.invariant.rest in
-    record {
-      rest = front_left c.loop-prefix.seen c.args.news.now.items c.next.new.self x here;
-      counts = leaving_next c.args.told.now.map c.args.news.now.items c.next.new.self x c.loop-prefix.seen _ _ c.loop-prefix.invariant.counts here c.in_ok-count_told.ensures;
-      few = (let unfull = c.if-seen-count.false in let few = c.loop-prefix.invariant.few in omega (arith, unfull, few));
-    }
-
-pub returns : goal.returns
-returns c = leaving_all c.args.told.now.map c.args.news.now.items c.loop-prefix.prefix-iterator c.loop-prefix.seen c.args.count _ c.loop-prefix.invariant.counts c.loop-prefix.invariant.rest c.in-None.ensures.steps.0 c.loop-prefix.invariant.few
+    let items = c.as_slice-prefix-items.result.now in
+    let item = c.loop-prefix-item.result in
+    let x : Change = (item.0.now, item.1.now) in
+    let more : map deref_pair (take (c.loop-prefix.prefix-index + 1) items) ≡ map deref_pair (take c.loop-prefix.prefix-index items) ++ x ∷ [] =
+    map_more deref_pair items c.loop-prefix.prefix-index item c.loop-prefix-test.true ∙ ap (λ y. map deref_pair (take c.loop-prefix.prefix-index items) ++ deref_pair y ∷ []) (sym c.loop-prefix-item.is) in
+    subst (λ (front : _). AreCounts c.count_told.new.counts.items (by_side (left c.args.told.now.map front) none_present)) (sym more)
+    (leaving_next c.args.told.now.map (map deref_pair (take c.loop-prefix.prefix-index items)) x _ _ c.loop-prefix.invariant c.in_ok-count_told.ensures)
