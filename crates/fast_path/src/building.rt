@@ -106,7 +106,7 @@ fn block_of<L: Ledger>(
     Ok(block)
 }
 
-/// The same, where the tag is fresh, as its class has it.
+/// The part of the owner of the pair's port, where the tag is fresh, as its class has it.
 fn part_of_fresh<'c>(names: &Registry, fresh: &'c [Class], pair: Pair) -> Option<&'c Part>
     requires { AreInOrder fresh.now }
     ensures { IfSome result (λ part. (known : Known) → part_at names.now known fresh.now pair ≡ Some part.now) }

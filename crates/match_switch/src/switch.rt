@@ -8,7 +8,7 @@ ghost use Rattle.block_build.specs.Installed.{count_at, rule_count};
 
 use crate::iter::Iter;
 use events::{Flow, Flows};
-use net_types::{Items, Memory, Pair, Rule, TryCopy};
+use net_types::{Items, Memory, Pair, Pairs, Rule, TryCopy};
 use ordered_map::OrderedMap;
 use std::alloc::Global;
 use std::marker::Model;
@@ -135,6 +135,18 @@ impl Switch {
         ensures { result ≡ map.entries self.now.table }
     {
         Iter::new(self.entries.iter())
+    }
+
+    /// The pairs, ascending by port, and then by tag: all in one walk. Memory is the only refusal.
+    pub fn pairs(&self, alloc: Global) -> Result<Pairs, Memory>
+        ensures { IfOk result (λ pairs. pairs ≡ map.keys self.now.table) }
+    {
+        let entries = self.entries.first_entries(self.entries.len())?;
+        let mut pairs = Vec::with_capacity(alloc, entries.len())?;
+        for (pair, _) in entries.as_slice() {
+            pairs.push(**pair)?;
+        }
+        Ok(Pairs::from_vec(pairs))
     }
 
     /// Copies of all rules, by port, tag and order. Memory is the only refusal.

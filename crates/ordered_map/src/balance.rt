@@ -92,7 +92,7 @@ pub(crate) fn rebalance<K: Drop, V: Drop>(tree: &mut Tree<K, V>, side: Height) -
     }
 }
 
-/// Turns a tree of which one side may be two levels higher than the other, so that they differ by one level at most.
+/// Turns a tree of which one side may be too high, so that where it was by two levels they differ by one level at most.
 pub(crate) fn level<K: Drop, V: Drop>(tree: &mut Tree<K, V>) -> Height
     ensures { entries_of tree.new ≡ entries_of tree.old }
 {
@@ -111,7 +111,7 @@ pub(crate) fn level<K: Drop, V: Drop>(tree: &mut Tree<K, V>) -> Height
     }
 }
 
-/// What became of a tree's height, or which of its sides is two levels higher than the other.
+/// What became of a tree's height, or which of its sides is higher than the other by two levels or more.
 enum Stand {
     Left,
     Level(Height),
