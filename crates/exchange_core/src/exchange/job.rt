@@ -14,7 +14,7 @@ use super::Core;
 use crate::replies::changes_reply;
 use events::{Head, Phase, Reply};
 use job_end::{End, commit_end, ends_are_committed, plan_end, reserve_end};
-use net_types::{Items, Memory, Pairs};
+use net_types::{Memory, Pairs};
 use recompile::Swap;
 
 impl Core {
@@ -22,11 +22,7 @@ impl Core {
     pub fn pairs(&self) -> Result<Pairs, Memory>
         ensures { IfOk result (λ pairs. pairs ≡ keys self.now.table) }
     {
-        let mut pairs = Items::new(self.alloc);
-        for (pair, _) in self.switch.iter() {
-            pairs.push(pair)?;
-        }
-        Ok(pairs)
+        self.switch.pairs(self.alloc)
     }
 
     /// What the end of a job does, whichever job it is.
