@@ -117,7 +117,7 @@ impl TryCopy for Rule {
 
 impl<T: TryCopy + Drop> TryCopy for Items<T> {
     fn copy(&self) -> Result<Items<T>, Memory> {
-        let mut twin = Vec::new(self.allocator());
+        let mut twin = Vec::with_capacity(self.allocator(), self.len())?;
         for item in self.items() {
             twin.push(item.copy()?)?;
         }
