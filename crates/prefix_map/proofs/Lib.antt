@@ -1,3 +1,4 @@
+pub mod FindLemmas
 pub mod ForkLemmas
 pub mod HalfLemmas
 pub mod ListLemmas

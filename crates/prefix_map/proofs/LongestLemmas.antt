@@ -94,10 +94,8 @@ module _ {V : Type 0} (at : Prefix) (held : Option V) (l h : List (Prefix × V))
           let until = is.until in
           false≢true (sym misses ∙ covers_from at ip (let a = there.0 in omega (arith, a, from)) (let b = there.1 in omega (arith, b, until))))
 
-  pub longest_low : covers at ip ≡ true → ip.0 < middle at → longest_entry (own at held ++ (l ++ h)) ip ≡ entry_or (longest_entry l ip) at held
-  longest_low here less =
-      longest_own at held (l ++ h) ip here longer_all_below
-      ∙ ap (λ o. entry_or o at held) (longest_left ip l h (all_of outside h high))
+  longest_of_low : ip.0 < middle at → longest_entry (l ++ h) ip ≡ longest_entry l ip
+  longest_of_low less = longest_left ip l h (all_of outside h high)
     where
       outside : (p : Prefix) → LiesHigh at p → covers p ip ≡ false
       outside p is = missed p ip (λ hits.
@@ -106,10 +104,8 @@ module _ {V : Type 0} (at : Prefix) (held : Option V) (l h : List (Prefix × V))
           let from = is.from in
           absurd (omega (arith, a, from, less)))
 
-  pub longest_high : covers at ip ≡ true → middle at ≤ ip.0 → longest_entry (own at held ++ (l ++ h)) ip ≡ entry_or (longest_entry h ip) at held
-  longest_high here more =
-      longest_own at held (l ++ h) ip here longer_all_below
-      ∙ ap (λ o. entry_or o at held) (longest_right ip l h (all_of outside l low))
+  longest_of_high : middle at ≤ ip.0 → longest_entry (l ++ h) ip ≡ longest_entry h ip
+  longest_of_high more = longest_right ip l h (all_of outside l low)
     where
       outside : (p : Prefix) → LiesLow at p → covers p ip ≡ false
       outside p is = missed p ip (λ hits.
@@ -117,6 +113,21 @@ module _ {V : Type 0} (at : Prefix) (held : Option V) (l h : List (Prefix × V))
           let b = there.1 in
           let until = is.until in
           absurd (omega (arith, b, until, more)))
+
+  pub longest_low : covers at ip ≡ true → ip.0 < middle at → longest_entry (own at held ++ (l ++ h)) ip ≡ entry_or (longest_entry l ip) at held
+  longest_low here less = longest_own at held (l ++ h) ip here longer_all_below ∙ ap (λ o. entry_or o at held) (longest_of_low less)
+
+  pub longest_high : covers at ip ≡ true → middle at ≤ ip.0 → longest_entry (own at held ++ (l ++ h)) ip ≡ entry_or (longest_entry h ip) at held
+  longest_high here more = longest_own at held (l ++ h) ip here longer_all_below ∙ ap (λ o. entry_or o at held) (longest_of_high more)
+
+  -- where the prefix has no value, nothing is asked of it
+  pub longest_bare_low : held ≡ None → ip.0 < middle at → longest_entry (own at held ++ (l ++ h)) ip ≡ entry_or (longest_entry l ip) at held
+  longest_bare_low bare less =
+      ap (λ o. longest_entry (own at o ++ (l ++ h)) ip) bare ∙ longest_of_low less ∙ or_none at (longest_entry l ip) ∙ ap (entry_or (longest_entry l ip) at) (sym bare)
+
+  pub longest_bare_high : held ≡ None → middle at ≤ ip.0 → longest_entry (own at held ++ (l ++ h)) ip ≡ entry_or (longest_entry h ip) at held
+  longest_bare_high bare more =
+      ap (λ o. longest_entry (own at o ++ (l ++ h)) ip) bare ∙ longest_of_high more ∙ or_none at (longest_entry h ip) ∙ ap (entry_or (longest_entry h ip) at) (sym bare)
 
 -- ---- in the words of prefixes alone
 

@@ -10,7 +10,7 @@ ghost use Rattle.prefix_map.specs.Entries.{entries_of, above, seen_entry, longes
 ghost use Rattle.net_types.specs.Routes.{first_of_list};
 ghost use Rattle.prefix_map.specs.Tries.{IsTrie};
 
-use crate::place::{Place, is_below, place_of};
+use crate::place::is_below;
 use net_types::{Ip, Prefix};
 
 #[cycle(trie)]
@@ -46,7 +46,8 @@ impl<V> Trie<V> {
     }
 }
 
-/// The value of a prefix, where it has one.
+/// The value of a prefix, where it has one. Whether the prefix lies in a fork's isn't asked on the way down: where it doesn't, none
+/// that is met is the same.
 pub(crate) fn value_of<V>(trie: &Trie<V>, key: Prefix) -> Option<&V>
     requires halves { IsTrie trie.now }
     ensures { option_copied result ≡ find prefix_cmp key (entries_of trie.now) }
@@ -60,21 +61,25 @@ pub(crate) fn value_of<V>(trie: &Trie<V>, key: Prefix) -> Option<&V>
             }
             Trie::Fork(node) => {
                 let node = &**node;
-                match place_of(node.at, key) {
-                    Place::Same => return node.held.as_ref(),
-                    Place::Low => here = &node.low,
-                    Place::High => here = &node.high,
-                    Place::OverLow => return None,
-                    Place::OverHigh => return None,
-                    Place::Before => return None,
-                    Place::After => return None,
+                if key.len <= node.at.len {
+                    return if node.at == key {
+                        node.held.as_ref()
+                    } else {
+                        None
+                    };
                 }
+                here = if is_below(key.address, node.at) {
+                    &node.low
+                } else {
+                    &node.high
+                };
             }
         }
     }
 }
 
-/// The longest prefix that covers an address, with its value.
+/// The longest prefix that covers an address, with its value. Forks without a value aren't asked whether they cover it: where one
+/// doesn't, none below it does.
 pub(crate) fn longest_in<V>(trie: &Trie<V>, ip: Ip) -> Option<(Prefix, &V)>
     requires halves { IsTrie trie.now }
     ensures { option_map seen_entry result ≡ longest_entry (entries_of trie.now) ip }
@@ -93,10 +98,10 @@ pub(crate) fn longest_in<V>(trie: &Trie<V>, ip: Ip) -> Option<(Prefix, &V)>
             }
             Trie::Fork(node) => {
                 let node = &**node;
-                if !node.at.covers(ip) {
-                    return best;
-                }
                 if let Some(value) = &node.held {
+                    if !node.at.covers(ip) {
+                        return best;
+                    }
                     best = Some((node.at, value));
                 }
                 here = if is_below(ip, node.at) {
