@@ -68,5 +68,5 @@ module _ {V : Type 0} (at : Prefix) (held : Option V) (l h : List (Prefix × V))
   find_other short differ =
       find_beside q at held (l ++ h) (differing_is_other q at differ)
       ∙ find_nowhere q (l ++ h) (all_append _ l h
-          (all_of (λ p (is : LiesLow at p). let longer = is.longer in shorter_is_other q p (omega (arith, short, longer))) l low)
-          (all_of (λ p (is : LiesHigh at p). let longer = is.longer in shorter_is_other q p (omega (arith, short, longer))) h high))
+      (all_of (λ p (is : LiesLow at p). let longer = is.longer in shorter_is_other q p (omega (arith, short, longer))) l low)
+      (all_of (λ p (is : LiesHigh at p). let longer = is.longer in shorter_is_other q p (omega (arith, short, longer))) h high))

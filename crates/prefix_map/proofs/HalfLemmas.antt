@@ -1,12 +1,12 @@
 -- A prefix that begins before the end of another, no longer one or of its half, ends there at the latest.
 use Rattle.std.proofs.Common.{◌≡◌, ℕ, suc, ◌+◌, ◌*◌, ◌-◌, ◌%◌, ◌/◌, ◌^◌, ◌<◌, ◌≤◌, true, false, inl, inr, refl, sym, ap, ◌∙◌, arith}
-use Rattle.std.proofs.lemmas.Bool.{eqb-true, eq-eqb, cases_lt, false≢true}
+use Rattle.std.proofs.lemmas.Bool.{eqb-true, eq-eqb, leb-true, and_parts, cases_lt, false≢true}
 use Rattle.std.proofs.Math.Nat.{mod-lt, suc-mul, lt_of_mul-lt-mul_right, mul-le-mul_right, add-mod_right, two-pow-succ, mod-eq_of_lt}
 use Rattle.std.proofs.Math.Pow.{pow-lt}
 use Rattle.std.proofs.lemmas.Nat.{pow_pos, div-mul-add, div-add-mod'}
 use Rattle.net_types.specs.declared.address.Ip.{Ip}
 use Rattle.net_types.specs.declared.prefix.Prefix.{Prefix}
-use Rattle.net_types.specs.Prefixes.{covers, any_prefix}
+use Rattle.net_types.specs.Prefixes.{covers, lies_within, any_prefix}
 use Rattle.net_types.proofs.BitLemmas.{fewer_zeros, same_bits-quotient}
 use Rattle.prefix_map.specs.Halves.{past, middle, LiesIn, LiesLow, LiesHigh}
 
@@ -150,6 +150,14 @@ pub any_in : (p : Prefix) → LiesIn any_prefix p
 any_in p =
     let end = in_range p in
     record { from = omega arith; until = omega (arith, end); longer = omega arith }
+
+-- so does each one that lies within another as bits say
+pub within_in : (p q : Prefix) → lies_within p q ≡ true → LiesIn q p
+within_in p q h =
+    let parts = and_parts _ _ h in
+    let longer : q.len ≤ p.len = leb-true _ _ parts.0 in
+    let there = covered q p.address p.in_range parts.1 in
+    record { from = there.0; until = stops_past q p longer there.1; longer = longer }
 
 -- an address that a prefix doesn't cover, and that doesn't come before it, comes after it
 pub missed_past : (p : Prefix) (ip : Ip) → p.address.0 ≤ ip.0 → covers p ip ≡ false → past p ≤ ip.0

@@ -92,7 +92,20 @@ pub(crate) fn common(left: Prefix, right: Prefix) -> Prefix
     ensures low { LiesLow result left }
     ensures high { LiesHigh result right }
 {
-    common_within(Prefix::any(), left, right)
+    common_within(start_of(left, right), left, right)
+}
+
+/// A prefix in which both lie, of the bits with which both addresses begin. Where they lie apart it is the one that is looked for, so
+/// that nothing is left to go through.
+fn start_of(left: Prefix, right: Prefix) -> Prefix
+    ensures left { LiesIn result left }
+    ensures right { LiesIn result right }
+{
+    let alike = (left.address.0 ^ right.address.0).leading_zeros() as u8;
+    match Prefix::new(left.address, alike) {
+        Ok(start) if left.within(start) && right.within(start) => start,
+        _ => Prefix::any(),
+    }
 }
 
 fn common_within(within: Prefix, left: Prefix, right: Prefix) -> Prefix
