@@ -1,5 +1,5 @@
 -- A map with changes made: what stands at each prefix, and what one change more makes of it.
-use Rattle.std.proofs.Common.{◌≡◌, Bool, true, false, cond, List, [], ◌∷◌, ◌++◌, ◌+◌, ◌≤◌, length, sym, ap, subst, ◌∙◌, refl, arith}
+use Rattle.std.proofs.Common.{◌≡◌, Bool, true, false, cond, List, [], ◌∷◌, ◌++◌, sym, ap, subst, ◌∙◌, refl}
 use Rattle.std.specs.Prelude.{Option, Some, None, unwrap_or}
 use Rattle.std.specs.Ordering.{eq_by_cmp}
 use Rattle.std.specs.FinMap.{FinMap, get, same_map}
@@ -15,7 +15,7 @@ use Rattle.net_types.specs.Attributes.{same_option}
 use Rattle.net_types.specs.Keys.{prefix_cmp}
 use Rattle.net_types.specs.declared.prefix.Prefix.{Prefix}
 use Rattle.ordered_map.specs.Entries.{without}
-use Rattle.advert_queue.proofs.RisingEntries.{fewer_without, find_below, length_put}
+use Rattle.advert_queue.proofs.RisingEntries.{find_below}
 use Rattle.advert_queue.specs.Changes.{AreNews, Change, changed, noted}
 use Rattle.events.proofs.SameEntries as same_entries
 use Rattle.events.proofs.NewsLemmas.{get-with_news}
@@ -106,24 +106,15 @@ module _ (told : Told) (cs : List Change) (k : Prefix) (entry : Option Entry) (s
       by true same = news_without news
       by false apart = news_put news (λ is. (let both : true ≡ false = sym ((entry_test (get told k) entry).1 is) ∙ apart in cc))
 
-  pub noted_few : length (noted (get told k) k entry cs) ≤ length cs + 1
-  noted_few = by (same_option same_entry (get told k) entry)
-    where
-      by : (b : Bool) → length (cond b (without prefix_cmp k cs) (put prefix_cmp k entry cs)) ≤ length cs + 1
-      by true = let fewer = fewer_without prefix_cmp prefixes_total k cs sorted in omega (arith, fewer)
-      by false = length_put prefix_cmp prefixes_total k entry cs sorted
-
 -- what holds once an entry, or none, is noted at a prefix
 pub record IsNoted (told : Told) (k : Prefix) (entry : Option Entry) (cs now : List Change) : Type 0 where
   pub differ : AreNews told now
   pub present : changed told now ≡ with_news (changed told cs) k entry
-  pub few : length now ≤ length cs + 1
 
 pub noted_is : (told : Told) (k : Prefix) (entry was : Option Entry) (cs now : List Change) → is_sorted prefix_cmp cs ≡ true → AreNews told cs → was ≡ get told k → now ≡ noted was k entry cs → IsNoted told k entry cs now
 noted_is told k entry was cs now sorted news seen is = subst (IsNoted told k entry cs) (sym (is ∙ ap (λ o. noted o k entry cs) seen)) (record {
   differ = noted_news told cs k entry sorted news;
   present = noted_present told cs k entry sorted;
-  few = noted_few told cs k entry sorted;
 })
 
 -- what is noted, by the answer of the test

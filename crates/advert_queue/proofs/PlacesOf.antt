@@ -1,6 +1,6 @@
 -- What the participants are seen as where one of them changes.
 use Rattle.std.proofs.Common.{◌≡◌, ℕ, zero, suc, ◌≤◌, ◌<◌, List, [], ◌∷◌, map, length, get_or, set, sym, ap, ◌∙◌, refl, arith}
-use Rattle.std.specs.Prelude.{slice_get, slice_set, unwrap_or}
+use Rattle.std.specs.Prelude.{Option, slice_get, slice_set, unwrap_or}
 use Rattle.std.specs.FinMap.{FinMap, empty}
 use Rattle.std.specs.Option.{option_map}
 use Rattle.std.proofs.lemmas.List.{length-map, map-set}
@@ -9,7 +9,8 @@ use Rattle.std.proofs.Math.Seq.{map-set_same}
 use Rattle.events.specs.declared.Entry.{Entry}
 use Rattle.net_types.specs.Keys.{prefix_cmp}
 use Rattle.net_types.specs.declared.address.Pid.{Pid}
-use Rattle.advert_queue.specs.Advertised.{Advertised, HasQueue, present_of, room_of, told_of}
+use Rattle.net_types.specs.declared.prefix.Prefix.{Prefix}
+use Rattle.advert_queue.specs.Advertised.{Advertised, HasQueue, new_tags_of, place_cost, places_of, present_of, tag_cost, told_of}
 use Rattle.advert_queue.specs.Kept.{Queued, advertised_by}
 
 -- what is seen at a place is what the record there is seen as
@@ -28,12 +29,12 @@ seen_elsewhere f (z ∷ zs) zero (suc j) y apart = refl
 seen_elsewhere f (z ∷ zs) (suc k) zero y apart = refl
 seen_elsewhere f (z ∷ zs) (suc k) (suc j) y apart = seen_elsewhere f zs k j y (λ e. apart (ap suc e))
 
-rooms_grow : (qs : List Queued) (k j : ℕ) (x y : Queued) → (get_or qs k x).room ≤ y.room → unwrap_or (slice_get (map (λ (q : Queued). q.room) qs) j) 0 ≤ unwrap_or (slice_get (map (λ (q : Queued). q.room) (set qs k y)) j) 0
-rooms_grow [] k j x y more = omega arith
-rooms_grow (q ∷ qs) zero zero x y more = more
-rooms_grow (q ∷ qs) zero (suc j) x y more = omega arith
-rooms_grow (q ∷ qs) (suc k) zero x y more = omega arith
-rooms_grow (q ∷ qs) (suc k) (suc j) x y more = rooms_grow qs k j x y more
+rooms_grow : (f : Queued → ℕ) (qs : List Queued) (k j : ℕ) (x y : Queued) → f (get_or qs k x) ≤ f y → unwrap_or (slice_get (map f qs) j) 0 ≤ unwrap_or (slice_get (map f (set qs k y)) j) 0
+rooms_grow f [] k j x y more = omega arith
+rooms_grow f (q ∷ qs) zero zero x y more = more
+rooms_grow f (q ∷ qs) zero (suc j) x y more = omega arith
+rooms_grow f (q ∷ qs) (suc k) zero x y more = omega arith
+rooms_grow f (q ∷ qs) (suc k) (suc j) x y more = rooms_grow f qs k j x y more
 
 -- a participant has its record
 pub declared : (qs : List Queued) (a : Advertised) (who : Pid) → advertised_by qs ≡ a → HasQueue a who → who.0 < length qs
@@ -50,8 +51,17 @@ module _ (qs : List Queued) (who : Pid) (x : Queued) (within : who.0 < length qs
   pub present_here : present_of (advertised_by qs) who ≡ x.present
   present_here = seen_at (λ (q : Queued). q.present) qs who.0 x empty within ∙ ap (λ (q : Queued). q.present) (sym is)
 
-  pub room_here : room_of (advertised_by qs) who ≡ x.room
-  room_here = seen_at (λ (q : Queued). q.room) qs who.0 x 0 within ∙ ap (λ (q : Queued). q.room) (sym is)
+  pub places_here : places_of (advertised_by qs) who ≡ x.places
+  places_here = seen_at (λ (q : Queued). q.places) qs who.0 x 0 within ∙ ap (λ (q : Queued). q.places) (sym is)
+
+  pub tags_here : new_tags_of (advertised_by qs) who ≡ x.tags
+  tags_here = seen_at (λ (q : Queued). q.tags) qs who.0 x 0 within ∙ ap (λ (q : Queued). q.tags) (sym is)
+
+  pub place_cost_here : (p : Prefix) → place_cost (told_of (advertised_by qs) who) (present_of (advertised_by qs) who) p ≡ place_cost x.told x.present p
+  place_cost_here p = λ i. place_cost (told_here i) (present_here i) p
+
+  pub tag_cost_here : (entry : Option Entry) → tag_cost (told_of (advertised_by qs) who) (present_of (advertised_by qs) who) entry ≡ tag_cost x.told x.present entry
+  tag_cost_here entry = λ i. tag_cost (told_here i) (present_here i) entry
 
   module _ (y : Queued) where
     abbrev then : Advertised
@@ -63,8 +73,11 @@ module _ (qs : List Queued) (who : Pid) (x : Queued) (within : who.0 < length qs
     pub present_same : y.present ≡ x.present → then.present ≡ (advertised_by qs).present
     present_same same = map-set_same (λ (q : Queued). q.present) qs who.0 y x (same ∙ ap (λ (q : Queued). q.present) is)
 
-    pub room_same : y.room ≡ x.room → then.room ≡ (advertised_by qs).room
-    room_same same = map-set_same (λ (q : Queued). q.room) qs who.0 y x (same ∙ ap (λ (q : Queued). q.room) is)
+    pub places_same : y.places ≡ x.places → then.places ≡ (advertised_by qs).places
+    places_same same = map-set_same (λ (q : Queued). q.places) qs who.0 y x (same ∙ ap (λ (q : Queued). q.places) is)
+
+    pub tags_same : y.tags ≡ x.tags → then.tags ≡ (advertised_by qs).tags
+    tags_same same = map-set_same (λ (q : Queued). q.tags) qs who.0 y x (same ∙ ap (λ (q : Queued). q.tags) is)
 
     pub told_set : (m : FinMap prefix_cmp Entry) → y.told ≡ m → then.told ≡ slice_set (advertised_by qs).told who.0 m
     told_set m same = map-set (λ (q : Queued). q.told) qs who.0 y ∙ ap (set (map (λ (q : Queued). q.told) qs) who.0) same
@@ -72,11 +85,20 @@ module _ (qs : List Queued) (who : Pid) (x : Queued) (within : who.0 < length qs
     pub present_set : (m : FinMap prefix_cmp Entry) → y.present ≡ m → then.present ≡ slice_set (advertised_by qs).present who.0 m
     present_set m same = map-set (λ (q : Queued). q.present) qs who.0 y ∙ ap (set (map (λ (q : Queued). q.present) qs) who.0) same
 
-    pub room_then : room_of then who ≡ y.room
-    room_then = seen_here (λ (q : Queued). q.room) qs who.0 y 0 within
+    pub places_then : places_of then who ≡ y.places
+    places_then = seen_here (λ (q : Queued). q.places) qs who.0 y 0 within
 
-    pub room_other : (other : Pid) → ¬ other.0 ≡ who.0 → room_of then other ≡ room_of (advertised_by qs) other
-    room_other other apart = ap (λ o. unwrap_or o 0) (seen_elsewhere (λ (q : Queued). q.room) qs who.0 other.0 y apart)
+    pub tags_then : new_tags_of then who ≡ y.tags
+    tags_then = seen_here (λ (q : Queued). q.tags) qs who.0 y 0 within
 
-    pub room_grows : x.room ≤ y.room → (other : Pid) → room_of (advertised_by qs) other ≤ room_of then other
-    room_grows more other = rooms_grow qs who.0 other.0 x y (let same = ap (λ (q : Queued). q.room) is in omega (arith, more, same))
+    pub places_other : (other : Pid) → ¬ other.0 ≡ who.0 → places_of then other ≡ places_of (advertised_by qs) other
+    places_other other apart = ap (λ o. unwrap_or o 0) (seen_elsewhere (λ (q : Queued). q.places) qs who.0 other.0 y apart)
+
+    pub tags_other : (other : Pid) → ¬ other.0 ≡ who.0 → new_tags_of then other ≡ new_tags_of (advertised_by qs) other
+    tags_other other apart = ap (λ o. unwrap_or o 0) (seen_elsewhere (λ (q : Queued). q.tags) qs who.0 other.0 y apart)
+
+    pub places_grows : x.places ≤ y.places → (other : Pid) → places_of (advertised_by qs) other ≤ places_of then other
+    places_grows more other = rooms_grow (λ (q : Queued). q.places) qs who.0 other.0 x y (let same = ap (λ (q : Queued). q.places) is in omega (arith, more, same))
+
+    pub tags_grows : x.tags ≤ y.tags → (other : Pid) → new_tags_of (advertised_by qs) other ≤ new_tags_of then other
+    tags_grows more other = rooms_grow (λ (q : Queued). q.tags) qs who.0 other.0 x y (let same = ap (λ (q : Queued). q.tags) is in omega (arith, more, same))

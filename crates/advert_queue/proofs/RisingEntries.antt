@@ -1,5 +1,5 @@
 -- Entries whose keys rise: the first one, its removal, and lists that rise and have the same members.
-use Rattle.std.proofs.Common.{◌≡◌, ◌+◌, ◌≤◌, true, false, cond, not, List, [], ◌∷◌, map, drop, length, sym, ap, subst, ◌∙◌, refl, arith}
+use Rattle.std.proofs.Common.{◌≡◌, ℕ, ◌+◌, ◌-◌, ◌≤◌, Bool, true, false, cond, not, List, [], ◌∷◌, map, drop, length, sym, ap, subst, ◌∙◌, refl, arith}
 use Rattle.std.specs.Prelude.{Some, None, is_some}
 use Rattle.std.specs.Cmp.{IsTotalOrder}
 use Rattle.std.specs.List.{list_any}
@@ -22,6 +22,11 @@ pub headed : {A : Type 0} (xs : List A) (x : A) → head_of xs ≡ Some x → xs
 headed [] x e = cc
 headed (y ∷ ys) x e = let same : y ≡ x = cc in ap (λ z. z ∷ ys) same
 
+-- a key takes room only where it makes them one more
+pub put_room : (known : Bool) (room left old new : ℕ) → room ≤ left + cond known 0 1 → new ≡ old + cond known 0 1 → room ≤ left + (new - old)
+put_room true room left old new used more = omega (arith, used, more)
+put_room false room left old new used more = omega (arith, used, more)
+
 module _ {K X : Type 0} (R : K → K → Ordering) (o : IsTotalOrder R) where
   -- a key that ties with one below all entries has none
   pub find_below : (q x : K) (es : List (K × X)) → R q x ≡ Equal → below_all R x es ≡ true → find R q es ≡ None
@@ -42,10 +47,11 @@ module _ {K X : Type 0} (R : K → K → Ordering) (o : IsTotalOrder R) where
       let parts = and_parts (below_all R e.0 es) (is_sorted R es) sorted in
       ap (λ r. cond (not (is_eq r)) (e ∷ without R q es) (without R q es)) tie ∙ without_below q e.0 es tie parts.0
 
-  pub length_put : (k : K) (v : X) (es : List (K × X)) → is_sorted R es ≡ true → length (put R k v es) ≤ length es + 1
-  length_put k v es sorted =
+  -- a new key makes them one more
+  pub put_length : (k : K) (v : X) (es : List (K × X)) → is_sorted R es ≡ true → length (put R k v es) ≡ length es + cond (is_some (find R k es)) 0 1
+  put_length k v es sorted =
       let all = length-put R o k v es (holds _ sorted) in
-      elim (is_some (find R k es)) as (λ b. length (put R k v es) ≡ cond b (length es) (length es + 1) → length (put R k v es) ≤ length es + 1) [
+      elim (is_some (find R k es)) as (λ b. length (put R k v es) ≡ cond b (length es) (length es + 1) → length (put R k v es) ≡ length es + cond b 0 1) [
         | true ↦ λ e. omega (arith, e)
         | false ↦ λ e. omega (arith, e)
       ] all

@@ -1,6 +1,6 @@
 -- What is kept of a participant stays right through an offer, and where some of what is news is told.
-use Rattle.std.proofs.Common.{◌≡◌, ℕ, ◌+◌, ◌≤◌, ◌<◌, ◌^◌, true, cond, List, [], ◌∷◌, length, sym, ap, subst, ◌∙◌, refl, arith}
-use Rattle.std.specs.Prelude.{Option, Some, None, IfSome}
+use Rattle.std.proofs.Common.{◌≡◌, ℕ, ◌+◌, ◌-◌, ◌≤◌, ◌<◌, ◌^◌, true, cond, List, [], ◌∷◌, length, sym, ap, subst, ◌∙◌, refl, arith}
+use Rattle.std.specs.Prelude.{Option, Some, None, IfSome, is_some}
 use Rattle.std.specs.FinMap.{empty, entries, get}
 use Rattle.std.specs.FinMap.Entries.{find, is_sorted, below_all}
 use Rattle.std.proofs.lemmas.Bool.{and_parts}
@@ -15,7 +15,9 @@ use Rattle.net_types.specs.declared.prefix.Prefix.{Prefix}
 use Rattle.ordered_map.specs.Held.{Held}
 use Rattle.prefix_map.specs.Held as prefixes
 use Rattle.advert_queue.proofs.ChangedMaps.{Told, get_change, news_left}
-use Rattle.advert_queue.proofs.CountLemmas.{is_tag-itself, kept_found, length_changed, length_with, new_places-le, no_place, none_counted, still_right, uses-le, uses_one, uses_with}
+use Rattle.advert_queue.proofs.CountLemmas.{found_either, is_tag-itself, kept_found, length_changed, length_with, no_place, none_counted, still_right, uses-le, uses_one, uses_with}
+use Rattle.advert_queue.proofs.TakenLemmas.{found_differs}
+use Rattle.advert_queue.specs.Advertised.{place_cost, tag_cost}
 use Rattle.advert_queue.specs.Changes.{AreNews, Change, changed, tag_in}
 use Rattle.advert_queue.specs.Counts.{AreCounts, IsRecounted, by_side, counted, has_tag, is_tag, new_places, uses}
 use Rattle.advert_queue.specs.declared.counts.Side.{Side}
@@ -51,19 +53,36 @@ can_rise side cs m None right few = tt
 can_rise side cs m (Some t) right few = let most = uses-le m t in let number = right t in omega (arith, most, number)
 
 -- more is present than was told by no more than there is news
-pub few_present : (told : Told) (cs : List Change) (room : ℕ) → 0 < room → length (entries told) + length cs + room < 2 ^ 64 → length (entries (changed told cs)) + 1 < 2 ^ 64
-few_present told cs room some fits = let most = length_changed told cs in omega (arith, most)
+pub few_present : (told : Told) (cs : List Change) (places : ℕ) → length (entries told) + length cs + places + 1 < 2 ^ 64 → length (entries (changed told cs)) + 1 < 2 ^ 64
+few_present told cs places fits = let most = length_changed told cs in omega (arith, most)
+
+-- ---- what an offer needs
+
+-- a place where there is no news of the prefix
+pub place_found : (told : Told) (cs : List Change) (p : Prefix) → is_sorted prefix_cmp cs ≡ true → AreNews told cs → place_cost told (changed told cs) p ≡ cond (is_some (find prefix_cmp p cs)) 0 1
+place_found told cs p sorted news = ap (λ b. let n : ℕ = cond b 0 1 in n) (sym (found_differs told cs sorted news p))
+
+pub place_none : (told : Told) (cs : List Change) (p : Prefix) → is_sorted prefix_cmp cs ≡ true → AreNews told cs → find prefix_cmp p cs ≡ None → place_cost told (changed told cs) p ≡ 1
+place_none told cs p sorted news none = place_found told cs p sorted news ∙ ap (λ o. let n : ℕ = cond (is_some o) 0 1 in n) none
+
+-- a place of a tag where the tag has no numbers
+pub tag_found : (ts : List (Tag × Uses)) (told present : Told) (entry : Option Entry) (tag : Option Tag) → AreCounts ts (by_side (uses told) (uses present)) → tag ≡ tag_in entry → new_places ts tag ≡ tag_cost told present entry
+tag_found ts told present entry tag right is = ap (new_places ts) is ∙ by entry
+  where
+    by : (entry : Option Entry) → new_places ts (tag_in entry) ≡ tag_cost told present entry
+    by None = refl
+    by (Some e) = ap (λ b. let n : ℕ = cond b 0 1 in n) (found_either ts told present e.tag right)
 
 -- ---- an offer
 
-module _ (told : prefixes.Held Entry) (news later : News) (counts then : Tags) (room left : ℕ) (k : Prefix) (entry : Option Entry) (before after : Option Tag) where
-  pub offered_kept : IsKept told news counts room → room ≡ left + 1
+module _ (told : prefixes.Held Entry) (news later : News) (counts then : Tags) (places tags places_left tags_left : ℕ) (k : Prefix) (entry : Option Entry) (before after : Option Tag) where
+  pub offered_kept : IsKept told news counts places tags → places ≡ places_left + (length later.items - length news.items) → tags ≡ tags_left + new_places counts.items after
       → is_sorted prefix_cmp later.items ≡ true → AreNews told.map later.items → changed told.map later.items ≡ with_news (changed told.map news.items) k entry
-      → length later.items ≤ length news.items + 1 → news.room ≤ later.room + 1
+      → news.room ≤ later.room + (length later.items - length news.items)
       → before ≡ tag_in (get (changed told.map news.items) k) → after ≡ tag_in entry
       → IsRecounted Present counts.items then.items before after → counts.room ≤ then.room + new_places counts.items after
-      → IsKept told later then left
-  offered_kept kept less rising differ present few news_room was is step counts_room = record {
+      → IsKept told later then places_left tags_left
+  offered_kept kept places_less tags_less rising differ present news_room was is step counts_room = record {
     tellable = record {
       rising = rising;
       differ = differ;
@@ -71,11 +90,11 @@ module _ (told : prefixes.Held Entry) (news later : News) (counts then : Tags) (
           still_right Present counts.items then.items before after (by_side (uses told.map) (uses (changed told.map news.items))) (by_side (uses told.map) (uses (changed told.map later.items))) kept.tellable.counts step (λ t.
           (λ i. uses (present i) t + has_tag t (was i)) ∙ uses_with (changed told.map news.items) k entry t
           ∙ ap (λ o. uses (changed told.map news.items) t + has_tag t o) (sym is)) (λ t. refl);
-      told_room = (let old = kept.tellable.told_room in omega (arith, old, few, less));
-      fits = (let old = kept.tellable.fits in omega (arith, old, few, less));
+      told_room = (let old = kept.tellable.told_room in omega (arith, old, places_less));
+      fits = (let old = kept.tellable.fits in omega (arith, old, places_less));
     };
-    news_room = (let old = kept.news_room in omega (arith, old, news_room, less));
-    counts_room = (let old = kept.counts_room in let most = new_places-le counts.items after in omega (arith, old, counts_room, most, less));
+    news_room = (let old = kept.news_room in omega (arith, old, news_room, places_less));
+    counts_room = (let old = kept.counts_room in omega (arith, old, counts_room, tags_less));
   }
 
 -- ---- the first is told
@@ -121,9 +140,9 @@ none_more told news counts more kept = record {
 
 -- ---- some are told
 
-pub taken_kept : (told then : prefixes.Held Entry) (news later : News) (counts later_counts : Tags) (room : ℕ) → IsKept told news counts room
-    → IsTellable then later later_counts room → news.room ≤ later.room → counts.room ≤ later_counts.room → IsKept then later later_counts room
-taken_kept told then news later counts later_counts room kept tellable news_room counts_room = record {
+pub taken_kept : (told then : prefixes.Held Entry) (news later : News) (counts later_counts : Tags) (places tags : ℕ) → IsKept told news counts places tags
+    → IsTellable then later later_counts places → news.room ≤ later.room → counts.room ≤ later_counts.room → IsKept then later later_counts places tags
+taken_kept told then news later counts later_counts places tags kept tellable news_room counts_room = record {
   tellable = tellable;
   news_room = (let old = kept.news_room in omega (arith, old, news_room));
   counts_room = (let old = kept.counts_room in omega (arith, old, counts_room));
@@ -131,7 +150,7 @@ taken_kept told then news later counts later_counts room kept tellable news_room
 
 -- ---- the beginning
 
-pub none_kept : (told : prefixes.Held Entry) (news : News) (counts : Tags) → told.map ≡ empty → news.items ≡ [] → counts.items ≡ [] → IsKept told news counts 0
+pub none_kept : (told : prefixes.Held Entry) (news : News) (counts : Tags) → told.map ≡ empty → news.items ≡ [] → counts.items ≡ [] → IsKept told news counts 0 0
 none_kept told news counts nothing no_news none =
     let few : length news.items ≡ 0 = ap length no_news in
     let short : length (entries told.map) ≡ 0 = ap (λ (m : Told). length (entries m)) nothing ∙ ap length (no_entries Prefix Entry prefix_cmp) in
@@ -146,28 +165,4 @@ none_kept told news counts nothing no_news none =
       };
       news_room = omega arith;
       counts_room = omega arith;
-    }
-
--- ---- more room
-
-pub more_room : (told told' : prefixes.Held Entry) (news news' : News) (counts counts' : Tags) (room more : ℕ) → IsKept told news counts room
-    → told'.map ≡ told.map → news'.items ≡ news.items → counts'.items ≡ counts.items
-    → more + length news.items ≤ told'.room → more ≤ news'.room → more ≤ counts'.room → length (entries told.map) + length news.items + more < 2 ^ 64
-    → IsKept told' news' counts' more
-more_room told told' news news' counts counts' room more kept map_is news_is counts_is told_room news_room counts_room fits =
-    let long : length news'.items ≡ length news.items = ap length news_is in
-    let same : length (entries told'.map) ≡ length (entries told.map) = ap (λ (m : Told). length (entries m)) map_is in
-    record {
-      tellable = record {
-        rising = ap (is_sorted prefix_cmp) news_is ∙ kept.tellable.rising;
-        differ = subst (λ (cs : List Change). AreNews told'.map cs) (sym news_is) (subst (λ m. AreNews m news.items) (sym map_is) kept.tellable.differ);
-        counts =
-            subst (λ ts. AreCounts ts (by_side (uses told'.map) (uses (changed told'.map news'.items)))) (sym counts_is)
-            (subst (λ (m : Told). AreCounts counts.items (by_side (uses m) (uses (changed m news'.items)))) (sym map_is)
-            (subst (λ (cs : List Change). AreCounts counts.items (by_side (uses told.map) (uses (changed told.map cs)))) (sym news_is) kept.tellable.counts));
-        told_room = omega (arith, long, told_room);
-        fits = omega (arith, long, same, fits);
-      };
-      news_room = news_room;
-      counts_room = counts_room;
     }

@@ -23,7 +23,7 @@ use Rattle.advert_queue.proofs.RisingEntries.{keys_rise, rising_alike}
 use Rattle.advert_queue.specs.Advertised.{first_pending, present_at}
 use Rattle.advert_queue.specs.Changes.{AreNews, AreSmall, Change, changed, limited, message_of}
 use Rattle.advert_queue.specs.Taken.{first_of, news_of, told_then}
-use Rattle.advert_queue.specs.Telling.{advert_with, adverts, pending}
+use Rattle.advert_queue.specs.Telling.{advert_with, adverts, is_pending, pending}
 use Rattle.net_types.proofs.FindLemmas.{Member-take}
 
 -- the prefix of a change
@@ -48,7 +48,7 @@ module _ (told : Told) (cs : List Change) (sorted : is_sorted prefix_cmp cs ≡ 
   present = changed told cs
 
   abbrev differs : Prefix → Bool
-  differs p = not (same_option same_entry (get told p) (get present p))
+  differs p = is_pending told present p
 
   abbrev known : List Prefix
   known = keys told ++ keys present
@@ -83,6 +83,14 @@ module _ (told : Told) (cs : List Change) (sorted : is_sorted prefix_cmp cs ≡ 
   differs_at p now is =
       ap not (false_from_ne_true (same_option same_entry (get told p) (get present p)) (λ same.
       news p now is ((entry_test (get told p) (get present p)).0 same ∙ get_change told cs p now sorted is)))
+
+  -- something is pending where there is news
+  pub found_differs : (p : Prefix) → is_some (find prefix_cmp p cs) ≡ is_pending told present p
+  found_differs p = by (find prefix_cmp p cs) refl
+    where
+      by : (o : Option (Option Entry)) → find prefix_cmp p cs ≡ o → is_some o ≡ differs p
+      by None none = ap not (sym ((entry_test (get told p) (get present p)).1 (sym (unchanged p none))))
+      by (Some now) is = sym (differs_at p now is)
 
   back : (p : Prefix) → Member p (map place cs) → Member p (pending told present)
   back p m = by (find prefix_cmp p cs) refl (is_some-find prefix_cmp p cs ∙ member_any prefix_cmp prefixes_total prefix_tie p (map place cs) m)

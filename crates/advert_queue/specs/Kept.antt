@@ -13,15 +13,22 @@ use Rattle.advert_queue.specs.Changes.{AreNews, changed}
 use Rattle.advert_queue.specs.Counts.{AreCounts, by_side, uses}
 use Rattle.advert_queue.specs.declared.counts.Uses.{Uses}
 
--- what a participant was told, what is present for it, and for how many offers there is room
+-- what a participant was told, what is present for it, and for how many offers of new prefixes and of new tags there is room
 pub record Queued : Type 0 where
   pub told : FinMap prefix_cmp Entry
   pub present : FinMap prefix_cmp Entry
-  pub room : ℕ
+  pub places : ℕ
+  pub tags : ℕ
 
 -- what the participants are seen as
 abbrev pub advertised_by : List Queued → Advertised
-advertised_by qs = record { told = map (λ (q : Queued). q.told) qs; present = map (λ (q : Queued). q.present) qs; room = map (λ (q : Queued). q.room) qs }
+advertised_by qs =
+    record {
+      told = map (λ (q : Queued). q.told) qs;
+      present = map (λ (q : Queued). q.present) qs;
+      places = map (λ (q : Queued). q.places) qs;
+      tags = map (λ (q : Queued). q.tags) qs;
+    }
 
 -- The news are in order and are news, the tags of what was told and of what is present are counted, and there is room to
 -- tell all that is pending and as many prefixes more.
@@ -30,10 +37,10 @@ pub record IsTellable (told : prefixes.Held Entry) (news : Held Prefix (Option E
   pub differ : AreNews told.map news.items
   pub counts : AreCounts tags.items (by_side (uses told.map) (uses (changed told.map news.items)))
   pub told_room : more + length news.items ≤ told.room
-  pub fits : length (entries told.map) + length news.items + more < 2 ^ 64
+  pub fits : length (entries told.map) + length news.items + more + 1 < 2 ^ 64
 
--- And there is room for so many offers.
-pub record IsKept (told : prefixes.Held Entry) (news : Held Prefix (Option Entry)) (tags : Held Tag Uses) (room : ℕ) : Type 0 where
-  pub tellable : IsTellable told news tags room
-  pub news_room : room ≤ news.room
-  pub counts_room : room ≤ tags.room
+-- And there is room for so many prefixes among the news, and for so many tags.
+pub record IsKept (told : prefixes.Held Entry) (news : Held Prefix (Option Entry)) (tags : Held Tag Uses) (places new_tags : ℕ) : Type 0 where
+  pub tellable : IsTellable told news tags places
+  pub news_room : places ≤ news.room
+  pub counts_room : new_tags ≤ tags.room

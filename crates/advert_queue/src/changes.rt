@@ -1,6 +1,6 @@
 //! What is news for a participant: the prefixes at which what is present isn't what was told, each with what is present.
 
-ghost use Rattle.std.specs.Prelude.{◌≡◌, ℕ, ◌≤◌, ◌<◌, ◌+◌, IfOk, IfSome, IsTrue, length, take, drop, map, option_copied};
+ghost use Rattle.std.specs.Prelude.{◌≡◌, ℕ, ◌≤◌, ◌<◌, ◌+◌, ◌-◌, None, IfOk, IfSome, IsTrue, is_some, length, take, drop, map, option_copied, if◌then◌else◌};
 ghost use Rattle.std.specs.FinMap.{get};
 ghost use Rattle.std.specs.FinMap.Entries.{find, is_sorted};
 ghost use Rattle.std.specs.Option.{option_map};
@@ -60,6 +60,13 @@ pub(crate) fn present_entry<'a>(
     }
 }
 
+/// Whether there is news of a prefix.
+pub(crate) fn has_news(news: &News, prefix: Prefix) -> bool
+    ensures { result ≡ is_some (find prefix_cmp prefix news.now.items) }
+{
+    news.get(&prefix).is_some()
+}
+
 /// Whether both are absent, or both are there with the same tag and the same attributes.
 fn is_same(one: Option<&Entry>, other: Option<&Entry>) -> bool
     ensures { result ≡ same_option same_entry (option_copied one.entry) (option_copied other.entry) }
@@ -81,11 +88,13 @@ fn put_news(
     prefix: Prefix,
     entry: Option<Entry>,
 ) -> Option<Option<Entry>>
-    requires room { 0 < news.old.room }
+    requires rising { IsTrue (is_sorted prefix_cmp news.old.items) }
+    requires room { find prefix_cmp prefix news.old.items ≡ None → 0 < news.old.room }
     ensures value { result ≡ find prefix_cmp prefix news.old.items }
     ensures rising { IsTrue (is_sorted prefix_cmp news.new.items) }
     ensures items { news.new.items ≡ noted (option_copied told.entry) prefix entry news.old.items }
-    ensures room { news.old.room ≤ news.new.room + 1 }
+    ensures few { length news.new.items ≤ length news.old.items + (if is_some (find prefix_cmp prefix news.old.items) then 0 else 1) }
+    ensures room { news.old.room ≤ news.new.room + (length news.new.items - length news.old.items) }
 {
     if is_same(told, entry.as_ref()) {
         news.remove(&prefix)
@@ -104,13 +113,13 @@ pub(crate) fn note(
 ) -> Option<Tag>
     requires rising { IsTrue (is_sorted prefix_cmp news.old.items) }
     requires differ { AreNews told.now.map news.old.items }
-    requires room { 0 < news.old.room }
+    requires room { find prefix_cmp prefix news.old.items ≡ None → 0 < news.old.room }
     ensures before { result ≡ tag_in (get (changed told.now.map news.old.items) prefix) }
     ensures rising { IsTrue (is_sorted prefix_cmp news.new.items) }
     ensures differ { AreNews told.now.map news.new.items }
     ensures present { changed told.now.map news.new.items ≡ with_news (changed told.now.map news.old.items) prefix entry }
-    ensures few { length news.new.items ≤ length news.old.items + 1 }
-    ensures room { news.old.room ≤ news.new.room + 1 }
+    ensures few { length news.new.items ≤ length news.old.items + (if is_some (find prefix_cmp prefix news.old.items) then 0 else 1) }
+    ensures room { news.old.room ≤ news.new.room + (length news.new.items - length news.old.items) }
 {
     let told = told.get(prefix);
     match put_news(told, news, prefix, entry) {

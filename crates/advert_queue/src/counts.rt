@@ -92,15 +92,19 @@ fn one_use(side: Side) -> Uses
     }
 }
 
-/// Counts a use of a tag more. Only a tag that isn't in use yet takes a place of the room.
-pub(crate) fn raise(counts: &mut Counts, side: Side, tag: Tag)
+/// Counts a use of a tag more. Only a tag that isn't in use yet takes a place of the room. It answers how many places it took.
+pub(crate) fn raise(counts: &mut Counts, side: Side, tag: Tag) -> usize
+    requires rising { IsTrue (is_sorted tag_cmp counts.old.items) }
     requires used { AreUsed counts.old.items }
     requires room { new_places counts.old.items (Some tag) ≤ counts.old.room }
     requires small { counted side counts.old.items tag + 1 < 2 ^ 64 }
     ensures counts { IsRecounted side counts.old.items counts.new.items None (Some tag) }
     ensures room { counts.old.room ≤ counts.new.room + new_places counts.old.items (Some tag) }
+    ensures places { result ≡ new_places counts.old.items (Some tag) }
 {
+    let known = counts.len();
     counts.change_or_put(tag, &Recount::More(side), one_use(side));
+    counts.len() - known
 }
 
 /// Counts a use of a tag less. A tag that isn't in use any more gives its place back.
@@ -113,8 +117,13 @@ pub(crate) fn lower(counts: &mut Counts, side: Side, tag: Tag)
     counts.change_or_remove(&tag, &Recount::Less(side));
 }
 
-/// Counts what had one tag, or none, as what has another one, or none.
-pub(crate) fn move_use(counts: &mut Counts, side: Side, before: Option<Tag>, after: Option<Tag>)
+/// Counts what had one tag, or none, as what has another one, or none. It answers how many places of the room it took.
+pub(crate) fn move_use(
+    counts: &mut Counts,
+    side: Side,
+    before: Option<Tag>,
+    after: Option<Tag>,
+) -> usize
     requires rising { IsTrue (is_sorted tag_cmp counts.old.items) }
     requires used { AreUsed counts.old.items }
     requires some { IfSome before (λ (tag : AnyTag). 0 < counted side counts.old.items tag) }
@@ -122,13 +131,16 @@ pub(crate) fn move_use(counts: &mut Counts, side: Side, before: Option<Tag>, aft
     requires small { IfSome after (λ (tag : AnyTag). counted side counts.old.items tag + 1 < 2 ^ 64) }
     ensures counts { IsRecounted side counts.old.items counts.new.items before after }
     ensures room { counts.old.room ≤ counts.new.room + new_places counts.old.items after }
+    ensures places { result ≡ new_places counts.old.items after }
 {
-    if let Some(tag) = after {
-        raise(counts, side, tag);
-    }
+    let places = match after {
+        None => 0,
+        Some(tag) => raise(counts, side, tag),
+    };
     if let Some(tag) = before {
         lower(counts, side, tag);
     }
+    places
 }
 
 /// The tags of entries that were told, ascending.

@@ -8,10 +8,10 @@ ghost use Rattle.events.specs.Tags.{tells};
 ghost use Rattle.net_types.specs.Routes.{longest_of};
 ghost use Rattle.net_types.specs.declared.address.Pid.{Pid as AnyPid};
 ghost use Rattle.net_types.specs.declared.prefix.Prefix.{Prefix as AnyPrefix};
-ghost use Rattle.advert_queue.specs.Advertised.{HasQueue, first_pending, is_told, offered, present_of, room_of, told_of};
+ghost use Rattle.advert_queue.specs.Advertised.{HasQueue, first_pending, is_told, new_tags_of, offered, place_cost, places_of, present_of, tag_cost, told_of};
 ghost use Rattle.advert_queue.specs.Kept.{Queued};
 ghost use Rattle.advert_queue.specs.Taken.{gone_tags, news_of, told_then};
-ghost use Rattle.advert_queue.specs.Telling.{adverts, tags_of};
+ghost use Rattle.advert_queue.specs.Telling.{adverts, is_pending, tags_of};
 
 use crate::changes::Entries;
 use crate::session::Session;
@@ -46,7 +46,8 @@ impl Adverts {
     pub fn new(alloc: Global) -> Adverts
         ensures told { result.told ≡ [] }
         ensures present { result.present ≡ [] }
-        ensures room { result.room ≡ [] }
+        ensures places { result.places ≡ [] }
+        ensures tags { result.tags ≡ [] }
     {
         Adverts {
             alloc,
@@ -58,7 +59,8 @@ impl Adverts {
     pub fn push(&mut self) -> Result<(), Memory>
         ensures told { OnOk result (self.new.told ≡ self.old.told ++ map.empty ∷ []) }
         ensures present { OnOk result (self.new.present ≡ self.old.present ++ map.empty ∷ []) }
-        ensures room { OnOk result (self.new.room ≡ self.old.room ++ 0 ∷ []) }
+        ensures places { OnOk result (self.new.places ≡ self.old.places ++ 0 ∷ []) }
+        ensures tags { OnOk result (self.new.tags ≡ self.old.tags ++ 0 ∷ []) }
         ensures unchanged { OnErr result (self.new ≡ self.old) }
     {
         self.sessions.push(Session::new(self.alloc))?;
@@ -69,34 +71,49 @@ impl Adverts {
     pub fn len(&self) -> usize
         ensures told { result ≡ length self.now.told }
         ensures present { result ≡ length self.now.present }
-        ensures room { result ≡ length self.now.room }
+        ensures places { result ≡ length self.now.places }
+        ensures tags { result ≡ length self.now.tags }
     {
         self.sessions.len()
     }
 
-    /// Makes room for so many offers to a participant. It takes memory only where there is less.
-    pub fn reserve(&mut self, who: Pid, entries: usize) -> Result<(), Memory>
+    /// Makes room for offers to a participant of so many prefixes at which nothing is pending, and of so many tags that are
+    /// neither told nor present. It takes memory only where there is less.
+    pub fn reserve(&mut self, who: Pid, places: usize, tags: usize) -> Result<(), Memory>
         requires declared { HasQueue self.old who }
         ensures told { self.new.told ≡ self.old.told }
         ensures present { self.new.present ≡ self.old.present }
-        ensures room { OnOk result (entries ≤ room_of self.new who) }
-        ensures kept { (other : AnyPid) → room_of self.old other ≤ room_of self.new other }
-        ensures enough { entries ≤ room_of self.old who → IsOk result }
+        ensures places { OnOk result (places ≤ places_of self.new who) }
+        ensures tags { OnOk result (tags ≤ new_tags_of self.new who) }
+        ensures places_kept { (other : AnyPid) → places_of self.old other ≤ places_of self.new other }
+        ensures tags_kept { (other : AnyPid) → new_tags_of self.old other ≤ new_tags_of self.new other }
+        ensures enough { places ≤ places_of self.old who → tags ≤ new_tags_of self.old who → IsOk result }
     {
-        self.sessions[who.0 as usize].reserve(entries)
+        self.sessions[who.0 as usize].reserve(places, tags)
     }
 
-    /// Makes this entry present for a participant at a prefix, or none. It uses one place of the participant's room, and
-    /// takes no memory.
+    /// Makes this entry present for a participant at a prefix, or none. It uses one place of the participant's room where
+    /// nothing is pending there, one of a tag where the entry's tag is neither told nor present, and takes no memory.
     pub fn offer(&mut self, who: Pid, prefix: Prefix, entry: Option<Entry>)
         requires declared { HasQueue self.old who }
-        requires room { 0 < room_of self.old who }
+        requires place { place_cost (told_of self.old who) (present_of self.old who) prefix ≤ places_of self.old who }
+        requires tag { tag_cost (told_of self.old who) (present_of self.old who) entry ≤ new_tags_of self.old who }
         ensures told { self.new.told ≡ self.old.told }
         ensures present { self.new.present ≡ offered self.old who prefix entry }
-        ensures room { room_of self.old who ≤ room_of self.new who + 1 }
-        ensures others { (other : AnyPid) → ¬ other.0 ≡ who.0 → room_of self.new other ≡ room_of self.old other }
+        ensures places { places_of self.old who ≤ places_of self.new who + place_cost (told_of self.old who) (present_of self.old who) prefix }
+        ensures tags { new_tags_of self.old who ≤ new_tags_of self.new who + tag_cost (told_of self.old who) (present_of self.old who) entry }
+        ensures other_places { (other : AnyPid) → ¬ other.0 ≡ who.0 → places_of self.new other ≡ places_of self.old other }
+        ensures other_tags { (other : AnyPid) → ¬ other.0 ≡ who.0 → new_tags_of self.new other ≡ new_tags_of self.old other }
     {
         self.sessions[who.0 as usize].offer(prefix, entry);
+    }
+
+    /// Whether something is pending for a participant at a prefix: what it was told and what is present differ.
+    pub fn is_pending(&self, who: Pid, prefix: Prefix) -> bool
+        requires declared { HasQueue self.now who }
+        ensures { result ≡ is_pending (told_of self.now who) (present_of self.now who) prefix }
+    {
+        self.session(who).is_pending(prefix)
     }
 
     /// The first of what is pending for a participant, so many at most, by prefix: each with the entry that is present, or
@@ -135,7 +152,8 @@ impl Adverts {
         requires declared { HasQueue self.old who }
         ensures told { self.new.told ≡ slice_set self.old.told who.0 (told_then limit (told_of self.old who) (present_of self.old who)) }
         ensures present { self.new.present ≡ self.old.present }
-        ensures room { self.new.room ≡ self.old.room }
+        ensures places { self.new.places ≡ self.old.places }
+        ensures tags { self.new.tags ≡ self.old.tags }
     {
         self.sessions[who.0 as usize].take(limit);
     }

@@ -7,12 +7,13 @@ ghost use Rattle.events.specs.Pending.{with_news};
 ghost use Rattle.events.specs.Tags.{tells};
 ghost use Rattle.net_types.specs.Routes.{longest_of};
 ghost use Rattle.net_types.specs.declared.prefix.Prefix.{Prefix as AnyPrefix};
-ghost use Rattle.advert_queue.specs.Advertised.{first_pending};
+ghost use Rattle.advert_queue.specs.Advertised.{first_pending, place_cost, tag_cost};
 ghost use Rattle.advert_queue.specs.Taken.{gone_tags, news_of, told_then};
-ghost use Rattle.advert_queue.specs.Telling.{adverts, tags_of};
+ghost use Rattle.advert_queue.specs.Telling.{adverts, is_pending, tags_of};
 
 use crate::changes::{
-    Entries, News, first_entries, first_messages, limited, note, present_entry, tag_of, tell,
+    Entries, News, first_entries, first_messages, has_news, limited, note, present_entry, tag_of,
+    tell,
 };
 use crate::counts::{Counts, Side, is_used, move_use, told_tags, uses_of};
 use crate::leaving::{gone, leaving};
@@ -30,8 +31,10 @@ pub(crate) struct Session {
     news: News,
     // how many entries that were told have each tag, and how many of those that are present
     counts: Counts,
-    // for how many offers there is room
-    room: usize,
+    // for how many offers of prefixes at which nothing is pending there is room
+    places: usize,
+    // for how many offers of tags that are neither told nor present there is room
+    tags: usize,
 }
 
 impl Model for Session {
@@ -44,9 +47,9 @@ impl Model for Session {
 
     ghost coded = { Prim.hlevel (codes, map.code) };
 
-    ghost view = { λ a. record { told = a.told.map; present = changed a.told.map a.news.items; room = a.room } };
+    ghost view = { λ a. record { told = a.told.map; present = changed a.told.map a.news.items; places = a.places; tags = a.tags } };
 
-    ghost invariant = { λ a. IsKept a.told a.news a.counts a.room };
+    ghost invariant = { λ a. IsKept a.told a.news a.counts a.places a.tags };
 }
 
 impl Session {
@@ -54,49 +57,94 @@ impl Session {
     pub(crate) fn new(alloc: Global) -> Session
         ensures told { result.told ≡ map.empty }
         ensures present { result.present ≡ map.empty }
-        ensures room { result.room ≡ 0 }
+        ensures places { result.places ≡ 0 }
+        ensures tags { result.tags ≡ 0 }
     {
         Session {
             told: PrefixMap::new(alloc),
             news: News::new(alloc),
             counts: Counts::new(alloc),
-            room: 0,
+            places: 0,
+            tags: 0,
         }
     }
 
-    /// Makes room for so many offers. It takes memory only where there is less.
-    pub(crate) fn reserve(&mut self, entries: usize) -> Result<(), Memory>
+    /// Makes room for offers of so many prefixes at which nothing is pending, and changes nothing else.
+    fn reserve_places(&mut self, places: usize) -> Result<(), Memory>
         ensures told { self.new.told ≡ self.old.told }
         ensures present { self.new.present ≡ self.old.present }
-        ensures room { OnOk result (entries ≤ self.new.room) }
-        ensures kept { self.old.room ≤ self.new.room }
-        ensures enough { entries ≤ self.old.room → IsOk result }
+        ensures places { OnOk result (places ≤ self.new.places) }
+        ensures tags { self.new.tags ≡ self.old.tags }
+        ensures kept { self.old.places ≤ self.new.places }
+        ensures enough { places ≤ self.old.places → IsOk result }
     {
-        if entries <= self.room {
+        if places <= self.places {
             return Ok(());
         }
         let pending = self.news.len();
-        if entries > usize::MAX - self.told.len() - pending {
+        if places >= usize::MAX - self.told.len() - pending {
             return Err(Memory);
         }
-        self.told.reserve(entries + pending)?;
-        self.news.reserve(entries)?;
-        self.counts.reserve(entries)?;
-        self.room = entries;
+        self.told.reserve(places + pending)?;
+        self.news.reserve(places)?;
+        self.places = places;
         Ok(())
     }
 
-    /// Makes this entry present at a prefix, or none. It uses one place of the room.
+    /// Makes room for offers of so many tags that are neither told nor present, and changes nothing else.
+    fn reserve_tags(&mut self, tags: usize) -> Result<(), Memory>
+        ensures told { self.new.told ≡ self.old.told }
+        ensures present { self.new.present ≡ self.old.present }
+        ensures places { self.new.places ≡ self.old.places }
+        ensures tags { OnOk result (tags ≤ self.new.tags) }
+        ensures kept { self.old.tags ≤ self.new.tags }
+        ensures enough { tags ≤ self.old.tags → IsOk result }
+    {
+        if tags <= self.tags {
+            return Ok(());
+        }
+        self.counts.reserve(tags)?;
+        self.tags = tags;
+        Ok(())
+    }
+
+    /// Makes room for offers of so many prefixes at which nothing is pending, and of so many tags that are neither told nor
+    /// present. It takes memory only where there is less.
+    pub(crate) fn reserve(&mut self, places: usize, tags: usize) -> Result<(), Memory>
+        ensures told { self.new.told ≡ self.old.told }
+        ensures present { self.new.present ≡ self.old.present }
+        ensures places { OnOk result (places ≤ self.new.places) }
+        ensures tags { OnOk result (tags ≤ self.new.tags) }
+        ensures places_kept { self.old.places ≤ self.new.places }
+        ensures tags_kept { self.old.tags ≤ self.new.tags }
+        ensures enough { places ≤ self.old.places → tags ≤ self.old.tags → IsOk result }
+    {
+        self.reserve_places(places)?;
+        self.reserve_tags(tags)
+    }
+
+    /// Makes this entry present at a prefix, or none. It uses a place of the room only where nothing is pending at the prefix,
+    /// and one of a tag only where the entry's tag is neither told nor present.
     pub(crate) fn offer(&mut self, prefix: Prefix, entry: Option<Entry>)
-        requires room { 0 < self.old.room }
+        requires place { place_cost self.old.told self.old.present prefix ≤ self.old.places }
+        requires tag { tag_cost self.old.told self.old.present entry ≤ self.old.tags }
         ensures told { self.new.told ≡ self.old.told }
         ensures present { self.new.present ≡ with_news self.old.present prefix entry }
-        ensures room { self.old.room ≡ self.new.room + 1 }
+        ensures places { self.old.places ≤ self.new.places + place_cost self.old.told self.old.present prefix }
+        ensures tags { self.old.tags ≡ self.new.tags + tag_cost self.old.told self.old.present entry }
     {
         let after = tag_of(entry.as_ref());
+        let pending = self.news.len();
         let before = note(&self.told, &mut self.news, prefix, entry);
-        move_use(&mut self.counts, Side::Present, before, after);
-        self.room -= 1;
+        self.places -= self.news.len().saturating_sub(pending);
+        self.tags -= move_use(&mut self.counts, Side::Present, before, after);
+    }
+
+    /// Whether something is pending at a prefix.
+    pub(crate) fn is_pending(&self, prefix: Prefix) -> bool
+        ensures { result ≡ is_pending self.now.told self.now.present prefix }
+    {
+        has_news(&self.news, prefix)
     }
 
     /// The first of what is pending, so many at most, by prefix.
@@ -135,7 +183,8 @@ impl Session {
     pub(crate) fn take(&mut self, limit: Option<u32>)
         ensures told { self.new.told ≡ told_then limit self.old.told self.old.present }
         ensures present { self.new.present ≡ self.old.present }
-        ensures room { self.new.room ≡ self.old.room }
+        ensures places { self.new.places ≡ self.old.places }
+        ensures tags { self.new.tags ≡ self.old.tags }
     {
         let count = limited(limit, self.news.len());
         tell(&mut self.told, &mut self.news, &mut self.counts, count);

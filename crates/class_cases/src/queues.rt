@@ -34,7 +34,8 @@ fn who<'t>(adverts: &Adverts, text: &'t str) -> Result<(Pid, &'t str), Wrong>
 /// Room for so many offers to a participant.
 pub fn reserve(alloc: Global, adverts: &mut Adverts, text: &str) -> Result<String, Wrong> {
     let (who, rest) = who(adverts, text)?;
-    adverts.reserve(who, number(rest)? as usize)?;
+    let offers = number(rest)? as usize;
+    adverts.reserve(who, offers, offers)?;
     Ok(String::from_str(alloc, "ok")?)
 }
 
@@ -77,7 +78,7 @@ pub fn offer(alloc: Global, adverts: &mut Adverts, text: &str) -> Result<String,
     let (word, rest) = first_word(rest);
     let entry = entry(alloc, rest)?;
     let prefix = prefix(word)?;
-    adverts.reserve(who, 1)?;
+    adverts.reserve(who, 1, 1)?;
     adverts.offer(who, prefix, entry);
     Ok(String::from_str(alloc, "ok")?)
 }

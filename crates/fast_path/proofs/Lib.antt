@@ -35,6 +35,7 @@ pub mod CountedRules
 pub mod OfferedPresent
 pub mod OffersPlanned
 pub mod OffersCounted
+pub mod OffersNeeded
 pub mod PlanFound
 pub mod PlanMade
 pub mod LastLemmas

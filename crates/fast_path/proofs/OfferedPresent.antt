@@ -35,11 +35,18 @@ to_is all who = unwrap_or-slice_get all who.0 empty
 offered_length : (all : Present) (o : Advert) → length (offered all o) ≡ length all
 offered_length all o = length-set all o.who.0 (with_news (present_to all o.who) o.prefix o.entry)
 
-offered_here : (all : Present) (o : Advert) → o.who.0 < length all → present_to (offered all o) o.who ≡ with_news (present_to all o.who) o.prefix o.entry
+pub offered_here : (all : Present) (o : Advert) → o.who.0 < length all → present_to (offered all o) o.who ≡ with_news (present_to all o.who) o.prefix o.entry
 offered_here all o within = to_is (offered all o) o.who ∙ get_or-set_same all o.who.0 (with_news (present_to all o.who) o.prefix o.entry) empty within
 
-offered_other : (all : Present) (o : Advert) (who : Pid) → who.0 ≢ o.who.0 → present_to (offered all o) who ≡ present_to all who
+pub offered_other : (all : Present) (o : Advert) (who : Pid) → who.0 ≢ o.who.0 → present_to (offered all o) who ≡ present_to all who
 offered_other all o who apart = to_is (offered all o) who ∙ get_or-set_other all o.who.0 who.0 (with_news (present_to all o.who) o.prefix o.entry) empty apart ∙ sym (to_is all who)
+
+pub length_all : (all : Present) (os : List Advert) → length (offered_all all os) ≡ length all
+length_all all [] = refl
+length_all all (o ∷ os) = length_all (offered all o) os ∙ offered_length all o
+
+pub pid_is : (a b : Pid) → eqb a.0 b.0 ≡ true → a ≡ b
+pid_is a b e = ap (λ n. let w : Pid = record { 0 = n } in w) (eqb-true a.0 b.0 e)
 
 -- ---- where each offers what is to be present
 
@@ -78,9 +85,6 @@ module _ (then : Present) where
       by (inl same) = absurd (apart (ap (λ (x : Advert). x.who) (sym same) ∙ is.to) (ap (λ (x : Advert). x.prefix) (sym same) ∙ is.of))
       by (inr later) = record { offer = is.offer; stands = later; to = is.to; of = is.of }
 
-  pid_is : (a b : Pid) → eqb a.0 b.0 ≡ true → a ≡ b
-  pid_is a b e = ap (λ n. let w : Pid = record { 0 = n } in w) (eqb-true a.0 b.0 e)
-
   -- where it isn't this one that offers it, and it is as it was
   kept : (all : Present) (o : Advert) (os : List Advert) (who : Pid) (p : Prefix) → (o.who ≡ who → o.prefix ≡ p → ⊥) → get (present_to (offered all o) who) p ≡ get (present_to all who) p → Stands (o ∷ os) all who p → Stands os (offered all o) who p
   kept all o os who p apart same (inl later) = inl (not_first o os who p apart later)
@@ -103,10 +107,6 @@ module _ (then : Present) where
   all_there all [] who p same each (inl is) = absurd is.stands
   all_there all [] who p same each (inr now) = now
   all_there all (o ∷ os) who p same each there = all_there (offered all o) os who p (offered_length all o ∙ same) (λ x m. each x (inr m)) (one_more all o os who p same (each o (inl refl)) there)
-
-  all_length : (all : Present) (os : List Advert) → length (offered_all all os) ≡ length all
-  all_length all [] = refl
-  all_length all (o ∷ os) = all_length (offered all o) os ∙ offered_length all o
 
 -- ---- of states
 
@@ -132,9 +132,9 @@ state_at s who declared =
 -- what is offered leads from what is present in one state to what is present in another
 pub offered_present : (s s1 : State) (os : List Advert) → s1.routing.participants ≡ s.routing.participants → AreOffers s s1 os → offered_all (all_present s) os ≡ all_present s1
 offered_present s s1 os alike are =
-    ext_get_or empty (offered_all (all_present s) os) (all_present s1) (all_length (all_present s1) (all_present s) os ∙ lengths) (λ n within.
+    ext_get_or empty (offered_all (all_present s) os) (all_present s1) (length_all (all_present s) os ∙ lengths) (λ n within.
     let who : Pid = record { 0 = n } in
-    let known : n < length s.routing.participants = subst (λ k. n < k) (all_length (all_present s1) (all_present s) os ∙ state_length s) within in
+    let known : n < length s.routing.participants = subst (λ k. n < k) (length_all (all_present s) os ∙ state_length s) within in
     sym (to_is (offered_all (all_present s) os) who) ∙ same who known ∙ to_is (all_present s1) who)
   where
     lengths : length (all_present s) ≡ length (all_present s1)

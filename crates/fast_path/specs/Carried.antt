@@ -43,7 +43,7 @@ pub record HasRoomFor (plan : Plan) (classes : Classes) (switch : Installed) (ad
   pub prefixes : length plan.tags ≤ classes.prefixes
   pub tags : length plan.fresh.items ≤ classes.tags
   pub pairs : length plan.blocks.items ≤ switch.room
-  pub offers : HaveRoom adverts.room (length adverts.told) plan.offers.items
+  pub offers : HaveRoom adverts plan.offers.items
 
 -- what the plan makes of the parts is what a state has
 pub record LeadsTo (s : State) (plan : Plan) (classes : Classes) (p : Tags) (switch : Installed) (adverts : Advertised) : Type 0 where

@@ -159,4 +159,4 @@ pub record CanCommit (plan : Plan) (classes : Classes) (pool : Tags) (switch : I
   pub pairs_room : length plan.blocks.items ≤ switch.room
   pub few : rule_count (without_pairs switch.table plan.drops) + block_count plan.blocks.items ≤ switch.capacity
   pub known : AreTo (length adverts.told) plan.offers.items
-  pub offers_room : HaveRoom adverts.room (length adverts.told) plan.offers.items
+  pub offers_room : HaveRoom adverts plan.offers.items

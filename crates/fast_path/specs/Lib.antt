@@ -6,6 +6,7 @@ pub mod Grouping
 pub mod GroupOrder
 pub mod Shown
 pub mod Offers
+pub mod Demands
 pub mod Members
 pub mod Committing
 pub mod Plans

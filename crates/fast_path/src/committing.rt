@@ -36,7 +36,7 @@ pub fn reserve(
     ensures present { adverts.new.present ≡ adverts.old.present }
     ensures prefixes { OnOk result (length plan.now.tags ≤ classes.new.prefixes) }
     ensures tags { OnOk result (length plan.now.fresh.items ≤ classes.new.tags) }
-    ensures offers { OnOk result (HaveRoom adverts.new.room (length adverts.new.told) plan.now.offers.items) }
+    ensures offers { OnOk result (HaveRoom adverts.new plan.now.offers.items) }
 {
     classes.reserve(plan.tags.len(), plan.fresh.len())?;
     reserve_all(alloc, names, adverts, &plan.offers)

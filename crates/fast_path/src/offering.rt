@@ -1,12 +1,14 @@
 //! What becomes present of the touched prefixes: each participant's best attributes with the prefix's tag.
 
 ghost use Rattle.std.specs.Prelude.{◌≡◌, ℕ, ◌≤◌, ◌<◌, ◌++◌, ◌∷◌, [], length, option_copied, slice_index, IfOk, OnOk};
-ghost use Rattle.fast_path.specs.Offers.{AreTo, HaveRoom, advert_of, adverts_of, adverts_to, best_at, declared_pids, entry_of, offer_count, offered_all};
+ghost use Rattle.advert_queue.specs.Advertised.{HasQueue};
+ghost use Rattle.fast_path.specs.Offers.{AreTo, HaveRoom, Present, advert_of, adverts_of, adverts_to, best_at, declared_pids, all_taken, entry_of, offered_all, place_taken, tag_taken};
+ghost use Rattle.fast_path.specs.Demands.{greater, is_above, place_for, tag_for, tag_to};
 
 use crate::planned::Advert;
 use advert_queue::Adverts;
 use events::{Entry, TagChange};
-use net_types::{Memory, Pid, SharedAttrs, Tag, TryCopy};
+use net_types::{Memory, Pid, Prefix, SharedAttrs, Tag, TryCopy};
 use registry::Registry;
 use route_server::Proposal;
 use std::alloc::Global;
@@ -80,17 +82,101 @@ pub fn offers_of(
     Ok(offers)
 }
 
-/// How many are offered to each of so many participants.
-fn counts(alloc: Global, participants: usize, offers: &[Advert]) -> Result<Vec<usize>, Memory>
-    requires { AreTo participants offers.now }
-    ensures length { IfOk result (λ counts. length counts.items ≡ participants) }
-    ensures counts { IfOk result (λ counts. (n : ℕ) → slice_index counts.items n ≡ offer_count offers.now n) }
+/// Whether a participant with a prefix comes after the greatest of those before it: by participant, and then by prefix.
+fn is_above(greatest: Option<(Pid, Prefix)>, who: Pid, prefix: Prefix) -> bool
+    ensures { result ≡ is_above greatest who prefix }
 {
-    let mut counts = Vec::from_elem(alloc, 0, participants)?;
-    for offer in offers {
-        counts[offer.who.0 as usize] += 1;
+    match greatest {
+        None => true,
+        Some((other, least)) => {
+            let prefixes = least.cmp(&prefix);
+            other.0.cmp(&who.0).then(prefixes).is_lt()
+        }
     }
-    Ok(counts)
+}
+
+/// The greater one of these: a participant with a prefix, and the greatest of those before it.
+fn greater(greatest: Option<(Pid, Prefix)>, who: Pid, prefix: Prefix) -> Option<(Pid, Prefix)>
+    ensures { result ≡ greater greatest who prefix }
+{
+    if is_above(greatest, who, prefix) {
+        Some((who, prefix))
+    } else {
+        greatest
+    }
+}
+
+/// How many places an offer may need: none where something is pending at its prefix now, and the offer rises above all before
+/// it, so that it is pending still when its turn comes.
+fn place_for(adverts: &Adverts, greatest: Option<(Pid, Prefix)>, offer: &Advert) -> usize
+    requires { HasQueue adverts.now offer.now.who }
+    ensures { result ≡ place_for adverts.now.told adverts.now.present greatest offer.now }
+{
+    let is_above = is_above(greatest, offer.who, offer.prefix);
+    if is_above && adverts.is_pending(offer.who, offer.prefix) {
+        0
+    } else {
+        1
+    }
+}
+
+/// How many places offers may need for each participant, at most.
+fn places_for(alloc: Global, adverts: &Adverts, offers: &[Advert]) -> Result<Vec<usize>, Memory>
+    requires { AreTo (length adverts.now.told) offers.now }
+    ensures length { IfOk result (λ places. length places.items ≡ length adverts.now.told) }
+    ensures places { IfOk result (λ places. (n : ℕ) → all_taken (place_taken adverts.now.told) adverts.now.present offers.now n ≤ slice_index places.items n) }
+{
+    let mut places = Vec::from_elem(alloc, 0, adverts.len())?;
+    let mut greatest = None;
+    for offer in offers {
+        places[offer.who.0 as usize] += place_for(adverts, greatest, offer);
+        greatest = greater(greatest, offer.who, offer.prefix);
+    }
+    Ok(places)
+}
+
+/// An offer's participant with the tag that is offered, where there is one.
+fn tag_to(offer: &Advert) -> Option<(Pid, Tag)>
+    ensures { result ≡ tag_to offer.now }
+{
+    match &offer.entry {
+        None => None,
+        Some(entry) => Some((offer.who, entry.tag)),
+    }
+}
+
+/// How many new tags an offer may have: none where the same tag was offered to the same participant just before, so that it is
+/// present.
+fn tag_for(before: Option<(Pid, Tag)>, now: Option<(Pid, Tag)>) -> usize
+    ensures { result ≡ tag_for before now }
+{
+    match (before, now) {
+        (_, None) => 0,
+        (None, Some(_)) => 1,
+        (Some((other, before)), Some((who, tag))) => {
+            if other.0 == who.0 && before.0 == tag.0 {
+                0
+            } else {
+                1
+            }
+        }
+    }
+}
+
+/// How many new tags offers may have for each participant, at most.
+fn tags_for(alloc: Global, participants: usize, offers: &[Advert]) -> Result<Vec<usize>, Memory>
+    requires { AreTo participants offers.now }
+    ensures length { IfOk result (λ tags. length tags.items ≡ participants) }
+    ensures tags { IfOk result (λ tags. (told present : Present) → length present ≡ participants → (n : ℕ) → all_taken (tag_taken told) present offers.now n ≤ slice_index tags.items n) }
+{
+    let mut tags = Vec::from_elem(alloc, 0, participants)?;
+    let mut before = None;
+    for offer in offers {
+        let now = tag_to(offer);
+        tags[offer.who.0 as usize] += tag_for(before, now);
+        before = now;
+    }
+    Ok(tags)
 }
 
 /// Makes room for offers to those that are declared, and changes nothing else.
@@ -104,12 +190,13 @@ pub fn reserve_all(
     requires known { AreTo (length adverts.old.told) offers.now }
     ensures told { adverts.new.told ≡ adverts.old.told }
     ensures present { adverts.new.present ≡ adverts.old.present }
-    ensures room { OnOk result (HaveRoom adverts.new.room (length adverts.new.told) offers.now) }
+    ensures room { OnOk result (HaveRoom adverts.new offers.now) }
 {
-    let participants = names.participants().len();
-    let counts = counts(alloc, participants, offers)?;
-    for number in 0..participants as u32 {
-        adverts.reserve(Pid(number), counts[number as usize])?;
+    let places = places_for(alloc, adverts, offers)?;
+    let tags = tags_for(alloc, adverts.len(), offers)?;
+    for number in 0..names.participants().len() as u32 {
+        let at = number as usize;
+        adverts.reserve(Pid(number), places[at], tags[at])?;
     }
     Ok(())
 }
@@ -117,7 +204,7 @@ pub fn reserve_all(
 /// Offers all of these, in their order. It takes no memory.
 pub fn offer_all(adverts: &mut Adverts, offers: Vec<Advert>)
     requires known { AreTo (length adverts.old.told) offers.items }
-    requires room { HaveRoom adverts.old.room (length adverts.old.told) offers.items }
+    requires room { HaveRoom adverts.old offers.items }
     ensures told { adverts.new.told ≡ adverts.old.told }
     ensures present { adverts.new.present ≡ offered_all adverts.old.present offers.items }
 {

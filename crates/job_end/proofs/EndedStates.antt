@@ -134,7 +134,7 @@ module _ (s : State) (swap : Swap) (end : End) (steady : IsSteadyInJob s) (is_sw
   pub offers_known : AreTo (length s.told) end.offers.items
   offers_known o m = subst (λ n. o.who.0 < n) (sym steady.steady.told) (is.offers.each o m).0
 
-  pub can_end : (classes : Classes) (pool : Tags) (switch : Installed) (adverts : Advertised) → ArePartsOf s classes pool switch adverts → HaveRoom adverts.room (length adverts.told) end.offers.items → CanEnd swap end classes pool switch adverts
+  pub can_end : (classes : Classes) (pool : Tags) (switch : Installed) (adverts : Advertised) → ArePartsOf s classes pool switch adverts → HaveRoom adverts end.offers.items → CanEnd swap end classes pool switch adverts
   can_end classes pool switch adverts parts room = record {
     moves = subst (λ m. IsMergeOf m classes.kept swap.moves) parts.tag (subst (λ k. IsMergeOf s.tag k swap.moves) parts.kept is_swap.moves);
     unused = subst (λ m. AreUnused (moved m swap.moves) end.dead.items) parts.tag dead_unused;

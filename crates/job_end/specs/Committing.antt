@@ -25,4 +25,4 @@ pub record CanEnd (swap : Swap) (end : End) (classes : Classes) (pool : Tags) (s
   pub fewer : (pair : Pair) → Member pair end.changed → IsFewer (without_pairs switch.table end.gone) swap.built pair
   pub few : rule_count switch.table ≤ switch.capacity
   pub known : AreTo (length adverts.told) end.offers.items
-  pub offers_room : HaveRoom adverts.room (length adverts.told) end.offers.items
+  pub offers_room : HaveRoom adverts end.offers.items

@@ -64,7 +64,7 @@ OffersAreKnown = (s : State) (swap : Swap) (end : End) → IsEndOf s swap end �
 abbrev pub EndsCanBeCommitted : Type 0
 EndsCanBeCommitted =
     (s : State) (swap : Swap) (end : End) (classes : Classes) (pool : Tags) (switch : Installed) (adverts : Advertised)
-    → IsEndOf s swap end → ArePartsOf s classes pool switch adverts → HaveRoom adverts.room (length adverts.told) end.offers.items → CanEnd swap end classes pool switch adverts
+    → IsEndOf s swap end → ArePartsOf s classes pool switch adverts → HaveRoom adverts end.offers.items → CanEnd swap end classes pool switch adverts
 
 -- committed, it leads to the state with merged classes and tight rules
 abbrev pub EndsLeadOn : Type 0

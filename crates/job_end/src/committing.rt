@@ -31,7 +31,7 @@ pub fn reserve_end(
     requires known { AreTo (length adverts.old.told) end.now.offers.items }
     ensures told { adverts.new.told ≡ adverts.old.told }
     ensures present { adverts.new.present ≡ adverts.old.present }
-    ensures offers { OnOk result (HaveRoom adverts.new.room (length adverts.new.told) end.now.offers.items) }
+    ensures offers { OnOk result (HaveRoom adverts.new end.now.offers.items) }
 {
     reserve_all(alloc, names, adverts, &end.offers)
 }

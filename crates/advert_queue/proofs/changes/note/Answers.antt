@@ -18,9 +18,6 @@ returns-in-Some-clause-differ c = (noted_is c.args.told.now.map c.args.prefix c.
 pub returns-in-Some-clause-present : goal.returns-in-Some-clause-present
 returns-in-Some-clause-present c = (noted_is c.args.told.now.map c.args.prefix c.args.entry _ c.args.news.now.items _ c.requires.rising c.requires.differ c.get-told.ensures c.put_news.ensures.items).present
 
-pub returns-in-Some-clause-few : goal.returns-in-Some-clause-few
-returns-in-Some-clause-few c = (noted_is c.args.told.now.map c.args.prefix c.args.entry _ c.args.news.now.items _ c.requires.rising c.requires.differ c.get-told.ensures c.put_news.ensures.items).few
-
 pub returns-in-None-clause-before : goal.returns-in-None-clause-before
 returns-in-None-clause-before c =
     let absent : find prefix_cmp c.args.prefix c.args.news.now.items ≡ None = sym c.put_news.ensures.value ∙ c.in-None.is in
@@ -32,6 +29,3 @@ returns-in-None-clause-differ c = (noted_is c.args.told.now.map c.args.prefix c.
 
 pub returns-in-None-clause-present : goal.returns-in-None-clause-present
 returns-in-None-clause-present c = (noted_is c.args.told.now.map c.args.prefix c.args.entry _ c.args.news.now.items _ c.requires.rising c.requires.differ c.get-told.ensures c.put_news.ensures.items).present
-
-pub returns-in-None-clause-few : goal.returns-in-None-clause-few
-returns-in-None-clause-few c = (noted_is c.args.told.now.map c.args.prefix c.args.entry _ c.args.news.now.items _ c.requires.rising c.requires.differ c.get-told.ensures c.put_news.ensures.items).few

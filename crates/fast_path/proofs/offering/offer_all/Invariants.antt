@@ -8,5 +8,5 @@ invariant-loop-offer l = record {
   told : l.adverts.told ≡ l.fn.adverts.told;
   rest : offered_all l.adverts.present l.offer-iterator.rest.items ≡ offered_all l.fn.adverts.present l.fn.offers.items;
   known : AreTo (length l.adverts.told) l.offer-iterator.rest.items;
-  room : HaveRoom l.adverts.room (length l.adverts.told) l.offer-iterator.rest.items;
+  room : HaveRoom l.adverts l.offer-iterator.rest.items;
 }

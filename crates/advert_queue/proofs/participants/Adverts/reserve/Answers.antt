@@ -1,7 +1,7 @@
 use Rattle.std.proofs.Common.{ap, ◌∙◌, arith}
 use Rattle.std.proofs.lemmas.Result.{on_ok_weaker}
-use Rattle.advert_queue.proofs.PlacesOf.{declared, present_same, room_grows, room_then, told_same}
-use Rattle.advert_queue.specs.Advertised.{Advertised, room_of}
+use Rattle.advert_queue.proofs.PlacesOf.{declared, places_grows, places_then, present_same, tags_grows, tags_then, told_same}
+use Rattle.advert_queue.specs.Advertised.{Advertised, new_tags_of, places_of}
 use Rattle.advert_queue.proofs.participants.Adverts.reserve.Goals as goal
 
 pub returns-clause-told : goal.returns-clause-told
@@ -16,17 +16,32 @@ returns-clause-present c =
     let within = declared qs c.args.self.now c.args.who c.self.view_is c.requires.declared in
     present_same qs c.args.who c.index_mut.result.now within (c.index_mut.ensures.value) c.reserve.new.self c.reserve.ensures.present ∙ ap (λ (a : Advertised). a.present) c.self.view_is
 
-pub returns-clause-room : goal.returns-clause-room
-returns-clause-room c =
+pub returns-clause-places : goal.returns-clause-places
+returns-clause-places c =
     let qs = c.self.inside.sessions.items in
     let within = declared qs c.args.self.now c.args.who c.self.view_is c.requires.declared in
-    on_ok_weaker c.reserve.result (λ room. (let here = room_then qs c.args.who c.index_mut.result.now within (c.index_mut.ensures.value) c.reserve.new.self in omega (arith, here, room))) c.reserve.ensures.room
+    on_ok_weaker c.reserve.result (λ room. (let here = places_then qs c.args.who c.index_mut.result.now within (c.index_mut.ensures.value) c.reserve.new.self in omega (arith, here, room))) c.reserve.ensures.places
 
-pub returns-clause-kept : goal.returns-clause-kept
-returns-clause-kept c =
+pub returns-clause-tags : goal.returns-clause-tags
+returns-clause-tags c =
+    let qs = c.self.inside.sessions.items in
+    let within = declared qs c.args.self.now c.args.who c.self.view_is c.requires.declared in
+    on_ok_weaker c.reserve.result (λ room. (let here = tags_then qs c.args.who c.index_mut.result.now within (c.index_mut.ensures.value) c.reserve.new.self in omega (arith, here, room))) c.reserve.ensures.tags
+
+pub returns-clause-places_kept : goal.returns-clause-places_kept
+returns-clause-places_kept c =
     let qs = c.self.inside.sessions.items in
     let within = declared qs c.args.self.now c.args.who c.self.view_is c.requires.declared in
     λ other.
-    let grows = room_grows qs c.args.who c.index_mut.result.now within (c.index_mut.ensures.value) c.reserve.new.self c.reserve.ensures.kept other in
-    let same = ap (λ (a : Advertised). room_of a other) c.self.view_is in
+    let grows = places_grows qs c.args.who c.index_mut.result.now within (c.index_mut.ensures.value) c.reserve.new.self c.reserve.ensures.places_kept other in
+    let same = ap (λ (a : Advertised). places_of a other) c.self.view_is in
+    omega (arith, grows, same)
+
+pub returns-clause-tags_kept : goal.returns-clause-tags_kept
+returns-clause-tags_kept c =
+    let qs = c.self.inside.sessions.items in
+    let within = declared qs c.args.self.now c.args.who c.self.view_is c.requires.declared in
+    λ other.
+    let grows = tags_grows qs c.args.who c.index_mut.result.now within (c.index_mut.ensures.value) c.reserve.new.self c.reserve.ensures.tags_kept other in
+    let same = ap (λ (a : Advertised). new_tags_of a other) c.self.view_is in
     omega (arith, grows, same)

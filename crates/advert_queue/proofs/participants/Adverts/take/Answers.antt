@@ -1,6 +1,6 @@
 use Rattle.std.proofs.Common.{sym, ap, ◌∙◌}
 use Rattle.std.specs.Prelude.{slice_set}
-use Rattle.advert_queue.proofs.PlacesOf.{declared, present_here, present_same, room_same, told_here, told_set}
+use Rattle.advert_queue.proofs.PlacesOf.{declared, present_here, places_same, present_same, tags_same, told_here, told_set}
 use Rattle.advert_queue.specs.Advertised.{Advertised, present_of, told_of}
 use Rattle.advert_queue.specs.Taken.{told_then}
 use Rattle.advert_queue.proofs.participants.Adverts.take.Goals as goal
@@ -20,8 +20,14 @@ returns-clause-present c =
     let within = declared qs c.args.self.now c.args.who c.self.view_is c.requires.declared in
     present_same qs c.args.who c.index_mut.result.now within (c.index_mut.ensures.value) c.take.new.self c.take.ensures.present ∙ ap (λ (a : Advertised). a.present) c.self.view_is
 
-pub returns-clause-room : goal.returns-clause-room
-returns-clause-room c =
+pub returns-clause-places : goal.returns-clause-places
+returns-clause-places c =
     let qs = c.self.inside.sessions.items in
     let within = declared qs c.args.self.now c.args.who c.self.view_is c.requires.declared in
-    room_same qs c.args.who c.index_mut.result.now within (c.index_mut.ensures.value) c.take.new.self c.take.ensures.room ∙ ap (λ (a : Advertised). a.room) c.self.view_is
+    places_same qs c.args.who c.index_mut.result.now within (c.index_mut.ensures.value) c.take.new.self c.take.ensures.places ∙ ap (λ (a : Advertised). a.places) c.self.view_is
+
+pub returns-clause-tags : goal.returns-clause-tags
+returns-clause-tags c =
+    let qs = c.self.inside.sessions.items in
+    let within = declared qs c.args.self.now c.args.who c.self.view_is c.requires.declared in
+    tags_same qs c.args.who c.index_mut.result.now within (c.index_mut.ensures.value) c.take.new.self c.take.ensures.tags ∙ ap (λ (a : Advertised). a.tags) c.self.view_is

@@ -1,6 +1,6 @@
-use Rattle.std.proofs.Common.{ap, ◌∙◌, arith}
-use Rattle.advert_queue.proofs.CountLemmas.{new_places-le}
-use Rattle.advert_queue.proofs.SessionLemmas.{can_rise, few_present, in_use, offered_kept}
+use Rattle.std.proofs.Common.{◌-◌, ap, ◌∙◌, arith}
+use Rattle.advert_queue.proofs.SessionLemmas.{can_rise, few_present, in_use, offered_kept, place_found, place_none, tag_found}
+use Rattle.advert_queue.specs.Advertised.{place_cost, tag_cost}
 use Rattle.advert_queue.specs.Changes.{changed, tag_in}
 use Rattle.advert_queue.specs.Kept.{Queued}
 use Rattle.advert_queue.specs.declared.counts.Side.TheVariants.{Present}
@@ -8,32 +8,77 @@ use Rattle.advert_queue.proofs.session.Session.offer.Goals as goal
 
 pub note-before-requires : goal.note-before-requires
 note-before-requires c =
-    let room = ap (λ (q : Queued). q.room) c.self.view_is in
+    let a = c.self.inside in
+    let kept = c.self.invariant.tellable in
+    let places = ap (λ (q : Queued). q.places) c.self.view_is in
+    let cost = ap (λ (q : Queued). place_cost q.told q.present c.args.prefix) c.self.view_is in
     record {
-      rising = c.self.invariant.tellable.rising;
-      differ = c.self.invariant.tellable.differ;
-      room = omega (arith, room, c.requires, c.self.invariant.news_room);
+      rising = kept.rising;
+      differ = kept.differ;
+      room = λ none. (let one = place_none a.told.map a.news.items c.args.prefix kept.rising kept.differ none in omega (arith, places, cost, one, c.requires.place, c.self.invariant.news_room));
     }
 
 pub move_use-requires : goal.move_use-requires
 move_use-requires c =
-    let room = ap (λ (q : Queued). q.room) c.self.view_is in
     let a = c.self.inside in
-    let most = new_places-le a.counts.items c.tag_of-after.result in
+    let kept = c.self.invariant.tellable in
+    let tags = ap (λ (q : Queued). q.tags) c.self.view_is in
+    let cost = ap (λ (q : Queued). tag_cost q.told q.present c.args.entry) c.self.view_is in
+    let new = tag_found a.counts.items a.told.map (changed a.told.map a.news.items) c.args.entry c.tag_of-after.result kept.counts (c.tag_of-after.ensures ∙ ap tag_in c.as_ref.ensures.value) in
     record {
-      rising = c.self.invariant.tellable.counts.rising;
-      used = c.self.invariant.tellable.counts.used;
-      some = in_use Present a.counts.items (changed a.told.map a.news.items) c.args.prefix c.note-before.result (c.self.invariant.tellable.counts.counts Present) c.note-before.ensures.before;
-      room = omega (arith, room, most, c.requires, c.self.invariant.counts_room);
-      small =
-          can_rise Present a.counts.items (changed a.told.map a.news.items) c.tag_of-after.result (c.self.invariant.tellable.counts.counts Present)
-          (few_present a.told.map a.news.items a.room (omega (arith, room, c.requires)) c.self.invariant.tellable.fits);
+      rising = kept.counts.rising;
+      used = kept.counts.used;
+      some = in_use Present a.counts.items (changed a.told.map a.news.items) c.args.prefix c.note-before.result (kept.counts.counts Present) c.note-before.ensures.before;
+      room = omega (arith, tags, cost, new, c.requires.tag, c.self.invariant.counts_room);
+      small = can_rise Present a.counts.items (changed a.told.map a.news.items) c.tag_of-after.result (kept.counts.counts Present) (few_present a.told.map a.news.items a.places kept.fits);
     }
+
+pub overflow_sub-self : goal.overflow_sub-self
+overflow_sub-self c =
+    let a = c.self.inside in
+    let kept = c.self.invariant.tellable in
+    let places = ap (λ (q : Queued). q.places) c.self.view_is in
+    let cost = ap (λ (q : Queued). place_cost q.told q.present c.args.prefix) c.self.view_is in
+    let found = place_found a.told.map a.news.items c.args.prefix kept.rising kept.differ in
+    omega (arith, places, cost, found, c.requires.place, c.note-before.ensures.few, c.saturating_sub.ensures, c.len.ensures, c.len-pending.ensures)
+
+pub overflow_sub-self-2 : goal.overflow_sub-self-2
+overflow_sub-self-2 c =
+    let a = c.self.inside in
+    let tags = ap (λ (q : Queued). q.tags) c.self.view_is in
+    let cost = ap (λ (q : Queued). tag_cost q.told q.present c.args.entry) c.self.view_is in
+    let new = tag_found a.counts.items a.told.map (changed a.told.map a.news.items) c.args.entry c.tag_of-after.result c.self.invariant.tellable.counts (c.tag_of-after.ensures ∙ ap tag_in c.as_ref.ensures.value) in
+    omega (arith, tags, cost, new, c.requires.tag, c.move_use.ensures.places)
 
 pub invariant_of-self : goal.invariant_of-self
 invariant_of-self c =
-    let room = ap (λ (q : Queued). q.room) c.self.view_is in
     let a = c.self.inside in
-    offered_kept a.told a.news c.note-before.new.news a.counts c.move_use.new.counts a.room _ c.args.prefix c.args.entry _ _ c.self.invariant (omega (arith, room, c.requires))
-    c.note-before.ensures.rising c.note-before.ensures.differ c.note-before.ensures.present c.note-before.ensures.few c.note-before.ensures.room
-    c.note-before.ensures.before (c.tag_of-after.ensures ∙ ap tag_in c.as_ref.ensures.value) c.move_use.ensures.counts c.move_use.ensures.room
+    let kept = c.self.invariant.tellable in
+    let places = ap (λ (q : Queued). q.places) c.self.view_is in
+    let tags = ap (λ (q : Queued). q.tags) c.self.view_is in
+    let place_cost_is = ap (λ (q : Queued). place_cost q.told q.present c.args.prefix) c.self.view_is in
+    let tag_cost_is = ap (λ (q : Queued). tag_cost q.told q.present c.args.entry) c.self.view_is in
+    let found = place_found a.told.map a.news.items c.args.prefix kept.rising kept.differ in
+    let tag_is = c.tag_of-after.ensures ∙ ap tag_in c.as_ref.ensures.value in
+    let new = tag_found a.counts.items a.told.map (changed a.told.map a.news.items) c.args.entry c.tag_of-after.result kept.counts tag_is in
+    offered_kept a.told a.news c.note-before.new.news a.counts c.move_use.new.counts a.places a.tags (a.places - c.saturating_sub.result) (a.tags - c.move_use.result) c.args.prefix c.args.entry _ _ c.self.invariant
+    (omega (arith, places, place_cost_is, found, c.requires.place, c.note-before.ensures.few, c.saturating_sub.ensures, c.len.ensures, c.len-pending.ensures))
+    (omega (arith, tags, tag_cost_is, new, c.requires.tag, c.move_use.ensures.places))
+    c.note-before.ensures.rising c.note-before.ensures.differ c.note-before.ensures.present c.note-before.ensures.room c.note-before.ensures.before tag_is c.move_use.ensures.counts c.move_use.ensures.room
+
+pub returns-clause-places : goal.returns-clause-places
+returns-clause-places c =
+    let a = c.self.inside in
+    let kept = c.self.invariant.tellable in
+    let places = ap (λ (q : Queued). q.places) c.self.view_is in
+    let cost = ap (λ (q : Queued). place_cost q.told q.present c.args.prefix) c.self.view_is in
+    let found = place_found a.told.map a.news.items c.args.prefix kept.rising kept.differ in
+    omega (arith, places, cost, found, c.note-before.ensures.few, c.saturating_sub.ensures, c.len.ensures, c.len-pending.ensures)
+
+pub returns-clause-tags : goal.returns-clause-tags
+returns-clause-tags c =
+    let a = c.self.inside in
+    let tags = ap (λ (q : Queued). q.tags) c.self.view_is in
+    let cost = ap (λ (q : Queued). tag_cost q.told q.present c.args.entry) c.self.view_is in
+    let new = tag_found a.counts.items a.told.map (changed a.told.map a.news.items) c.args.entry c.tag_of-after.result c.self.invariant.tellable.counts (c.tag_of-after.ensures ∙ ap tag_in c.as_ref.ensures.value) in
+    omega (arith, tags, cost, new, c.requires.tag, c.move_use.ensures.places)

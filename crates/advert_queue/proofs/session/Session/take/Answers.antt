@@ -12,14 +12,14 @@ tell-requires c =
     let most = limited-le c.args.limit c.len.result in
     record {
       enough = (let count = c.limited-count.ensures in let len = c.len.ensures in omega (arith, most, count, len));
-      kept = none_more a.told a.news a.counts a.room c.self.invariant.tellable;
+      kept = none_more a.told a.news a.counts a.places c.self.invariant.tellable;
     }
 
 pub invariant_of-self : goal.invariant_of-self
 invariant_of-self c =
     let a = c.self.inside in
     let all = c.tell.ensures in
-    taken_kept a.told c.tell.new.told a.news c.tell.new.news a.counts c.tell.new.counts a.room c.self.invariant (all.kept a.room c.self.invariant.tellable) all.room all.counts_room
+    taken_kept a.told c.tell.new.told a.news c.tell.new.news a.counts c.tell.new.counts a.places a.tags c.self.invariant (all.kept a.places c.self.invariant.tellable) all.room all.counts_room
 
 pub returns-clause-told : goal.returns-clause-told
 returns-clause-told c =
