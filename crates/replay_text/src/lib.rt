@@ -2,6 +2,7 @@
 #![tactic(auto)]
 
 mod fields;
+mod front;
 mod lines;
 mod pieces;
 mod replies;

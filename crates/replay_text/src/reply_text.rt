@@ -1,5 +1,5 @@
 //! The text of a reply, whole or in pieces.
-ghost use Rattle.std.specs.Prelude.{◌≡◌, ◌++◌, ◌<◌, [], IfOk, MatchOption, length, string_bytes};
+ghost use Rattle.std.specs.Prelude.{◌≡◌, ◌++◌, ◌<◌, [], IfOk, MatchOption, length};
 ghost use Rattle.events.specs.Text.{reply_text};
 ghost use Rattle.replay_text.specs.ReplyTexts.{rules_from};
 
@@ -52,14 +52,14 @@ impl<'a> Model for ReplyText<'a> {
 
 /// Writes the rules from a place on, until the text is long or all are written; the place of the one behind them.
 fn push_rules<'a>(
-    text: &mut String,
+    text: &mut Vec<u8>,
     event: &Event,
     flows: &'a [Flow],
     from: usize,
     last: &mut Option<LastActions<'a>>,
 ) -> Result<usize, Memory>
-    ensures written { IfOk result (λ next. string_bytes text.new ++ rules_from event.now flows.now next ≡ string_bytes text.old ++ rules_from event.now flows.now from) }
-    ensures some { IfOk result (λ next. from < length flows.now → length (string_bytes text.old) < length (string_bytes text.new)) }
+    ensures written { IfOk result (λ next. text.new.items ++ rules_from event.now flows.now next ≡ text.old.items ++ rules_from event.now flows.now from) }
+    ensures some { IfOk result (λ next. from < length flows.now → length (text.old.items) < length (text.new.items)) }
 {
     let mut next = from;
     while next < flows.len() {
@@ -96,7 +96,7 @@ impl<'a> ReplyText<'a> {
             Next::Rule(place) => place,
             Next::End => return Ok(None),
         };
-        let mut text = String::with_capacity(self.alloc, ROOM)?;
+        let mut text = Vec::with_capacity(self.alloc, ROOM)?;
         if let Next::Start = self.next {
             push_before_rules(&mut text, self.number, self.reply)?;
         }
@@ -108,7 +108,7 @@ impl<'a> ReplyText<'a> {
             push_behind_rules(&mut text, self.reply)?;
             self.next = Next::End;
         }
-        Ok(Some(Bytes::from_vec(text.into_bytes())))
+        Ok(Some(Bytes::from_vec(text)))
     }
 }
 

@@ -1,8 +1,11 @@
 //! Writing addresses, prefixes and rules.
-ghost use Rattle.std.specs.Prelude.{◌≡◌, ◌++◌, [], OnOk, IfOk, string_bytes, codes, map};
+ghost use Rattle.std.specs.Prelude.{◌≡◌, ◌++◌, [], OnOk, IfOk, codes, map};
+ghost use Rattle.std.specs.Fmt.{decimal};
 ghost use Rattle.events.specs.Text.{address_text, prefix_text, number_field, address_field, prefix_field, cube_text, action_text, in_brackets, or_none, rule_text};
 ghost use Rattle.replay_text.specs.Fields.{cube_fields, led, more_text, next_lead, set_fields};
 
+use super::front::Front;
+use itoa::Buffer;
 use net_types::{Action, Assign, Cube, Ip, Memory, Prefix, Rule, same_items};
 
 /// So many actions are written anew at once, which is no more work than to look whether they are those of the last rule.
@@ -12,61 +15,79 @@ const FEW: usize = 8;
 #[derive(Drop)]
 pub struct LastActions<'a> {
     actions: &'a [Action],
-    text: String,
-    ghost is: { string_bytes text ≡ or_none (map action_text actions.now) },
+    text: Vec<u8>,
+    ghost is: { text.items ≡ or_none (map action_text actions.now) },
 }
 
-pub fn push_address(text: &mut String, ip: Ip) -> Result<(), Memory>
-    ensures { OnOk result (string_bytes text.new ≡ string_bytes text.old ++ address_text ip) }
+/// Writes a number in decimal digits.
+pub fn push_number(text: &mut Vec<u8>, number: u64) -> Result<(), Memory>
+    ensures { OnOk result (text.new.items ≡ text.old.items ++ decimal number) }
 {
-    let a = ip.0 / 16777216;
-    let b = ip.0 / 65536 % 256;
-    let c = ip.0 / 256 % 256;
-    let d = ip.0 % 256;
-    write!(text, "{a}.{b}.{c}.{d}")?;
+    let mut digits = Buffer::new();
+    text.extend_from_slice(digits.format(number).as_bytes())?;
     Ok(())
 }
 
-pub fn push_prefix(text: &mut String, prefix: Prefix) -> Result<(), Memory>
-    ensures { OnOk result (string_bytes text.new ≡ string_bytes text.old ++ prefix_text prefix) }
+pub fn push_address(text: &mut Vec<u8>, ip: Ip) -> Result<(), Memory>
+    ensures { OnOk result (text.new.items ≡ text.old.items ++ address_text ip) }
 {
-    push_address(text, prefix.address)?;
-    let len = prefix.len;
-    write!(text, "/{len}")?;
+    let mut front = Front::new();
+    front.address(ip);
+    text.extend_from_slice(front.text())?;
+    Ok(())
+}
+
+pub fn push_prefix(text: &mut Vec<u8>, prefix: Prefix) -> Result<(), Memory>
+    ensures { OnOk result (text.new.items ≡ text.old.items ++ prefix_text prefix) }
+{
+    let mut front = Front::new();
+    front.prefix(prefix);
+    text.extend_from_slice(front.text())?;
+    Ok(())
+}
+
+/// Writes what leads a field, its name and the sign before its value.
+fn push_name(text: &mut Vec<u8>, lead: &str, name: &str) -> Result<(), Memory>
+    ensures { OnOk result (text.new.items ≡ text.old.items ++ (lead.now ++ (name.now ++ codes "="))) }
+{
+    text.extend_from_slice(lead.as_bytes())?;
+    text.extend_from_slice(name.as_bytes())?;
+    text.push(b'=')?;
     Ok(())
 }
 
 /// Writes a prefix with its name, where it isn't any; gives what leads the next field.
 fn push_prefix_field(
-    text: &mut String,
+    text: &mut Vec<u8>,
     lead: &'static str,
     name: &str,
     prefix: Prefix,
 ) -> Result<&'static str, Memory>
-    ensures written { OnOk result (string_bytes text.new ≡ string_bytes text.old ++ led lead.now (prefix_field name.now prefix)) }
+    ensures written { OnOk result (text.new.items ≡ text.old.items ++ led lead.now (prefix_field name.now prefix)) }
     ensures next { IfOk result (λ next. next.now ≡ next_lead lead.now (prefix_field name.now prefix)) }
 {
     if prefix.len == 0 {
         return Ok(lead);
     }
-    write!(text, "{lead}{name}=")?;
+    push_name(text, lead, name)?;
     push_prefix(text, prefix)?;
     Ok(",")
 }
 
 /// Writes a number with its name, where there is one; gives what leads the next field.
 fn push_number_field(
-    text: &mut String,
+    text: &mut Vec<u8>,
     lead: &'static str,
     name: &str,
     number: Option<u16>,
 ) -> Result<&'static str, Memory>
-    ensures written { OnOk result (string_bytes text.new ≡ string_bytes text.old ++ led lead.now (number_field name.now number)) }
+    ensures written { OnOk result (text.new.items ≡ text.old.items ++ led lead.now (number_field name.now number)) }
     ensures next { IfOk result (λ next. next.now ≡ next_lead lead.now (number_field name.now number)) }
 {
     match number {
         Some(number) => {
-            write!(text, "{lead}{name}={number}")?;
+            push_name(text, lead, name)?;
+            push_number(text, u64::from(number))?;
             Ok(",")
         }
         None => Ok(lead),
@@ -75,17 +96,17 @@ fn push_number_field(
 
 /// Writes an address with its name, where there is one; gives what leads the next field.
 fn push_address_field(
-    text: &mut String,
+    text: &mut Vec<u8>,
     lead: &'static str,
     name: &str,
     ip: Option<Ip>,
 ) -> Result<&'static str, Memory>
-    ensures written { OnOk result (string_bytes text.new ≡ string_bytes text.old ++ led lead.now (address_field name.now ip)) }
+    ensures written { OnOk result (text.new.items ≡ text.old.items ++ led lead.now (address_field name.now ip)) }
     ensures next { IfOk result (λ next. next.now ≡ next_lead lead.now (address_field name.now ip)) }
 {
     match ip {
         Some(ip) => {
-            write!(text, "{lead}{name}=")?;
+            push_name(text, lead, name)?;
             push_address(text, ip)?;
             Ok(",")
         }
@@ -101,8 +122,8 @@ fn widened(number: Option<u8>) -> Option<u16>
 
 /// Writes the fields that aren't any; gives what would lead another one.
 #[tactic(auto, using(crate::proofs::LedFields::led_rules))]
-fn push_cube_fields(text: &mut String, cube: &Cube) -> Result<&'static str, Memory>
-    ensures written { OnOk result (string_bytes text.new ≡ string_bytes text.old ++ led [] (cube_fields cube.now)) }
+fn push_cube_fields(text: &mut Vec<u8>, cube: &Cube) -> Result<&'static str, Memory>
+    ensures written { OnOk result (text.new.items ≡ text.old.items ++ led [] (cube_fields cube.now)) }
     ensures next { IfOk result (λ next. next.now ≡ next_lead [] (cube_fields cube.now)) }
 {
     let lead = push_prefix_field(text, "", "srcip", cube.src)?;
@@ -114,20 +135,20 @@ fn push_cube_fields(text: &mut String, cube: &Cube) -> Result<&'static str, Memo
 }
 
 #[tactic(auto, using(crate::proofs::LedFields::star_rules))]
-fn push_cube(text: &mut String, cube: &Cube) -> Result<(), Memory>
-    ensures { OnOk result (string_bytes text.new ≡ string_bytes text.old ++ cube_text cube.now) }
+fn push_cube(text: &mut Vec<u8>, cube: &Cube) -> Result<(), Memory>
+    ensures { OnOk result (text.new.items ≡ text.old.items ++ cube_text cube.now) }
 {
     let lead = push_cube_fields(text, cube)?;
     if lead.is_empty() {
-        text.push_str("*")?;
+        text.push(b'*')?;
     }
     Ok(())
 }
 
 /// Writes the set fields behind a bracket; gives what would lead another one.
 #[tactic(auto, using(crate::proofs::LedFields::led_rules))]
-fn push_set_fields(text: &mut String, set: Assign) -> Result<&'static str, Memory>
-    ensures written { OnOk result (string_bytes text.new ≡ string_bytes text.old ++ led (codes "[") (set_fields set)) }
+fn push_set_fields(text: &mut Vec<u8>, set: Assign) -> Result<&'static str, Memory>
+    ensures written { OnOk result (text.new.items ≡ text.old.items ++ led (codes "[") (set_fields set)) }
     ensures next { IfOk result (λ next. next.now ≡ next_lead (codes "[") (set_fields set)) }
 {
     let lead = push_address_field(text, "[", "srcip", set.src)?;
@@ -138,41 +159,40 @@ fn push_set_fields(text: &mut String, set: Assign) -> Result<&'static str, Memor
 
 /// Writes the set fields in brackets, where there are some.
 #[tactic(auto, using(crate::proofs::LedFields::bracket_rules))]
-fn push_set(text: &mut String, set: Assign) -> Result<(), Memory>
-    ensures { OnOk result (string_bytes text.new ≡ string_bytes text.old ++ in_brackets (set_fields set)) }
+fn push_set(text: &mut Vec<u8>, set: Assign) -> Result<(), Memory>
+    ensures { OnOk result (text.new.items ≡ text.old.items ++ in_brackets (set_fields set)) }
 {
     let lead = push_set_fields(text, set)?;
     if lead == "," {
-        text.push_str("]")?;
+        text.push(b']')?;
     }
     Ok(())
 }
 
-fn push_action(text: &mut String, action: Action) -> Result<(), Memory>
-    ensures { OnOk result (string_bytes text.new ≡ string_bytes text.old ++ action_text action) }
+fn push_action(text: &mut Vec<u8>, action: Action) -> Result<(), Memory>
+    ensures { OnOk result (text.new.items ≡ text.old.items ++ action_text action) }
 {
-    let port = action.port.0;
-    write!(text, "{port}")?;
+    push_number(text, u64::from(action.port.0))?;
     push_set(text, action.set)
 }
 
-fn push_more_actions(text: &mut String, actions: &[Action]) -> Result<(), Memory>
-    ensures { OnOk result (string_bytes text.new ≡ string_bytes text.old ++ more_text actions.now) }
+fn push_more_actions(text: &mut Vec<u8>, actions: &[Action]) -> Result<(), Memory>
+    ensures { OnOk result (text.new.items ≡ text.old.items ++ more_text actions.now) }
 {
     for action in actions {
-        text.push_str(" + ")?;
+        text.extend_from_slice(b" + ")?;
         push_action(text, *action)?;
     }
     Ok(())
 }
 
 #[tactic(auto, using(crate::proofs::LedFields::action_rules))]
-fn push_actions(text: &mut String, actions: &[Action]) -> Result<(), Memory>
-    ensures { OnOk result (string_bytes text.new ≡ string_bytes text.old ++ or_none (map action_text actions.now)) }
+fn push_actions(text: &mut Vec<u8>, actions: &[Action]) -> Result<(), Memory>
+    ensures { OnOk result (text.new.items ≡ text.old.items ++ or_none (map action_text actions.now)) }
 {
     match actions {
         [] => {
-            text.push_str("none")?;
+            text.extend_from_slice(b"none")?;
             Ok(())
         }
         [first, others @ ..] => {
@@ -185,24 +205,24 @@ fn push_actions(text: &mut String, actions: &[Action]) -> Result<(), Memory>
 
 /// Writes actions; many that were written last are copied.
 fn push_listed<'a>(
-    text: &mut String,
+    text: &mut Vec<u8>,
     actions: &'a [Action],
     last: &mut Option<LastActions<'a>>,
 ) -> Result<(), Memory>
-    ensures { OnOk result (string_bytes text.new ≡ string_bytes text.old ++ or_none (map action_text actions.now)) }
+    ensures { OnOk result (text.new.items ≡ text.old.items ++ or_none (map action_text actions.now)) }
 {
     if actions.len() <= FEW {
         return push_actions(text, actions);
     }
     if let Some(last) = last {
         if same_items(last.actions, actions) {
-            text.push_str(last.text.as_str())?;
+            text.extend_from_slice(last.text.as_slice())?;
             return Ok(());
         }
     }
-    let mut written = String::new(*text.allocator());
+    let mut written = Vec::new(*text.allocator());
     push_actions(&mut written, actions)?;
-    text.push_str(written.as_str())?;
+    text.extend_from_slice(written.as_slice())?;
     *last = Some(LastActions {
         actions,
         text: written,
@@ -212,13 +232,13 @@ fn push_listed<'a>(
 
 /// Writes what a rule matches and what it does.
 pub fn push_rule<'a>(
-    text: &mut String,
+    text: &mut Vec<u8>,
     rule: &'a Rule,
     last: &mut Option<LastActions<'a>>,
 ) -> Result<(), Memory>
-    ensures { OnOk result (string_bytes text.new ≡ string_bytes text.old ++ rule_text rule.now) }
+    ensures { OnOk result (text.new.items ≡ text.old.items ++ rule_text rule.now) }
 {
     push_cube(text, &rule.cube)?;
-    text.push_str(" -> ")?;
+    text.extend_from_slice(b" -> ")?;
     push_listed(text, rule.actions.items(), last)
 }

@@ -1,7 +1,6 @@
 use Rattle.std.proofs.Common.{◌≡◌, ◌++◌, take, flat_map}
-use Rattle.std.specs.Prelude.{string_bytes}
 use Rattle.events.specs.Text.{drop_text}
 use Rattle.replay_text.proofs.replies.push_drops.Given as goal
 
 abbrev pub invariant-loop-pair : goal.invariant-loop-pair
-invariant-loop-pair l = string_bytes l.text ≡ string_bytes l.fn.text ++ flat_map drop_text (take l.pair-index l.pairs)
+invariant-loop-pair l = l.text.items ≡ l.fn.text.items ++ flat_map drop_text (take l.pair-index l.pairs)

@@ -1,5 +1,4 @@
 use Rattle.std.proofs.Common.{ap, ◌∙◌, ◌++◌, [], codes}
-use Rattle.std.specs.Prelude.{string_bytes}
 use Rattle.events.specs.Text.{prefix_field, number_field}
 use Rattle.replay_text.specs.Fields.{led}
 use Rattle.replay_text.proofs.LedFields.{more_led, more_next}
@@ -8,7 +7,7 @@ use Rattle.replay_text.proofs.rules.push_cube_fields.Goals as goal
 pub returns-clause-written : goal.returns-clause-written
 returns-clause-written c =
     let cube = c.args.cube.now in
-    let text = string_bytes c.args.text.now in
+    let text = c.args.text.now.items in
     let src = prefix_field (codes "srcip") cube.src in
     let dst = prefix_field (codes "dstip") cube.dst in
     let proto = number_field (codes "proto") c.widened.result in
@@ -23,11 +22,11 @@ returns-clause-written c =
     let n2 = c.in_ok-lead-2.lead.now in
     let n3 = c.in_ok-lead-3.lead.now in
     let n4 = c.in_ok-lead-4.lead.now in
-    let t1 = string_bytes c.push_prefix_field.new.text in
-    let t2 = string_bytes c.push_prefix_field-2.new.text in
-    let t3 = string_bytes c.push_number_field.new.text in
-    let t4 = string_bytes c.push_number_field-2.new.text in
-    let t5 = string_bytes c.push_number_field-3.new.text in
+    let t1 = c.push_prefix_field.new.text.items in
+    let t2 = c.push_prefix_field-2.new.text.items in
+    let t3 = c.push_number_field.new.text.items in
+    let t4 = c.push_number_field-2.new.text.items in
+    let t5 = c.push_number_field-3.new.text.items in
     let led2 = more_led text t1 t2 [] n1 src dst one.written one.next two.written in
     let next2 = more_next [] n1 n2 src dst one.next two.next in
     let led3 = more_led text t2 t3 [] n2 (src ++ dst) proto led2 next2 three.written in
