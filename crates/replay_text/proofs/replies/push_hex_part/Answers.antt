@@ -1,5 +1,5 @@
 -- The digits are those of the library.
-use Rattle.std.proofs.Common.{◌≡◌, ◌*◌, ◌++◌, ap, ◌∙◌, List, ℕ, Result, Ok, Err, arith, rules, length}
+use Rattle.std.proofs.Common.{◌++◌, ap, ◌∙◌, List, ℕ, Result, Ok, Err, arith, rules}
 use Rattle.std.proofs.lemmas.List.{length-take-le}
 use Rattle.std.specs.Prelude.{IsOk, OnOk}
 use Rattle.replay_text.proofs.HexFields.{hex_text-encode}
