@@ -3,6 +3,8 @@ ghost use Rattle.std.specs.Prelude.{◌≡◌, ◌≢◌, ◌+◌, ◌∷◌, []
 ghost use Rattle.std.specs.List.{position_from};
 ghost use Rattle.events.specs.Lines.{pieces};
 
+use memchr::memchr;
+
 /// What stands before the first separator and what stands behind it.
 pub fn split_once(text: &[u8], separator: u8) -> Option<(&[u8], &[u8])>
     ensures pieces { MatchOption result (pieces separator text.now ≡ text.now ∷ []) (λ p. pieces separator text.now ≡ p.0.now ∷ pieces separator p.1.now) }
@@ -10,7 +12,7 @@ pub fn split_once(text: &[u8], separator: u8) -> Option<(&[u8], &[u8])>
     ensures before { IfSome result (λ p. p.0.now ≡ take (length p.0.now) text.now) }
     ensures behind { IfSome result (λ p. p.1.now ≡ drop (length p.0.now + 1) text.now) }
 {
-    match text.iter().position(|c| *c == separator) {
+    match memchr(separator, text) {
         Some(at) => Some((&text[..at], &text[at + 1..])),
         None => None,
     }
