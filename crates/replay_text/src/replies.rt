@@ -1,12 +1,12 @@
 //! Writing what a reply says, line by line.
 ghost use Rattle.std.specs.Prelude.{◌≡◌, ◌≤◌, ◌++◌, OnOk, length, codes, flat_map};
 ghost use Rattle.std.specs.Fmt.{decimal};
-ghost use Rattle.events.specs.Text.{head_text, kind_word, refusal_text, tag_text, drop_text, pair_text, end_line, flow_text, add_text, rule_line, hex_text, advert_text, ask_text, exchange_text, frame_text};
+ghost use Rattle.events.specs.Text.{head_text, kind_word, refusal_text, tag_text, drop_text, end_line, flow_text, add_text, rule_line, hex_text, advert_text, ask_text, exchange_text, frame_text};
 ghost use Rattle.replay_text.specs.Fields.{pair_rule_text};
 ghost use Rattle.replay_text.specs.ReplyTexts.{before_rules, behind_rules};
 
 use super::front::Front;
-use super::rules::{LastActions, push_address, push_number, push_prefix, push_rule};
+use super::rules::{LastActions, push_address, push_number, push_rule};
 use events::{Event, Exchange, Flow, Frame, Head, Refusal, Reply, TagChange};
 use net_types::{Bytes, Kind, Memory, Pair};
 
@@ -118,14 +118,16 @@ fn push_tag(text: &mut Vec<u8>, change: TagChange) -> Result<(), Memory>
             line.number(u64::from(tag.0));
             line.sign(b' ');
             line.prefix(change.prefix);
-            text.extend_from_slice(b"  tag ")?;
+            line.word(b"  tag ");
             text.extend_from_slice(line.text())?;
             Ok(())
         }
         None => {
-            text.extend_from_slice(b"  untag ")?;
-            push_prefix(text, change.prefix)?;
-            text.push(b'\n')?;
+            let mut line = Front::new();
+            line.sign(b'\n');
+            line.prefix(change.prefix);
+            line.word(b"  untag ");
+            text.extend_from_slice(line.text())?;
             Ok(())
         }
     }
@@ -140,18 +142,14 @@ fn push_tags(text: &mut Vec<u8>, changes: &[TagChange]) -> Result<(), Memory>
     Ok(())
 }
 
-fn push_pair(text: &mut Vec<u8>, pair: Pair) -> Result<(), Memory>
-    ensures { OnOk result (text.new.items ≡ text.old.items ++ pair_text pair) }
-{
-    push_two(text, u64::from(pair.port.0), u64::from(pair.tag.0))
-}
-
 fn push_drop(text: &mut Vec<u8>, pair: Pair) -> Result<(), Memory>
     ensures { OnOk result (text.new.items ≡ text.old.items ++ drop_text pair) }
 {
-    text.extend_from_slice(b"  drop ")?;
-    push_pair(text, pair)?;
-    text.push(b'\n')?;
+    let mut line = Front::new();
+    line.sign(b'\n');
+    line.pair(pair);
+    line.word(b"  drop ");
+    text.extend_from_slice(line.text())?;
     Ok(())
 }
 
@@ -162,6 +160,7 @@ fn push_hex_part(text: &mut Vec<u8>, part: &[u8]) -> Result<(), Memory>
 {
     let mut room = [0; 2 * PART];
     let digits = &mut room[..2 * part.len()];
+    // It never fails: the digits have just the room that they take.
     let _ = hex::encode_to_slice(part, digits);
     text.extend_from_slice(digits)?;
     Ok(())
@@ -191,9 +190,11 @@ fn push_advert(text: &mut Vec<u8>, octets: &[u8]) -> Result<(), Memory>
 fn push_frame(text: &mut Vec<u8>, frame: &Frame) -> Result<(), Memory>
     ensures { OnOk result (text.new.items ≡ text.old.items ++ frame_text frame.now) }
 {
-    text.extend_from_slice(b"  out ")?;
-    push_number(text, u64::from(frame.port.0))?;
-    text.push(b' ')?;
+    let mut front = Front::new();
+    front.sign(b' ');
+    front.number(u64::from(frame.port.0));
+    front.word(b"  out ");
+    text.extend_from_slice(front.text())?;
     push_hex(text, frame.bytes.items())?;
     text.push(b'\n')?;
     Ok(())
@@ -208,16 +209,21 @@ fn push_drops(text: &mut Vec<u8>, pairs: &[Pair]) -> Result<(), Memory>
     Ok(())
 }
 
-/// Writes a pair and a rule behind the first word of a line, and the line's end.
+/// Writes the line of a pair and a rule behind this first word.
 fn push_pair_rule<'a>(
     text: &mut Vec<u8>,
+    word: &[u8],
     flow: &'a Flow,
     last: &mut Option<LastActions<'a>>,
 ) -> Result<(), Memory>
-    ensures { OnOk result (text.new.items ≡ text.old.items ++ pair_rule_text flow.now) }
+    requires { length word.now ≤ 100 }
+    ensures { OnOk result (text.new.items ≡ text.old.items ++ (word.now ++ pair_rule_text flow.now)) }
 {
-    push_pair(text, flow.pair)?;
-    text.push(b' ')?;
+    let mut front = Front::new();
+    front.sign(b' ');
+    front.pair(flow.pair);
+    front.word(word);
+    text.extend_from_slice(front.text())?;
     push_rule(text, &flow.rule, last)?;
     text.push(b'\n')?;
     Ok(())
@@ -230,8 +236,7 @@ fn push_flow<'a>(
 ) -> Result<(), Memory>
     ensures { OnOk result (text.new.items ≡ text.old.items ++ flow_text flow.now) }
 {
-    text.extend_from_slice(b"  flow ")?;
-    push_pair_rule(text, flow, last)
+    push_pair_rule(text, b"  flow ", flow, last)
 }
 
 fn push_add<'a>(
@@ -241,8 +246,7 @@ fn push_add<'a>(
 ) -> Result<(), Memory>
     ensures { OnOk result (text.new.items ≡ text.old.items ++ add_text flow.now) }
 {
-    text.extend_from_slice(b"  add ")?;
-    push_pair_rule(text, flow, last)
+    push_pair_rule(text, b"  add ", flow, last)
 }
 
 /// Writes a rule in the reply to an event, which says whether it is shown or put in.
@@ -320,8 +324,10 @@ fn push_frames(text: &mut Vec<u8>, frames: &[Frame]) -> Result<(), Memory>
 pub fn push_before_rules(text: &mut Vec<u8>, number: u32, reply: &Reply) -> Result<(), Memory>
     ensures { OnOk result (text.new.items ≡ text.old.items ++ before_rules number reply.now) }
 {
-    push_number(text, u64::from(number))?;
-    text.push(b' ')?;
+    let mut front = Front::new();
+    front.sign(b' ');
+    front.number(u64::from(number));
+    text.extend_from_slice(front.text())?;
     push_head(text, reply.head)?;
     text.push(b'\n')?;
     push_tags(text, reply.tags.items())?;
