@@ -224,6 +224,14 @@ fn prefixes_answer_as_a_list(rt: HostRuntime) -> Result<(), Fail> {
         );
         if round % 50 == 0 {
             assert!(rt; same_entries(&map, &slow), "round {round}");
+            let entries = map.entries()?;
+            assert!(rt;
+                entries
+                    .iter()
+                    .map(|entry| (entry.0, *entry.1))
+                    .eq(map.iter().map(|entry| (entry.0, *entry.1))),
+                "round {round}"
+            );
         }
     }
     Ok(())

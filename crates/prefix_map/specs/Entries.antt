@@ -1,5 +1,5 @@
 -- The entries of a trie in ascending order of their prefixes, and what is read and left of them.
-use Rattle.std.specs.Prelude.{Option, None, Some, List, [], ◌∷◌, ◌++◌, not, nat_lt, if◌then◌else◌}
+use Rattle.std.specs.Prelude.{Option, None, Some, List, [], ◌∷◌, ◌++◌, map, not, nat_lt, if◌then◌else◌}
 use Rattle.std.specs.Borrow.{Bor}
 use Rattle.std.specs.Ordering.{eq_by_cmp, is_lt}
 use Rattle.std.specs.FinMap.Entries.{where_key}
@@ -42,6 +42,10 @@ left_after (Some last) es = above last es
 -- an entry whose value is lent
 abbrev pub seen_entry : {V : Type 0} → Prefix × Bor V → Prefix × V
 seen_entry e = (e.0, e.1.now)
+
+-- entries whose values are lent
+abbrev pub seen_entries : {V : Type 0} → List (Prefix × Bor V) → List (Prefix × V)
+seen_entries es = map seen_entry es
 
 -- the entry with the longer prefix, the first where they are alike
 abbrev pub longer_entry : {V : Type 0} → Option (Prefix × V) → Option (Prefix × V) → Option (Prefix × V)

@@ -5,11 +5,12 @@ ghost use Rattle.std.specs.FinMap as map;
 ghost use Rattle.std.specs.Option.{option_map};
 ghost use Rattle.net_types.specs.Prefixes.{covers};
 ghost use Rattle.net_types.specs.Routes.{longest_of};
+ghost use Rattle.prefix_map.specs.Entries.{seen_entries};
 
 use crate::change::{put_in, take_from};
 use crate::iter::Iter;
 use crate::spare::fill;
-use crate::trie::{Node, Trie, longest_in, value_of};
+use crate::trie::{Node, Trie, gather, longest_in, value_of};
 use net_types::{Ip, Memory, Prefix};
 use std::alloc::Global;
 use std::marker::Model;
@@ -87,6 +88,15 @@ impl<V> PrefixMap<V> {
         ensures { result ≡ map.entries self.now.map }
     {
         Iter::new(&self.trie)
+    }
+
+    /// The prefixes with their values, ascending by address, and then by length: all in one walk, as a list.
+    pub fn entries(&self) -> Result<Vec<(Prefix, &V)>, Memory>
+        ensures { IfOk result (λ entries. seen_entries entries.items ≡ map.entries self.now.map) }
+    {
+        let mut entries = Vec::with_capacity(self.alloc, self.count)?;
+        gather(&self.trie, &mut entries)?;
+        Ok(entries)
     }
 }
 

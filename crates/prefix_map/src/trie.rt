@@ -1,17 +1,17 @@
 //! A binary trie: each node has a prefix, whose lower half holds the prefixes on one side of it, and whose upper half those
 //! on the other.
 
-ghost use Rattle.std.specs.Prelude.{◌≡◌, [], option_copied};
+ghost use Rattle.std.specs.Prelude.{◌≡◌, ◌++◌, [], OnOk, option_copied};
 ghost use Rattle.std.specs.Bool.{OnTrue};
 ghost use Rattle.std.specs.Option.{option_map};
 ghost use Rattle.std.specs.FinMap.Entries.{find};
 ghost use Rattle.net_types.specs.Keys.{prefix_cmp};
-ghost use Rattle.prefix_map.specs.Entries.{entries_of, above, seen_entry, longest_entry, entry_or};
+ghost use Rattle.prefix_map.specs.Entries.{entries_of, own, above, seen_entry, seen_entries, longest_entry, entry_or};
 ghost use Rattle.net_types.specs.Routes.{first_of_list};
 ghost use Rattle.prefix_map.specs.Tries.{IsTrie};
 
 use crate::place::is_below;
-use net_types::{Ip, Prefix};
+use net_types::{Ip, Memory, Prefix};
 
 #[cycle(trie)]
 #[derive(Drop)]
@@ -159,4 +159,40 @@ pub(crate) fn next_after<V>(trie: &Trie<V>, key: Prefix) -> Option<(Prefix, &V)>
             }
         }
     }
+}
+
+/// Puts the entries of a trie last, in ascending order of their prefixes.
+pub(crate) fn gather<'a, V>(
+    trie: &'a Trie<V>,
+    entries: &mut Vec<(Prefix, &'a V)>,
+) -> Result<(), Memory>
+    ensures { OnOk result (seen_entries entries.new.items ≡ seen_entries entries.old.items ++ entries_of trie.now) }
+{
+    match trie {
+        Trie::Empty => Ok(()),
+        Trie::Lone { at, value } => {
+            entries.push((*at, value))?;
+            Ok(())
+        }
+        Trie::Fork(node) => {
+            let node = &**node;
+            push_own(node.at, &node.held, entries)?;
+            gather(&node.low, entries)?;
+            gather(&node.high, entries)
+        }
+    }
+}
+
+/// Puts a prefix last where it has a value.
+fn push_own<'a, V>(
+    at: Prefix,
+    held: &'a Option<V>,
+    entries: &mut Vec<(Prefix, &'a V)>,
+) -> Result<(), Memory>
+    ensures { OnOk result (seen_entries entries.new.items ≡ seen_entries entries.old.items ++ own at held.now) }
+{
+    if let Some(value) = held {
+        entries.push((at, value))?;
+    }
+    Ok(())
 }
