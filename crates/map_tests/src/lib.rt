@@ -8,4 +8,6 @@ mod changes;
 #[cfg(test)]
 mod large;
 #[cfg(test)]
+mod leaving;
+#[cfg(test)]
 mod prefixes;

@@ -83,7 +83,7 @@ module _ {K X : Type 0} (R : K → K → Ordering) where
   given_past q l e r p more None = refl
   given_past q l e r p more (Some v) = put_past q v l (e ∷ r) p ∙ ap (λ s. l ++ by_order s ((q, v) ∷ e ∷ r) ((e.0, v) ∷ r) (e ∷ put R q v r)) more
 
-  without_past : (q : K) (l m : List (K × X)) → IsPast q l → without R q (l ++ m) ≡ l ++ without R q m
+  pub without_past : (q : K) (l m : List (K × X)) → IsPast q l → without R q (l ++ m) ≡ l ++ without R q m
   without_past q [] m p = refl
   without_past q (e ∷ l) m p =
       ap (λ r. cond (not (is_eq r)) (e ∷ without R q (l ++ m)) (without R q (l ++ m))) p.0
@@ -119,7 +119,7 @@ module _ {K X : Type 0} (R : K → K → Ordering) where
   given_before q l m h None = refl
   given_before q l m h (Some v) = put_before q v l m h
 
-  without_before : (q : K) (l m : List (K × X)) → below_all R q m ≡ true → without R q (l ++ m) ≡ without R q l ++ m
+  pub without_before : (q : K) (l m : List (K × X)) → below_all R q m ≡ true → without R q (l ++ m) ≡ without R q l ++ m
   without_before q [] [] h = refl
   without_before q [] (e ∷ m) h =
       let parts = and_parts (is_lt (R q e.0)) (below_all R q m) h in

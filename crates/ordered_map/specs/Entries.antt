@@ -35,6 +35,11 @@ put_given R q (Some v) es = put R q v es
 abbrev pub without : {K V : Type 0} → (K → K → Ordering) → K → List (K × V) → List (K × V)
 without R q es = where_key R (λ x. not (eq_by_cmp R q x)) es
 
+-- the entries without each of these keys, one after the other
+abbrev pub without_each : {K V : Type 0} → (K → K → Ordering) → List K → List (K × V) → List (K × V)
+without_each R [] es = es
+without_each R (q ∷ qs) es = without_each R qs (without R q es)
+
 -- the entries with greater keys
 abbrev pub above : {K V : Type 0} → (K → K → Ordering) → K → List (K × V) → List (K × V)
 above R q es = where_key R (λ x. is_lt (R q x)) es

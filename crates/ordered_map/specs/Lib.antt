@@ -3,3 +3,5 @@ pub mod Held
 pub mod Kept
 pub mod Changes
 pub mod Lapsed
+pub mod Parted
+pub mod Weights

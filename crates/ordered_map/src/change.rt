@@ -232,8 +232,8 @@ pub(crate) fn change_or_take<K: Ord + Drop, V: Lapse + Drop, C: Change<V>>(
     }
 }
 
-// Takes the entry of the root out, and hands out its value.
-fn take_root<K: Drop, V: Drop>(
+/// Takes the entry of the root out, and hands out its value.
+pub(crate) fn take_root<K: Drop, V: Drop>(
     tree: &mut Tree<K, V>,
     spare: &mut Vec<Box<Node<K, V>>>,
     taken: &mut Option<V>,

@@ -4,11 +4,14 @@
 mod balance;
 mod change;
 mod iter;
+mod keys;
+mod leaving;
 mod map;
 mod spare;
 mod tree;
 mod values;
 
 pub use iter::Iter;
+pub use leaving::Tally;
 pub use map::OrderedMap;
 pub use values::{Change, Lapse};

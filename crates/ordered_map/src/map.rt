@@ -1,15 +1,18 @@
 //! The map: a tree of entries, and boxes that wait for more.
 
-ghost use Rattle.std.specs.Prelude.{◌≡◌, ◌≤◌, ◌<◌, ◌+◌, [], None, IsTrue, IsOk, OnOk, OnErr, IfOk, option_copied, is_some, length, drop, map, take, if◌then◌else◌};
+ghost use Rattle.std.specs.Prelude.{◌≡◌, ◌≤◌, ◌<◌, ◌+◌, ◌^◌, [], None, IsTrue, IsOk, OnOk, OnErr, IfOk, option_copied, is_some, length, drop, map, take, if◌then◌else◌};
 ghost use Rattle.std.specs.Option.{option_map};
 ghost use Rattle.std.specs.Map.Iter.{deref_pair};
 ghost use Rattle.std.specs.FinMap.Entries.{find, put, is_sorted};
 ghost use Rattle.ordered_map.specs.Changes.{changed_all, changed_at, changed_or_put};
 ghost use Rattle.ordered_map.specs.Lapsed.{changed_or_without};
-ghost use Rattle.ordered_map.specs.Entries.{without, above, head_of};
+ghost use Rattle.ordered_map.specs.Entries.{without, without_each, above, head_of};
+ghost use Rattle.ordered_map.specs.Weights.{weigh};
 
 use crate::change::{change_or_put_in, change_or_take, put_in, take_from, take_least};
 use crate::iter::Iter;
+use crate::keys::rise;
+use crate::leaving::{Tally, Untold, take_each, take_in_turn};
 use crate::spare::fill;
 use crate::tree::{Node, Tree, first, gather, next_after, value_of};
 use crate::values::{Change, Lapse, change_all, change_at};
@@ -210,6 +213,31 @@ impl<K: Ord + Drop, V: Drop> OrderedMap<K, V> {
             self.count -= 1;
         }
         before
+    }
+
+    /// Takes these keys out: where they rise, in one walk. It takes no memory.
+    pub fn remove_each(&mut self, keys: &[K])
+        ensures items { self.new.items ≡ without_each K.cmp keys.now self.old.items }
+        ensures rising { IsTrue (is_sorted K.cmp self.new.items) }
+        ensures room { self.old.room ≤ self.new.room }
+    {
+        self.remove_counted(keys, &mut Untold);
+    }
+
+    /// Takes these keys out, and counts their values: where they rise, in one walk. It takes no memory.
+    pub fn remove_counted<T: Tally<V>>(&mut self, keys: &[K], tally: &mut T)
+        requires few { T.total tally.old + weigh T.weight self.old.items < 2 ^ 64 }
+        ensures items { self.new.items ≡ without_each K.cmp keys.now self.old.items }
+        ensures rising { IsTrue (is_sorted K.cmp self.new.items) }
+        ensures tally { T.total tally.new + weigh T.weight self.new.items ≡ T.total tally.old + weigh T.weight self.old.items }
+        ensures room { self.old.room ≤ self.new.room }
+    {
+        let (tree, spare) = (&mut self.tree, &mut self.spare);
+        if rise(keys) {
+            take_each(tree, spare, keys, &mut self.count, tally);
+        } else {
+            take_in_turn(tree, spare, keys, &mut self.count, tally);
+        }
     }
 
     /// Takes the entry with the least key out. It takes no memory.
