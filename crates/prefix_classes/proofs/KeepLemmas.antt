@@ -1,5 +1,5 @@
 -- Tags without members: at first, and when one is kept or forgotten. The prefixes that one tag is given to.
-use Rattle.std.proofs.Common.{◌≡◌, ℕ, suc, ◌+◌, ◌<◌, ◌≤◌, ◌||◌, Bool, true, false, cond, List, [], ◌∷◌, length, get_or, drop, drop-cons, sym, ap, ◌∙◌, refl, arith}
+use Rattle.std.proofs.Common.{◌≡◌, ℕ, suc, ◌+◌, ◌<◌, ◌≤◌, ◌||◌, Bool, true, false, cond, List, [], ◌∷◌, length, get_or, drop, drop-cons, sym, ap, ◌∙◌, refl, arith, inl, inr}
 use Rattle.std.specs.Prelude.{Option, Some, None, is_some}
 use Rattle.std.specs.List.{list_any}
 use Rattle.std.specs.Ordering.{eq_by_cmp}
@@ -13,10 +13,10 @@ use Rattle.net_types.specs.Keys.{prefix_cmp, tag_cmp}
 use Rattle.net_types.specs.declared.address.Tag.{Tag}
 use Rattle.net_types.specs.declared.prefix.Prefix.{Prefix}
 use Rattle.net_types.specs.declared.route.Part.{Part}
-use Rattle.ordered_map.specs.Entries.{without}
+use Rattle.ordered_map.specs.Entries.{without, without_each}
 use Rattle.prefix_classes.proofs.CountLemmas.{sig_in, get-sigs, find_not_kept, tied}
 use Rattle.prefix_classes.proofs.MemberLemmas.{members-empty}
-use Rattle.prefix_classes.specs.Classes.{given, members, missing, new_ones}
+use Rattle.prefix_classes.specs.Classes.{HaveNoMembers, forgotten, given, members, missing, new_ones}
 use Rattle.prefix_classes.specs.Counts.{counted, members_of, sigs_of, IsCounted}
 use Rattle.prefix_classes.specs.declared.members.Kept.{Kept}
 
@@ -67,6 +67,14 @@ forget_none m es t kept is same no_members =
           ∙ ap (cond (eq_by_cmp tag_cmp q t) None) (sym (get-sigs es q is.sorted) ∙ ap (λ n. get n q) same)
           ∙ sym (get-remove tags_total kept t q)),
     )
+
+-- so are all that no prefix has
+pub forget_all_none : (m : FinMap prefix_cmp Tag) (ts : List Tag) (es : List (Tag × Kept)) (kept : FinMap tag_cmp (List Part)) → IsCounted m es → sigs_of es ≡ kept → HaveNoMembers m ts
+    → IsCounted m (without_each tag_cmp ts es) × (sigs_of (without_each tag_cmp ts es) ≡ forgotten kept ts)
+forget_all_none m [] es kept is same none = (is, same)
+forget_all_none m (t ∷ ts) es kept is same none =
+    let one = forget_none m es t kept is same (none t (inl refl)) in
+    forget_all_none m ts (without tag_cmp t es) (remove kept t) one.0 one.1 (λ u there. none u (inr there))
 
 -- a tag that was just kept is there
 pub kept_itself : (kept : FinMap tag_cmp (List Part)) (t : Tag) (sig : List Part) → is_some (get (insert kept t sig) t) ≡ true

@@ -45,7 +45,7 @@ all_pass [] = refl
 all_pass (x ∷ xs) = ap (λ ys. x ∷ ys) (all_pass xs)
 
 -- the first key is smaller than one that is found behind it
-below_found : (x q : Tag) (es : List (Tag × Kept)) → below_all tag_cmp x es ≡ true → 0 < counted es q → x.0 < q.0
+pub below_found : (x q : Tag) (es : List (Tag × Kept)) → below_all tag_cmp x es ≡ true → 0 < counted es q → x.0 < q.0
 below_found x q [] below some = absurd (omega arith)
 below_found x q (e ∷ es) below some = by (eq_by_cmp tag_cmp q e.0) refl (λ later. below_found x q es (and_parts (is_lt (tag_cmp x e.0)) (below_all tag_cmp x es) below).1 later)
   where

@@ -1,9 +1,10 @@
 -- The tags of prefixes, and the signatures that are kept for tags (this exchange's own rule).
-use Rattle.std.specs.Prelude.{ℕ, ◌+◌, ◌<◌, ◌≤◌, List, [], ◌∷◌, Option, Some, None, IfSome, if◌then◌else◌}
+use Rattle.std.specs.Prelude.{◌≡◌, ℕ, ◌+◌, ◌<◌, ◌≤◌, Bool, nat_lt, List, [], ◌∷◌, Option, Some, None, IfSome, if◌then◌else◌}
 use Rattle.std.specs.List.{list_any}
 use Rattle.std.specs.Ordering.{eq_by_cmp}
-use Rattle.std.specs.FinMap.{FinMap, entries, get, insert}
+use Rattle.std.specs.FinMap.{FinMap, entries, get, insert, remove}
 use Rattle.net_types.specs.Keys.{prefix_cmp, tag_cmp}
+use Rattle.net_types.specs.Sets.{IsRising, Member}
 use Rattle.net_types.specs.declared.address.Tag.{Tag}
 use Rattle.net_types.specs.declared.prefix.Prefix.{Prefix}
 use Rattle.net_types.specs.declared.route.Part.{Part}
@@ -57,3 +58,22 @@ pub record IsNextTag (m : FinMap prefix_cmp Tag) (after : Option Tag) (t : Tag) 
   pub used : 0 < members m t
   pub above : IsAbove after t
   pub least : (u : Tag) → 0 < members m u → IsAbove after u → t.0 ≤ u.0
+
+-- the signatures without those of these tags
+abbrev pub forgotten : FinMap tag_cmp (List Part) → List Tag → FinMap tag_cmp (List Part)
+forgotten kept [] = kept
+forgotten kept (t ∷ ts) = forgotten (remove kept t) ts
+
+-- no prefix has one of these tags
+abbrev pub HaveNoMembers : FinMap prefix_cmp Tag → List Tag → Type 0
+HaveNoMembers m ts = (t : Tag) → Member t ts → members m t ≡ 0
+
+-- one tag is less than another
+abbrev pub is_less : Tag → Tag → Bool
+is_less t u = nat_lt t.0 u.0
+
+-- the tags that have members, ascending
+pub record AreUsedTags (m : FinMap prefix_cmp Tag) (ts : List Tag) : Type 0 where
+  pub rising : IsRising is_less ts
+  pub used : (t : Tag) → Member t ts → 0 < members m t
+  pub all : (t : Tag) → 0 < members m t → Member t ts

@@ -1,5 +1,5 @@
 -- The numbers of members beside the tags of prefixes.
-use Rattle.std.specs.Prelude.{◌≡◌, ℕ, ◌+◌, nat_lt, Bool, true, List, map, Option, Some, None}
+use Rattle.std.specs.Prelude.{◌≡◌, ℕ, ◌+◌, nat_lt, Bool, true, List, filter, map, Option, Some, None}
 use Rattle.std.specs.FinMap.{FinMap, from_sorted}
 use Rattle.std.specs.FinMap.Entries.{find, is_sorted}
 use Rattle.net_types.specs.Keys.{prefix_cmp, tag_cmp}
@@ -25,6 +25,10 @@ tag_of e = e.0
 -- the entry's tag has members
 abbrev pub has_members : Tag × Kept → Bool
 has_members e = nat_lt 0 e.1.members
+
+-- the tags of those entries whose tags have members
+abbrev pub used_in : List (Tag × Kept) → List Tag
+used_in es = map tag_of (filter has_members es)
 
 -- the entry's tag is greater than this one, where there is one
 abbrev pub is_above : Option Tag → Tag × Kept → Bool

@@ -5,13 +5,13 @@ ghost use Rattle.std.specs.FinMap as map;
 ghost use Rattle.std.specs.Option.{option_map};
 ghost use Rattle.net_types.specs.Signatures.{trimmed};
 ghost use Rattle.net_types.specs.declared.address.Tag.{Tag as AnyTag};
-ghost use Rattle.prefix_classes.specs.Classes.{IsAbove, IsNextTag, given, members, missing, new_ones};
+ghost use Rattle.prefix_classes.specs.Classes.{AreUsedTags, HaveNoMembers, IsAbove, IsNextTag, forgotten, given, members, missing, new_ones};
 ghost use Rattle.prefix_classes.specs.Merging.{IsFull, IsMergeOf, moved};
 
 use crate::grouping::Grouping;
 use crate::members::{Kept, lower, move_member, raise};
 use crate::moves::{Moves, moves_by};
-use crate::next::first_used;
+use crate::next::{all_used, first_used};
 use crate::trimming::trim_all;
 use net_types::{Memory, Pid, Prefix, Sig, Tag};
 use ordered_map::OrderedMap;
@@ -109,6 +109,13 @@ impl ClassMap {
         first_used(&self.kept, after)
     }
 
+    /// The tags that have members, ascending: all in one walk over the kept tags. Memory is the only refusal.
+    pub fn used_tags(&self) -> Result<Vec<Tag>, Memory>
+        ensures { IfOk result (λ tags. AreUsedTags self.now.tag tags.items) }
+    {
+        all_used(self.alloc, &self.kept)
+    }
+
     /// How many prefixes have a tag.
     pub fn carried(&self) -> usize
         ensures { result ≡ length (map.entries self.now.tag) }
@@ -162,6 +169,18 @@ impl ClassMap {
         ensures tags { self.old.tags ≤ self.new.tags }
     {
         self.kept.remove(&tag);
+    }
+
+    /// Forgets tags without members, where they are kept: where they rise, in one walk. There is room for no fewer new tags
+    /// than before.
+    pub fn forget_each(&mut self, tags: &[Tag])
+        requires { HaveNoMembers self.old.tag tags.now }
+        ensures tag { self.new.tag ≡ self.old.tag }
+        ensures kept { self.new.kept ≡ forgotten self.old.kept tags.now }
+        ensures prefixes { self.new.prefixes ≡ self.old.prefixes }
+        ensures tags { self.old.tags ≤ self.new.tags }
+    {
+        self.kept.remove_each(tags);
     }
 
     /// Takes out of a sender's part in each kept signature the offers that are neither the best one's nor those of

@@ -48,7 +48,7 @@ pub(crate) fn moves_by(
 {
     let firsts = grouping.firsts()?;
     let mut moves = Vec::new(alloc);
-    for (prefix, &tag) in tags.iter() {
+    for (prefix, &tag) in tags.entries()? {
         let least = grouping.least_beside(&firsts, tag);
         if least != tag {
             moves.push((prefix, least))?;

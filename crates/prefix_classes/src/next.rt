@@ -1,12 +1,13 @@
-//! The next one of the tags that have members.
+//! The next one of the tags that have members, and all of them.
 
-ghost use Rattle.std.specs.Prelude.{◌≡◌, filter, find};
+ghost use Rattle.std.specs.Prelude.{◌≡◌, IfOk, filter, find};
 ghost use Rattle.std.specs.Option.{option_map};
-ghost use Rattle.prefix_classes.specs.Counts.{has_members, is_above, tag_of};
+ghost use Rattle.prefix_classes.specs.Counts.{has_members, is_above, tag_of, used_in};
 
 use crate::members::Kept;
-use net_types::Tag;
+use net_types::{Memory, Tag};
 use ordered_map::{Iter, OrderedMap};
+use std::alloc::Global;
 
 /// The first tag with members, of all or of the greater ones.
 pub(crate) fn first_used(kept: &OrderedMap<Tag, Kept>, after: Option<Tag>) -> Option<Tag>
@@ -28,4 +29,18 @@ fn first_with_members(entries: Iter<'_, Tag, Kept>) -> Option<Tag>
         }
     }
     None
+}
+
+/// The tags with members, in their order.
+pub(crate) fn all_used(alloc: Global, kept: &OrderedMap<Tag, Kept>) -> Result<Vec<Tag>, Memory>
+    ensures { IfOk result (λ tags. tags.items ≡ used_in kept.now.items) }
+{
+    let entries = kept.first_entries(kept.len())?;
+    let mut tags = Vec::new(alloc);
+    for (tag, held) in entries.as_slice() {
+        if held.members > 0 {
+            tags.push(**tag)?;
+        }
+    }
+    Ok(tags)
 }
