@@ -11,6 +11,7 @@ mod ProposalLaws
 mod DownLaws
 mod ExportLaws
 mod ChoiceLaws
+mod AloneLaws
 mod CompareSteps
 mod BestLaws
 mod ShortPaths

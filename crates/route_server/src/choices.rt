@@ -3,7 +3,7 @@
 //! What the choice sees of a route is the same for all participants, and so is found once a row. Participants, one after
 //! another, to whom the same routes are given share the decision.
 
-ghost use Rattle.std.specs.Prelude.{◌≡◌, List, slice_get, IfOk, OnOk};
+ghost use Rattle.std.specs.Prelude.{◌≡◌, ◌∷◌, [], List, slice_get, IfOk, OnOk};
 ghost use Rattle.std.specs.List.{filter_map};
 ghost use Rattle.std.specs.Option.{option_and_then, option_copied, option_map};
 ghost use Rattle.net_types.specs.Exports.{Routing};
@@ -13,7 +13,7 @@ ghost use Rattle.route_server.specs.Rows.{held_by, held_at, offered, settled_by}
 ghost use Rattle.route_server.specs.declared.held.Held.{Held};
 
 use crate::held::Held;
-use crate::rows::{asn_of, is_given_in, seen_of};
+use crate::rows::{asn_of, is_given, is_given_in, seen_of};
 use crate::terms::Terms;
 use decision::{Candidate, best};
 use net_types::{Memory, Pid, Prefix};
@@ -125,8 +125,8 @@ fn choose(
     Ok(desk.choice)
 }
 
-/// The place of each participant's best route in a row.
-pub fn chosen_in(
+/// The place of each participant's best route in a row of several.
+fn chosen_among(
     alloc: Global,
     terms: Terms<'_>,
     row: &[Held],
@@ -148,6 +148,49 @@ pub fn chosen_in(
         places.push(place)?;
     }
     Ok(places)
+}
+
+/// The place of a participant's best route in a row of this one.
+fn place_alone(terms: Terms<'_>, only: &Held, to: Pid, prefix: Prefix) -> Option<usize>
+    ensures { option_and_then (held_at (settled_by terms.entry) (only.now ∷ [])) result ≡ best_of (offered (settled_by terms.entry) to prefix (only.now ∷ [])) }
+{
+    if is_given(terms, only, to, prefix) {
+        Some(0)
+    } else {
+        None
+    }
+}
+
+/// The place of each participant's best route in a row of this one: it is the best where it is given.
+fn chosen_alone(
+    alloc: Global,
+    terms: Terms<'_>,
+    only: &Held,
+    prefix: Prefix,
+) -> Result<Vec<Option<usize>>, Memory>
+    ensures { IfOk result (λ places. AreChosen (settled_by terms.entry) prefix (only.now ∷ []) places.items) }
+{
+    let count = terms.names.participants().len() as u32;
+    let mut places = Vec::with_capacity(alloc, count as usize)?;
+    for number in 0..count {
+        places.push(place_alone(terms, only, Pid(number), prefix))?;
+    }
+    Ok(places)
+}
+
+/// The place of each participant's best route in a row.
+pub fn chosen_in(
+    alloc: Global,
+    terms: Terms<'_>,
+    row: &[Held],
+    prefix: Prefix,
+) -> Result<Vec<Option<usize>>, Memory>
+    ensures { IfOk result (λ places. AreChosen (settled_by terms.entry) prefix row.now places.items) }
+{
+    match row {
+        [only] => chosen_alone(alloc, terms, only, prefix),
+        _ => chosen_among(alloc, terms, row, prefix),
+    }
 }
 
 /// A participant's place, where there is one.

@@ -12,9 +12,9 @@ ghost use Rattle.net_types.specs.declared.route.Attrs.{Attrs};
 ghost use Rattle.net_types.specs.declared.prefix.Prefix.{Prefix};
 ghost use Rattle.route_server.specs.Choices.{AreChosen};
 ghost use Rattle.route_server.specs.Repeated.{IsDone};
-ghost use Rattle.route_server.specs.Rows.{settled_by};
+ghost use Rattle.route_server.specs.Rows.{settled_by, signature_of};
 ghost use Rattle.route_server.specs.Served.{AreDeclared};
-ghost use Rattle.route_server.specs.Effects.{place_attrs, best_by_row, IsEffectOf, AreEffects, AreRowsOf, routing_after, routing_by};
+ghost use Rattle.route_server.specs.Effects.{place_attrs, best_by_row, IsEffectOf, AreEffects, AreRowsOf, routing_after, routing_by, same_by_rows};
 
 use crate::change::Change;
 use crate::choices::{chosen_in, held_in, place_of};
@@ -25,7 +25,7 @@ use crate::repeated::{Done, again, is_repeated, may_repeat, remembered};
 use crate::server::RouteServer;
 use crate::signature::{all_offers, signature_in};
 use crate::terms::Terms;
-use net_types::{Attrs, Memory, Pid, Prefix, same_optional};
+use net_types::{Attrs, Memory, Pid, Prefix, Sig, same_optional};
 use registry::Registry;
 use std::alloc::Global;
 use std::rc::Rc;
@@ -122,6 +122,34 @@ fn same_bests(
     true
 }
 
+/// Whether a change leaves the signature of its prefix and every participant's best attributes the same. A prefix that had
+/// no route and has a signature now is another, and no best route is looked for by the old row.
+fn is_same(
+    alloc: Global,
+    before: Terms<'_>,
+    old: &[Held],
+    after: Terms<'_>,
+    change: &Change,
+    sig: &Sig,
+    is: &[Option<usize>],
+) -> Result<bool, Memory>
+    requires names { after.names.now ≡ before.names.now }
+    requires sig { sig.now ≡ signature_of (settled_by after) change.now.prefix change.now.row }
+    requires chosen { AreChosen (settled_by after) change.now.prefix change.now.row is.now }
+    ensures { IfOk result (λ same. same ≡ same_by_rows (settled_by before.entry) (settled_by after.entry) change.now.prefix old.now change.now.row) }
+{
+    if old.is_empty() && !sig.is_empty() {
+        return Ok(false);
+    }
+    let prefix = change.prefix;
+    let earlier = chosen_in(alloc, before, old, prefix)?;
+    let was = earlier.as_slice();
+    let offers = all_offers(alloc, before, old)?;
+    let same_sig = is_signature(before, old, offers.as_slice(), prefix, was, sig.items());
+    let same_best = same_bests(before.names, old, was, change.row.items(), is);
+    Ok(both(same_sig, same_best))
+}
+
 /// What a change does, or nothing where all stays the same. Each participant's best route is decided once by the old row
 /// and once by the new one.
 fn effect_of(
@@ -137,15 +165,11 @@ fn effect_of(
 {
     let prefix = change.prefix;
     let row = change.row.items();
-    let earlier = chosen_in(alloc, before, old, prefix)?;
     let bests = chosen_in(alloc, after, row, prefix)?;
-    let was = earlier.as_slice();
     let is = bests.as_slice();
     let sig = signature_in(alloc, after, row, prefix, is)?;
-    let offers = all_offers(alloc, before, old)?;
-    let same_sig = is_signature(before, old, offers.as_slice(), prefix, was, sig.items());
-    let same_best = same_bests(before.names, old, was, row, is);
-    if both(same_sig, same_best) {
+    let same = is_same(alloc, before, old, after, change, &sig, is)?;
+    if same {
         return Ok(None);
     }
     Ok(Some(Effect {

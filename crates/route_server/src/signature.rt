@@ -157,6 +157,36 @@ fn part_in(
     }
 }
 
+/// The signature of a prefix that has this row, of which each participant's best route is at these places, by what all routes
+/// of the row offer.
+fn signature_by(
+    alloc: Global,
+    terms: Terms<'_>,
+    row: &[Held],
+    all: &[Offer],
+    prefix: Prefix,
+    places: &[Option<usize>],
+) -> Result<Sig, Memory>
+    requires offers { all.now ≡ offers_by_row (settled_by terms) row.now }
+    requires chosen { AreChosen (settled_by terms) prefix row.now places.now }
+    ensures { IfOk result (λ sig. sig ≡ signature_of (settled_by terms.entry) prefix row.now) }
+{
+    let count = terms.names.participants().len() as u32;
+    let mut sig = Sig::from_vec(Vec::with_capacity(alloc, count as usize)?);
+    for number in 0..count {
+        let to = Pid(number);
+        let place = place_of(places, to);
+        let part = part_in(alloc, terms, row, all, to, prefix, place)?;
+        match part {
+            Some(own) => {
+                sig.push(own)?;
+            }
+            None => {}
+        }
+    }
+    Ok(sig)
+}
+
 /// The signature of a prefix that has this row, of which each participant's best route is at these places.
 pub fn signature_in(
     alloc: Global,
@@ -168,19 +198,10 @@ pub fn signature_in(
     requires { AreChosen (settled_by terms) prefix row.now places.now }
     ensures { IfOk result (λ sig. sig ≡ signature_of (settled_by terms.entry) prefix row.now) }
 {
-    let all = all_offers(alloc, terms, row)?;
-    let count = terms.names.participants().len() as u32;
-    let mut sig = Sig::from_vec(Vec::with_capacity(alloc, count as usize)?);
-    for number in 0..count {
-        let to = Pid(number);
-        let place = place_of(places, to);
-        let part = part_in(alloc, terms, row, all.as_slice(), to, prefix, place)?;
-        match part {
-            Some(own) => {
-                sig.push(own)?;
-            }
-            None => {}
-        }
+    if let [only] = row {
+        let one = [offer_of(terms, only)];
+        return signature_by(alloc, terms, row, one.as_slice(), prefix, places);
     }
-    Ok(sig)
+    let all = all_offers(alloc, terms, row)?;
+    signature_by(alloc, terms, row, all.as_slice(), prefix, places)
 }

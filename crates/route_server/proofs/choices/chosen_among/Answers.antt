@@ -3,7 +3,7 @@ use Rattle.std.specs.Option.{option_and_then}
 use Rattle.net_types.specs.Routes.{best_of}
 use Rattle.route_server.specs.Rows.{settled_by, held_at, offered}
 use Rattle.route_server.proofs.EffectLaws.{pids_step, map_one_more}
-use Rattle.route_server.proofs.choices.chosen_in.Goals as goal
+use Rattle.route_server.proofs.choices.chosen_among.Goals as goal
 
 pub loop-number-preserved : goal.loop-number-preserved
 loop-number-preserved c =

@@ -3,15 +3,15 @@ use Rattle.std.specs.Option.{option_and_then}
 use Rattle.route_server.specs.Rows.{settled_by, held_at}
 use Rattle.route_server.proofs.ChoiceSteps.{chosen_at}
 use Rattle.route_server.proofs.Parts.{parts_from, part_more, part_none}
-use Rattle.route_server.proofs.signature.signature_in.Goals as goal
-use Rattle.route_server.proofs.signature.signature_in.Goals.{in-Some+in_ok-push-in-Some, in-None}
+use Rattle.route_server.proofs.signature.signature_by.Goals as goal
+use Rattle.route_server.proofs.signature.signature_by.Goals.{in-Some+in_ok-push-in-Some, in-None}
 
 pub part_in-requires-clause-best : goal.part_in-requires-clause-best
 part_in-requires-clause-best c =
     let r = settled_by c.args.terms in
     let n = c.loop-number.number in
     ap (option_and_then (held_at r c.args.row.now)) c.place_of-place.ensures
-    ∙ chosen_at r c.args.prefix c.args.row.now c.args.places.now n c.requires (subst (λ xs. n < length xs) c.participants.ensures.all c.loop-number-test.true)
+    ∙ chosen_at r c.args.prefix c.args.row.now c.args.places.now n c.requires.chosen (subst (λ xs. n < length xs) c.participants.ensures.all c.loop-number-test.true)
 
 pub loop-number-preserved : goal.loop-number-preserved
 loop-number-preserved c =

@@ -4,7 +4,7 @@ use Rattle.net_types.specs.Routes.{best_of, pids}
 use Rattle.route_server.specs.Choices.{IsBestAt}
 use Rattle.route_server.specs.Rows.{settled_by, held_at, offered}
 use Rattle.route_server.proofs.EffectLaws.{pids_from}
-use Rattle.route_server.proofs.choices.chosen_in.Given as goal
+use Rattle.route_server.proofs.choices.chosen_among.Given as goal
 
 abbrev pub invariant-loop-number : goal.invariant-loop-number
 invariant-loop-number l = record {
