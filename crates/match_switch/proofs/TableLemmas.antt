@@ -1,5 +1,5 @@
 -- What a table is whose entries rise, and what an edit of the entries does to it.
-use Rattle.std.proofs.Common.{◌≡◌, ℕ, ◌+◌, ◌-◌, ◌≤◌, Bool, true, cond, List, [], length, sym, ap, subst, ◌∙◌, refl, arith}
+use Rattle.std.proofs.Common.{◌≡◌, ℕ, ◌+◌, ◌-◌, ◌≤◌, Bool, true, cond, List, [], ◌∷◌, length, sym, ap, subst, ◌∙◌, refl, arith}
 use Rattle.std.specs.Prelude.{Option, unwrap_or}
 use Rattle.std.specs.FinMap.{entries, get, insert, remove, from_sorted}
 use Rattle.std.specs.FinMap.Entries.{find, is_sorted, put}
@@ -10,6 +10,8 @@ use Rattle.net_types.specs.Keys.{pair_cmp}
 use Rattle.net_types.specs.declared.rule.Pair.{Pair}
 use Rattle.net_types.specs.declared.rule.Rule.{Rule}
 use Rattle.block_build.specs.Installed.{Installed, count_at, rule_count}
+use Rattle.events.specs.After.{without_pairs}
+use Rattle.ordered_map.specs.Entries.{without_each}
 use Rattle.match_switch.specs.Installed.{IsKept, entries_count}
 use Rattle.match_switch.proofs.CountLemmas.{count-put, count-without, sum-values}
 
@@ -83,6 +85,33 @@ module _ (es : List (Pair × List Rule)) (rules room capacity : ℕ) (kept : IsK
   pub count_without : (pair : Pair) (ds : List (Pair × List Rule)) → ds ≡ without pair_cmp pair es → rule_count (from_sorted ds) + length (unwrap_or (get s.table pair) []) ≡ rule_count s.table
   count_without pair ds e =
       (λ i. table_count ds (rising_without pair ds e) i + length (unwrap_or (get_is pair i) [])) ∙ counted_without pair ds e ∙ sym count_is
+
+-- ---- the pairs of a list taken out
+
+pub each_table : (pairs : List Pair) (es : List (Pair × List Rule)) → is_sorted pair_cmp es ≡ true → from_sorted {R = pair_cmp} (without_each pair_cmp pairs es) ≡ without_pairs (from_sorted es) pairs
+each_table [] es rising = refl
+each_table (p ∷ ps) es rising =
+    each_table ps (without pair_cmp p es) (without_sorted pair_cmp p es rising)
+    ∙ ap (λ m. without_pairs m ps) (remove_sorted pair_cmp pairs_total pair_cmp-IsAntisymmetric p es rising)
+
+module _ (es : List (Pair × List Rule)) (rules room capacity : ℕ) (kept : IsKept es rules) (s : Installed) (is : record { table = from_sorted es; room = room; capacity = capacity } ≡ s) (pairs : List Pair) (ds : List (Pair × List Rule)) (e : ds ≡ without_each pair_cmp pairs es) where
+  pub table_without_each : from_sorted ds ≡ without_pairs s.table pairs
+  table_without_each = ap from_sorted e ∙ each_table pairs es kept.rising ∙ ap (λ (t : Installed). without_pairs t.table pairs) is
+
+  module _ (gone : ℕ) (left : gone + entries_count ds ≡ 0 + entries_count es) where
+    pub few_gone : gone ≤ rules
+    few_gone = let all = kept.counted in omega (arith, all, left)
+
+    module _ (rising : is_sorted pair_cmp ds ≡ true) where
+      pub kept_without_each : IsKept ds (rules - gone)
+      kept_without_each = let all = kept.counted in record { rising = rising; counted = omega (arith, all, left) }
+
+      pub count_without_each : rule_count (from_sorted ds) ≤ rule_count s.table
+      count_without_each =
+          let now = table_count ds rising in
+          let before = count_is es rules room capacity kept s is in
+          let all = kept.counted in
+          omega (arith, now, before, all, left)
 
 -- ---- room
 

@@ -4,6 +4,7 @@
 mod blocks;
 mod fault;
 mod forwarding;
+mod gone;
 mod iter;
 mod leaving;
 mod switch;

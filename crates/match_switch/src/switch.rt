@@ -3,9 +3,11 @@
 ghost use Rattle.std.specs.Prelude.{◌≡◌, ◌≤◌, ◌<◌, ◌+◌, ◌++◌, ◌^◌, [], length, None, IsOk, OnOk, IfOk, option_copied, is_some, unwrap_or, if◌then◌else◌};
 ghost use Rattle.std.specs.FinMap as map;
 ghost use Rattle.net_types.specs.Sets.{union_over};
+ghost use Rattle.events.specs.After.{without_pairs};
 ghost use Rattle.events.specs.Fits.{flows_of};
 ghost use Rattle.block_build.specs.Installed.{count_at, rule_count};
 
+use crate::gone::Gone;
 use crate::iter::Iter;
 use events::{Flow, Flows};
 use net_types::{Items, Memory, Pair, Pairs, Rule, TryCopy};
@@ -128,6 +130,20 @@ impl Switch {
     {
         let before = self.entries.remove(&pair);
         self.rules -= count(before);
+    }
+
+    /// The rules of these pairs go: where the pairs rise, in one walk. There is room for no fewer new pairs than before.
+    pub fn drop_blocks(&mut self, pairs: &[Pair])
+        ensures table { self.new.table ≡ without_pairs self.old.table pairs.now }
+        ensures capacity { self.new.capacity ≡ self.old.capacity }
+        ensures room { self.old.room ≤ self.new.room }
+        ensures count { rule_count self.new.table ≤ rule_count self.old.table }
+    {
+        // It is a `usize`, so that those that go can be counted.
+        let rules = self.rules;
+        let mut gone = Gone { rules: 0 };
+        self.entries.remove_counted(pairs, &mut gone);
+        self.rules = rules - gone.rules;
     }
 
     /// The pairs with their rules, ascending by port, and then by tag. It takes no memory.
