@@ -1,4 +1,4 @@
--- The last item of a list, and tags above another.
+-- The last item of a list.
 use Rattle.std.proofs.Common.{◌≡◌, ℕ, zero, suc, ◌+◌, ◌-◌, ◌<◌, ◌≤◌, ◌⊎◌, List, [], ◌∷◌, length, take, refl, sym, ap, subst, ◌∙◌, inl, inr, arith}
 use Rattle.std.specs.Prelude.{Bool, true, false, nat_lt, Option, Some, None, slice_get}
 use Rattle.std.specs.FinMap.{FinMap}
@@ -10,11 +10,6 @@ use Rattle.net_types.specs.Sets.{Member}
 use Rattle.net_types.specs.declared.address.Tag.{Tag}
 use Rattle.prefix_classes.proofs.MergeLemmas.{same_number}
 use Rattle.prefix_classes.specs.Classes.{IsAbove, IsNextTag, members}
-
--- how many numbers of 32 bits are above a tag
-abbrev pub tags_above : Option Tag → ℕ
-tags_above None = 4294967297
-tags_above (Some t) = 4294967296 - t.0
 
 before_last : {A : Type 0} (k : ℕ) (xs : List A) (x y : A) → length xs ≡ suc k → slice_get xs k ≡ Some x → Member y xs → Member y (take k xs) ⊎ (y ≡ x)
 before_last k [] x y e at m = elim m [ ]
@@ -47,14 +42,3 @@ no_last [] e = refl
 no_last (x ∷ xs) e =
     let some = slice_get_some (x ∷ xs) (length (x ∷ xs) - 1) (omega arith) in
     absurd (not_there (slice_get (x ∷ xs) (length (x ∷ xs) - 1)) some.0 (sym e) some.1)
-
--- a tag with members above another is the next one, or above that
-pub least_or_above : (m : FinMap prefix_cmp Tag) (last : Option Tag) (next t : Tag) → IsNextTag m last next → 0 < members m t → IsAbove last t → (t ≡ next) ⊎ (next.0 < t.0)
-least_or_above m last next t is used above = by (nat_lt next.0 t.0) refl
-  where
-    by : (b : Bool) → nat_lt next.0 t.0 ≡ b → (t ≡ next) ⊎ (next.0 < t.0)
-    by true e = inr (ltb-true next.0 t.0 e)
-    by false e =
-        let low : t.0 ≤ next.0 = ltb-false next.0 t.0 e in
-        let high : next.0 ≤ t.0 = is.least t used above in
-        inl (same_number t next (omega (arith, low, high)))

@@ -141,7 +141,7 @@ impl Job {
         ensures owed { IfOk result (λ job. job.owed ≡ capped (length (entries classes.now.tag) + length pairs)) }
         ensures covers { IfOk result (CoversListed classes.now.tag fresh.now pairs) }
     {
-        let tags = tags_with(alloc, classes, fresh)?;
+        let tags = tags_with(classes, fresh)?;
         let owed = all_units(classes.carried(), pairs.len());
         let pairs = listed(pairs)?;
         Ok(Job {

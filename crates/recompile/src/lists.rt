@@ -11,31 +11,13 @@ ghost use Rattle.recompile.specs.Units.{AreListable, AreListed, HasRules, IsLast
 use block_build::Blocks;
 use net_types::{Memory, Pair, Pairs, Rule, Tag};
 use prefix_classes::{ClassMap, Grouping};
-use std::alloc::Global;
-
-/// The tags with members.
-fn used_tags(alloc: Global, classes: &ClassMap) -> Result<Vec<Tag>, Memory>
-    ensures { IfOk result (λ tags. AreListed classes.now.tag tags.items) }
-{
-    let mut tags = Vec::new(alloc);
-    let mut last = None;
-    while let Some(tag) = classes.next_tag(last) {
-        tags.push(tag)?;
-        last = Some(tag);
-    }
-    Ok(tags)
-}
 
 /// The tags with members, and fresh ones.
-pub(crate) fn tags_with(
-    alloc: Global,
-    classes: &ClassMap,
-    fresh: &[Tag],
-) -> Result<Vec<Tag>, Memory>
+pub(crate) fn tags_with(classes: &ClassMap, fresh: &[Tag]) -> Result<Vec<Tag>, Memory>
     ensures used { IfOk result (λ tags. AreListed classes.now.tag tags.items) }
     ensures fresh { IfOk result (λ tags. (t : AnyTag) → Member t fresh.now → Member t tags.items) }
 {
-    let mut tags = used_tags(alloc, classes)?;
+    let mut tags = classes.used_tags()?;
     tags.extend_from_slice(fresh)?;
     Ok(tags)
 }

@@ -73,15 +73,16 @@ impl Built {
         }
     }
 
-    /// The pairs with other rules, ascending by port, and then by tag. Memory is the only refusal.
+    /// The pairs with other rules, ascending by port, and then by tag: all in one walk. Memory is the only refusal.
     pub fn pairs(&self, alloc: Global) -> Result<Pairs, Memory>
         ensures { IfOk result (λ pairs. pairs ≡ map.keys self.now) }
     {
-        let mut pairs = Pairs::new(alloc);
-        for (&pair, _) in self.pairs.iter() {
-            pairs.push(pair)?;
+        let entries = self.pairs.first_entries(self.pairs.len())?;
+        let mut pairs = Vec::with_capacity(alloc, entries.len())?;
+        for (pair, _) in entries.as_slice() {
+            pairs.push(**pair)?;
         }
-        Ok(pairs)
+        Ok(Pairs::from_vec(pairs))
     }
 
     /// Takes a pair out, and answers the block of other rules. It takes no memory.
