@@ -7,8 +7,7 @@ use Rattle.std.proofs.lemmas.List.Elements.{filter_more}
 use Rattle.std.proofs.lemmas.List.Sorted.{IsPermutation-sym, sum_by-IsPermutation}
 use Rattle.net_types.proofs.OrderedLemmas.{ordered_alike}
 use Rattle.events.specs.Tags.{same_tag}
-use Rattle.events.specs.declared.TagChange.{TagChange}
-use Rattle.fast_path.specs.Emptied.{emptied, is_left, old_tags}
+use Rattle.fast_path.specs.Emptied.{emptied_of, is_left_of}
 use Rattle.net_types.proofs.MemberLemmas.{Member-permutation}
 use Rattle.net_types.proofs.OrderLemmas.{tags_total}
 use Rattle.net_types.proofs.TieLemmas.{tag_tie}
@@ -17,30 +16,29 @@ use Rattle.net_types.specs.Maps.{ordered}
 use Rattle.net_types.specs.declared.address.Tag.{Tag}
 use Rattle.prefix_classes.specs.Classes.{members}
 
-module _ (m : FinMap prefix_cmp Tag) (cs : List TagChange) (old sorted : List Tag) (is : old ≡ old_tags m cs) (moved : IsPermutation old sorted) where
+module _ (m : FinMap prefix_cmp Tag) (old sorted : List Tag) (moved : IsPermutation old sorted) where
   -- what is counted among the sorted tags is counted among the old ones
-  counted_is : (t : Tag) (again : List Tag) (n k : ℕ) → again ≡ sorted → n ≡ count_by (same_tag t) again → k ≡ members m t → nat_eq n k ≡ is_left m cs t
+  counted_is : (t : Tag) (again : List Tag) (n k : ℕ) → again ≡ sorted → n ≡ count_by (same_tag t) again → k ≡ members m t → nat_eq n k ≡ is_left_of m old t
   counted_is t again n k same count all =
       let moved_count = sum_by-IsPermutation (λ u. cond (same_tag t u) 1 0) old sorted moved in
-      let left : n ≡ count_by (same_tag t) (old_tags m cs) = count ∙ ap (count_by (same_tag t)) same ∙ moved_count ∙ ap (count_by (same_tag t)) is in
+      let left : n ≡ count_by (same_tag t) old = count ∙ ap (count_by (same_tag t)) same ∙ moved_count in
       λ i. nat_eq (left i) (all i)
 
-  module _ (once : List Tag) (i : ℕ) (d : Tag) (within : i < length once) (ys : List Tag) (so_far : ys ≡ filter (is_left m cs) (take i once)) (again : List Tag) (n k : ℕ) (same : again ≡ sorted)
+  module _ (once : List Tag) (i : ℕ) (d : Tag) (within : i < length once) (ys : List Tag) (so_far : ys ≡ filter (is_left_of m old) (take i once)) (again : List Tag) (n k : ℕ) (same : again ≡ sorted)
       (count : n ≡ count_by (same_tag (get_or once i d)) again) (all : k ≡ members m (get_or once i d)) where
-    pub one_left : n ≡ k → (zs : List Tag) → zs ≡ ys ++ get_or once i d ∷ [] → zs ≡ filter (is_left m cs) (take (i + 1) once)
+    pub one_left : n ≡ k → (zs : List Tag) → zs ≡ ys ++ get_or once i d ∷ [] → zs ≡ filter (is_left_of m old) (take (i + 1) once)
     one_left equal zs more =
-        let passes : is_left m cs (get_or once i d) ≡ true = sym (counted_is (get_or once i d) again n k same count all) ∙ eq-eqb n k equal in
+        let passes : is_left_of m old (get_or once i d) ≡ true = sym (counted_is (get_or once i d) again n k same count all) ∙ eq-eqb n k equal in
         more ∙ ap (λ xs. xs ++ get_or once i d ∷ []) so_far
-        ∙ sym (filter_more (is_left m cs) once i d within ∙ ap (λ b. filter (is_left m cs) (take i once) ++ cond b (get_or once i d ∷ []) []) passes)
+        ∙ sym (filter_more (is_left_of m old) once i d within ∙ ap (λ b. filter (is_left_of m old) (take i once) ++ cond b (get_or once i d ∷ []) []) passes)
 
-    pub none_left : n ≢ k → (zs : List Tag) → zs ≡ ys → zs ≡ filter (is_left m cs) (take (i + 1) once)
+    pub none_left : n ≢ k → (zs : List Tag) → zs ≡ ys → zs ≡ filter (is_left_of m old) (take (i + 1) once)
     none_left apart zs more =
-        let fails : is_left m cs (get_or once i d) ≡ false = sym (counted_is (get_or once i d) again n k same count all) ∙ ne_eqb n k apart in
-        more ∙ so_far ∙ sym (filter_more (is_left m cs) once i d within ∙ ap (λ b. filter (is_left m cs) (take i once) ++ cond b (get_or once i d ∷ []) []) fails ∙ append-nil (filter (is_left m cs) (take i once)))
+        let fails : is_left_of m old (get_or once i d) ≡ false = sym (counted_is (get_or once i d) again n k same count all) ∙ ne_eqb n k apart in
+        more ∙ so_far ∙ sym (filter_more (is_left_of m old) once i d within ∙ ap (λ b. filter (is_left_of m old) (take i once) ++ cond b (get_or once i d ∷ []) []) fails ∙ append-nil (filter (is_left_of m old) (take i once)))
 
   -- after the last they are all
-  pub all_left : (ys once items again : List Tag) (i : ℕ) → ys ≡ filter (is_left m cs) (take i items) → length items ≤ i → items ≡ once → once ≡ ordered tag_cmp again → again ≡ sorted → ys ≡ emptied m cs
+  pub all_left : (ys once items again : List Tag) (i : ℕ) → ys ≡ filter (is_left_of m old) (take i items) → length items ≤ i → items ≡ once → once ≡ ordered tag_cmp again → again ≡ sorted → ys ≡ emptied_of m old
   all_left ys once items again i so_far past same in_order copied =
-      so_far ∙ ap (filter (is_left m cs)) (take_all i items past ∙ same ∙ in_order ∙ ap (ordered tag_cmp) copied
-      ∙ ordered_alike tag_cmp tags_total tag_tie sorted old (record { onto = λ x. Member-permutation sorted old x (IsPermutation-sym old sorted moved); back = λ x. Member-permutation old sorted x moved })
-      ∙ ap (ordered tag_cmp) is)
+      so_far ∙ ap (filter (is_left_of m old)) (take_all i items past ∙ same ∙ in_order ∙ ap (ordered tag_cmp) copied
+      ∙ ordered_alike tag_cmp tags_total tag_tie sorted old (record { onto = λ x. Member-permutation sorted old x (IsPermutation-sym old sorted moved); back = λ x. Member-permutation old sorted x moved }))

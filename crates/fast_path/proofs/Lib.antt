@@ -6,6 +6,7 @@ pub mod NewPairs
 pub mod DeadTags
 pub mod EmptiedTags
 pub mod NewlyCarried
+pub mod MoveCount
 pub mod Loops
 pub mod CountedTags
 pub mod EmptiedLoop

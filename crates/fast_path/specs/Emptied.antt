@@ -13,10 +13,18 @@ use Rattle.prefix_classes.specs.Classes.{members}
 abbrev pub old_tags : FinMap prefix_cmp Tag → List TagChange → List Tag
 old_tags m cs = filter_map (λ (c : TagChange). get m c.prefix) cs
 
+-- as many changed prefixes had the tag as have it, by the tags that they had
+abbrev pub is_left_of : FinMap prefix_cmp Tag → List Tag → Tag → Bool
+is_left_of m old t = nat_eq (count_by (same_tag t) old) (members m t)
+
+-- those of these tags that no other prefix has, ascending
+abbrev pub emptied_of : FinMap prefix_cmp Tag → List Tag → List Tag
+emptied_of m old = filter (is_left_of m old) (ordered tag_cmp old)
+
 -- as many changed prefixes had the tag as have it
 abbrev pub is_left : FinMap prefix_cmp Tag → List TagChange → Tag → Bool
-is_left m cs t = nat_eq (count_by (same_tag t) (old_tags m cs)) (members m t)
+is_left m cs = is_left_of m (old_tags m cs)
 
 -- the tags of changed prefixes that no other prefix has, ascending
 abbrev pub emptied : FinMap prefix_cmp Tag → List TagChange → List Tag
-emptied m cs = filter (is_left m cs) (ordered tag_cmp (old_tags m cs))
+emptied m cs = emptied_of m (old_tags m cs)

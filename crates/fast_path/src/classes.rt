@@ -18,7 +18,7 @@ use std::alloc::Global;
 fn without_members(alloc: Global, groups: Vec<Fresh>, tags: &[Tag]) -> Result<Vec<Class>, Memory>
     ensures { IfOk result (λ classes. classes.items ≡ classes_of [] (kept_of tags.now (map (λ (f : AnyFresh). f.sig) groups.items))) }
 {
-    let mut classes = Vec::new(alloc);
+    let mut classes = Vec::with_capacity(alloc, tags.len())?;
     let mut left = groups.into_iter();
     for tag in tags {
         let Some(group) = left.next() else {

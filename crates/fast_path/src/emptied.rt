@@ -6,7 +6,7 @@ ghost use Rattle.events.specs.Tags.{same_tag};
 ghost use Rattle.net_types.specs.declared.address.Tag.{Tag as AnyTag};
 ghost use Rattle.net_types.specs.Keys.{tag_cmp};
 ghost use Rattle.net_types.specs.Maps.{ordered};
-ghost use Rattle.fast_path.specs.Emptied.{emptied, old_tags};
+ghost use Rattle.fast_path.specs.Emptied.{emptied_of, old_tags};
 
 use events::TagChange;
 use net_types::{Memory, Tag, ascending};
@@ -57,11 +57,12 @@ fn each_once(alloc: Global, tags: &[Tag]) -> Result<Vec<Tag>, Memory>
     Ok(ascending(copied))
 }
 
-/// The tags that the changed prefixes had and no other prefix has, ascending, each once. Memory is the only refusal.
-pub fn emptied(alloc: Global, classes: &ClassMap, changes: &[TagChange]) -> Result<Vec<Tag>, Memory>
-    ensures { IfOk result (λ tags. tags.items ≡ emptied classes.now.tag changes.now) }
+/// Those of the tags that changed prefixes had, as often as they had them, that no other prefix has, ascending, each once.
+/// Memory is the only refusal.
+pub fn emptied(alloc: Global, classes: &ClassMap, left: Vec<Tag>) -> Result<Vec<Tag>, Memory>
+    ensures { IfOk result (λ emptied. emptied.items ≡ emptied_of classes.now.tag left.items) }
 {
-    let old = sorted(old_tags(alloc, classes, changes)?);
+    let old = sorted(left);
     let once = each_once(alloc, &old)?;
     let mut emptied = Vec::new(alloc);
     for &tag in &once {

@@ -13,7 +13,7 @@ mod group_key;
 mod grouping;
 mod known;
 mod last;
-mod newly;
+mod moves;
 mod offering;
 mod pairs;
 mod parts;

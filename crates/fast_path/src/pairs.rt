@@ -135,6 +135,9 @@ pub fn built_pairs(
 pub fn dropped_pairs(alloc: Global, gone: &[Pair], rebuild: &[Pair]) -> Result<Pairs, Memory>
     ensures { IfOk result (λ pairs. pairs ≡ dropped_pairs gone.now rebuild.now) }
 {
+    if gone.is_empty() && rebuild.is_empty() {
+        return Ok(Items::new(alloc));
+    }
     let mut pairs = Vec::from_slice(alloc, gone)?;
     pairs.extend_from_slice(rebuild)?;
     Ok(Items::from_vec(ascending(pairs)))

@@ -15,11 +15,11 @@ use crate::draft::Draft;
 use crate::emptied::emptied;
 use crate::grouping::{Groups, groups_for};
 use crate::known::KnownClasses;
-use crate::newly::newly_tagged;
+use crate::moves::{Moves, moves_of};
 use crate::offering::offers_of;
 use crate::pairs::{built_pairs, dropped_pairs, gone_pairs, untold};
 use crate::planned::{FastFault, Plan};
-use crate::tagging::{fresh_tags, tag_changes, tagged};
+use crate::tagging::{fresh_tags, tagged};
 use advert_queue::Adverts;
 use block_build::{Block, Blocks, Views};
 use net_types::{Items, Memory, Pair, Pid, Pids, Steps};
@@ -48,15 +48,19 @@ fn drafted<'a>(
     let known = KnownClasses::of(classes, proposal);
     let given = fresh_tags(alloc, pool, groups.len())?;
     let after = tagged(alloc, &known, proposal, &groups, &given)?;
-    let tags = tag_changes(alloc, &known, after.items())?;
-    let left = emptied(alloc, classes, tags.items())?;
+    let moves = moves_of(alloc, &known, after.items())?;
+    let newly = moves.newly();
+    let Moves {
+        changes: tags,
+        left,
+    } = moves;
+    let left = emptied(alloc, classes, left)?;
     let gone = gone_pairs(alloc, names, classes, adverts, &left)?;
     let drops = dropped_pairs(alloc, gone.items(), rebuild)?;
     let fresh = with_tags(alloc, groups.into_fresh(), &given, tags.items())?;
     let built = built_pairs(alloc, names, &fresh, gone.items(), rebuild)?;
     let dead = untold(alloc, adverts, &left)?;
     let offers = offers_of(alloc, names, proposal, after.items())?;
-    let newly = newly_tagged(classes, tags.items()) as u64;
     Ok(Draft {
         tags,
         drops,

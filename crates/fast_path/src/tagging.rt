@@ -3,9 +3,9 @@
 ghost use Rattle.std.specs.Prelude.{◌≡◌, ◌≤◌, length, take, IfOk};
 ghost use Rattle.next_hop_pool.specs.Free.{free_tags};
 ghost use Rattle.fast_path.specs.Grouping.{tag_after};
-ghost use Rattle.fast_path.specs.Offers.{others, tagged};
+ghost use Rattle.fast_path.specs.Offers.{tagged};
 
-use crate::grouping::{Groups, same_tags};
+use crate::grouping::Groups;
 use crate::known::KnownClasses;
 use events::{TagChange, TagChanges};
 use net_types::{Items, Memory, Prefix, Sig, Tag};
@@ -18,7 +18,7 @@ pub fn fresh_tags(alloc: Global, pool: &Pool, count: usize) -> Result<Vec<Tag>, 
     requires { count ≤ length (free_tags pool.now) }
     ensures { IfOk result (λ tags. tags.items ≡ take count (free_tags pool.now)) }
 {
-    let mut tags = Vec::new(alloc);
+    let mut tags = Vec::with_capacity(alloc, count)?;
     let mut last = None;
     while tags.len() < count {
         last = pool.next_free(last);
@@ -62,8 +62,9 @@ pub fn tagged<'a>(
 ) -> Result<TagChanges, Memory>
     ensures { IfOk result (λ all. all ≡ tagged known.now groups.now tags.now proposal.now.touched proposal.now.sigs) }
 {
-    let mut all = Items::new(alloc);
-    for (at, prefix) in proposal.touched().iter().enumerate() {
+    let touched = proposal.touched();
+    let mut all = Items::from_vec(Vec::with_capacity(alloc, touched.len())?);
+    for (at, prefix) in touched.iter().enumerate() {
         let tag = tag_after(known, groups, tags, *prefix, proposal.sig(at));
         all.push(TagChange {
             prefix: *prefix,
@@ -71,21 +72,4 @@ pub fn tagged<'a>(
         })?;
     }
     Ok(all)
-}
-
-/// Those of the prefixes whose tag becomes another, in order.
-pub fn tag_changes(
-    alloc: Global,
-    known: &KnownClasses<'_>,
-    tagged: &[TagChange],
-) -> Result<TagChanges, Memory>
-    ensures { IfOk result (λ changes. changes ≡ others known.now tagged.now) }
-{
-    let mut changes = Items::new(alloc);
-    for &change in tagged {
-        if !same_tags(known.tag_of(change.prefix), change.tag) {
-            changes.push(change)?;
-        }
-    }
-    Ok(changes)
 }

@@ -8,12 +8,12 @@ use Rattle.fast_path.proofs.tagging.fresh_tags.Goals as goal
 pub loop-last-init : goal.loop-last-init
 loop-last-init c =
     let free = free_tags c.args.pool.now in
-    let none : c.new-tags.result.items ≡ [] = c.new-tags.ensures.items in
-    let empty : length c.new-tags.result.items ≡ 0 = ap length none in record {
+    let none : c.in_ok-tags.tags.items ≡ [] = c.in_ok-tags.ensures.items in
+    let empty : length c.in_ok-tags.tags.items ≡ 0 = ap length none in record {
       taken = none ∙ sym (ap (λ ts. take (length ts) free) none);
       next = first_above free ∙ ap (λ ts. slice_get free (length ts)) (sym none);
       few = omega arith;
-      long = c.new-tags.ensures.len ∙ sym empty;
+      long = c.in_ok-tags.ensures.len ∙ sym empty;
     }
 
 pub loop-last-preserved : goal.loop-last-preserved

@@ -11,7 +11,7 @@ loop-at-preserved c =
     let k = c.args.known.now in
     let rest = tagged k c.args.groups.now c.args.tags.now (drop (at + 1) p.touched) (drop (at + 1) p.sigs) in
     ap (λ cs. cs ++ tagged k c.args.groups.now c.args.tags.now (drop (at + 1) p.touched) (drop (at + 1) p.sigs)) c.in_ok-push.ensures.ok
-    ∙ ap (λ o. (c.loop-at.all ++ record { prefix = c.prefix-item.result; tag = o } ∷ []) ++ rest) c.tag_after-tag.ensures
-    ∙ sym (tagged_step k c.args.groups.now c.args.tags.now p.touched p.sigs at c.prefix-item.result c.sig.result.now c.loop-at.all
-    (ap (λ xs. slice_get xs at) (sym c.touched-prefix-items.ensures) ∙ item_at c.touched-prefix-items.result.now at c.prefix-item.result c.prefix-item.is c.loop-at-test.true) c.sig.ensures)
+    ∙ ap (λ o. (c.loop-at.all ++ record { prefix = c.index-touched-at.result; tag = o } ∷ []) ++ rest) c.tag_after-tag.ensures
+    ∙ sym (tagged_step k c.args.groups.now c.args.tags.now p.touched p.sigs at c.index-touched-at.result c.sig.result.now c.loop-at.all
+    (ap (λ xs. slice_get xs at) (sym c.touched-touched.ensures) ∙ item_at c.touched-touched.result.now at c.index-touched-at.result c.index-touched-at.is c.loop-at-test.true) c.sig.ensures)
     ∙ c.loop-at.invariant
