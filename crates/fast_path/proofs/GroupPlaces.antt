@@ -1,8 +1,9 @@
 -- What ties in the order of groups is one group; where groups are found once there is one more.
-use Rattle.std.proofs.Common.{◌≡◌, ℕ, ◌+◌, Bool, true, false, cond, List, [], ◌∷◌, ◌++◌, length, sym, ap, ◌∙◌, refl, arith}
+use Rattle.std.proofs.Common.{◌≡◌, ℕ, suc, nat_eq, true≢false, ◌+◌, Bool, true, false, cond, List, [], ◌∷◌, ◌++◌, length, sym, ap, ◌∙◌, refl, arith}
 use Rattle.std.specs.Prelude.{Option, Some, None, is_some}
 use Rattle.std.specs.FinMap.Entries.{find, put, find-put}
-use Rattle.std.specs.List.{position_from}
+use Rattle.std.specs.List.{list_any, position_from}
+use Rattle.std.proofs.lemmas.Bool.{eqb-true}
 use Rattle.std.specs.Option.{option_cmp}
 use Rattle.std.specs.Ordering.{eq_by_cmp}
 use Rattle.std.specs.declared.cmp.Ordering.TheVariants.{Equal}
@@ -13,8 +14,11 @@ use Rattle.net_types.specs.Keys.{tag_cmp}
 use Rattle.net_types.specs.declared.address.Tag.{Tag}
 use Rattle.prefix_classes.proofs.PlacedLemmas.{sig_cmp-IsAntisymmetric}
 use Rattle.prefix_classes.specs.Placed.{sig_cmp}
-use Rattle.fast_path.specs.GroupOrder.{ArePlaces, group_cmp, groups_total}
-use Rattle.fast_path.specs.Grouping.{one_more}
+use Rattle.fast_path.specs.GroupOrder.{ArePlaces, behind, group_cmp, groups_total}
+use Rattle.fast_path.specs.Grouping.{groups_of, is_first_class, one_more, same_class}
+use Rattle.fast_path.specs.declared.fresh.Fresh.{Fresh}
+use Rattle.fast_path.proofs.GroupLemmas.{place_among}
+use Rattle.net_types.specs.declared.route.Part.{Part}
 use Rattle.net_types.proofs.FindLemmas.{any_position}
 
 -- ---- the order
@@ -57,33 +61,72 @@ placed_last p n (y ∷ xs) x =
     by true o last = refl
     by false o last = refl
 
-pub no_places : (es : List (Group × ℕ)) → es ≡ [] → ArePlaces [] es
-no_places es none = λ g. ap (find group_cmp g) none
+pub no_places : (low : ℕ) (es : List (Group × ℕ)) → es ≡ [] → ArePlaces low [] es
+no_places low es none = λ g. ap (find group_cmp g) none
 
 -- one more group at the end, where it has no place yet
-pub place_more : (gs : List Group) (es : List (Group × ℕ)) (g : Group) (n : ℕ) → ArePlaces gs es → is_some (find group_cmp g es) ≡ false → n ≡ length gs → ArePlaces (gs ++ g ∷ []) (put group_cmp g n es)
-place_more gs es g n are new at = λ q.
+pub place_more : (low : ℕ) (gs : List Group) (es : List (Group × ℕ)) (g : Group) (n : ℕ) → ArePlaces low gs es → is_some (find group_cmp g es) ≡ false → n ≡ low + length gs → ArePlaces low (gs ++ g ∷ []) (put group_cmp g n es)
+place_more low gs es g n are new at = λ q.
     find-put group_cmp groups_total q g n es
     ∙ ap (λ b. cond b (Some n) (find group_cmp q es)) (same_as_tied q g)
     ∙ by q (same_group q g) refl
-    ∙ sym (placed_last (same_group q) 0 gs g)
+    ∙ sym (placed_last (same_group q) low gs g)
   where
     either : (o : Option ℕ) → o ≡ cond (is_some o) o None
     either None = refl
     either (Some k) = refl
 
-    by : (q : Group) (b : Bool) → same_group q g ≡ b → cond b (Some n) (find group_cmp q es) ≡ cond (is_some (position_from (same_group q) 0 gs)) (position_from (same_group q) 0 gs) (cond (same_group q g) (Some (0 + length gs)) None)
+    by : (q : Group) (b : Bool) → same_group q g ≡ b → cond b (Some n) (find group_cmp q es) ≡ cond (is_some (position_from (same_group q) low gs)) (position_from (same_group q) low gs) (cond (same_group q g) (Some (low + length gs)) None)
     by q true same =
-        let it : is_some (position_from (same_group q) 0 gs) ≡ false = ap (λ h. is_some (position_from (same_group h) 0 gs)) (group_same q g same) ∙ ap is_some (sym (are g)) ∙ new in
-        let here : n ≡ 0 + length gs = omega arith in
-        ap (λ k. Some k) here
-        ∙ sym (ap (λ b. cond b (position_from (same_group q) 0 gs) (cond (same_group q g) (Some (0 + length gs)) None)) it ∙ ap (λ b. cond b (Some (0 + length gs)) None) same)
+        let it : is_some (position_from (same_group q) low gs) ≡ false = ap (λ h. is_some (position_from (same_group h) low gs)) (group_same q g same) ∙ ap is_some (sym (are g)) ∙ new in
+        ap (λ k. Some k) at
+        ∙ sym (ap (λ b. cond b (position_from (same_group q) low gs) (cond (same_group q g) (Some (low + length gs)) None)) it ∙ ap (λ b. cond b (Some (low + length gs)) None) same)
     by q false other =
-        are q ∙ either (position_from (same_group q) 0 gs) ∙ ap (λ b. cond (is_some (position_from (same_group q) 0 gs)) (position_from (same_group q) 0 gs) (cond b (Some (0 + length gs)) None)) (sym other)
+        are q ∙ either (position_from (same_group q) low gs) ∙ ap (λ b. cond (is_some (position_from (same_group q) low gs)) (position_from (same_group q) low gs) (cond b (Some (low + length gs)) None)) (sym other)
+
+-- ---- classes, of which the first is looked at
+
+abbrev group_by : Option Tag → List Part → Group
+group_by before sig = record { before = before; after = sig }
+
+pub first_place : (before : Option Tag) (sig : List Part) (fs : List Fresh) → is_first_class before sig fs ≡ true → Some 0 ≡ position_from (same_class before sig) 0 fs
+first_place before sig [] e = absurd (true≢false (sym e))
+first_place before sig (f ∷ fs) e = sym (ap (λ b. cond b (Some 0) (position_from (same_class before sig) 1 fs)) e)
+
+pub other_place : (before : Option Tag) (sig : List Part) (fs : List Fresh) (es : List (Group × ℕ)) → ArePlaces 1 (behind (groups_of fs)) es → is_first_class before sig fs ≡ false → find group_cmp (group_by before sig) es ≡ position_from (same_class before sig) 0 fs
+other_place before sig [] es are e = are (group_by before sig)
+other_place before sig (f ∷ fs) es are e =
+    are (group_by before sig) ∙ sym (place_among before sig 1 fs)
+    ∙ sym (ap (λ b. cond b (Some 0) (position_from (same_class before sig) 1 fs)) e)
+
+-- what has no place isn't found behind the first
+pub none_found : (before : Option Tag) (sig : List Part) (fs : List Fresh) (es : List (Group × ℕ)) → ArePlaces 1 (behind (groups_of fs)) es → is_some (position_from (same_class before sig) 0 fs) ≡ false → is_some (find group_cmp (group_by before sig) es) ≡ false
+none_found before sig [] es are none = ap is_some (are (group_by before sig))
+none_found before sig (f ∷ fs) es are none = ap is_some (are (group_by before sig) ∙ sym (place_among before sig 1 fs)) ∙ by (same_class before sig f) (position_from (same_class before sig) 1 fs) none
+  where
+    by : (b : Bool) (o : Option ℕ) → is_some (cond b (Some 0) o) ≡ false → is_some o ≡ false
+    by true o none = absurd (true≢false none)
+    by false o none = none
+
+any_is : (before : Option Tag) (sig : List Part) (fs : List Fresh) → list_any (same_group (group_by before sig)) (groups_of fs) ≡ is_some (position_from (same_class before sig) 0 fs)
+any_is before sig fs = any_position (same_group (group_by before sig)) 0 (groups_of fs) ∙ ap is_some (sym (place_among before sig 0 fs))
 
 -- a group that has a place is none more, and one that has none is one more
-pub found_there : (gs : List Group) (es : List (Group × ℕ)) (g : Group) → ArePlaces gs es → is_some (find group_cmp g es) ≡ true → gs ≡ one_more gs g
-found_there gs es g are there = sym (ap (λ b. cond b gs (gs ++ g ∷ [])) (any_position (same_group g) 0 gs ∙ ap is_some (sym (are g)) ∙ there))
+pub placed_there : (before : Option Tag) (sig : List Part) (fs : List Fresh) → is_some (position_from (same_class before sig) 0 fs) ≡ true → groups_of fs ≡ one_more (groups_of fs) (group_by before sig)
+placed_there before sig fs there = sym (ap (λ b. cond b (groups_of fs) (groups_of fs ++ group_by before sig ∷ [])) (any_is before sig fs ∙ there))
 
-pub added_there : (gs : List Group) (es : List (Group × ℕ)) (g : Group) → ArePlaces gs es → is_some (find group_cmp g es) ≡ false → gs ++ g ∷ [] ≡ one_more gs g
-added_there gs es g are new = sym (ap (λ b. cond b gs (gs ++ g ∷ [])) (any_position (same_group g) 0 gs ∙ ap is_some (sym (are g)) ∙ new))
+pub added_there : (before : Option Tag) (sig : List Part) (fs : List Fresh) → is_some (position_from (same_class before sig) 0 fs) ≡ false → groups_of fs ++ group_by before sig ∷ [] ≡ one_more (groups_of fs) (group_by before sig)
+added_there before sig fs new = sym (ap (λ b. cond b (groups_of fs) (groups_of fs ++ group_by before sig ∷ [])) (any_is before sig fs ∙ new))
+
+-- with one more behind others, and with a first one
+pub behind_more : (gs : List Group) (g : Group) → nat_eq (length gs) 0 ≡ false → behind (gs ++ g ∷ []) ≡ behind gs ++ g ∷ []
+behind_more [] g some = absurd (true≢false some)
+behind_more (h ∷ gs) g some = refl
+
+pub behind_count : (gs : List Group) → nat_eq (length gs) 0 ≡ false → length gs ≡ 1 + length (behind gs)
+behind_count [] some = absurd (true≢false some)
+behind_count (h ∷ gs) some = omega arith
+
+pub behind_first : (gs : List Group) (g : Group) → nat_eq (length gs) 0 ≡ true → behind (gs ++ g ∷ []) ≡ behind gs
+behind_first [] g none = refl
+behind_first (h ∷ gs) g none = absurd (omega (arith, eqb-true (suc (length gs)) 0 none))

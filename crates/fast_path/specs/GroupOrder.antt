@@ -1,5 +1,5 @@
 -- How the groups of a line are found: each by its tag before and its signature after (this exchange's own rule).
-use Rattle.std.specs.Prelude.{◌≡◌, ℕ, List}
+use Rattle.std.specs.Prelude.{◌≡◌, ℕ, List, [], ◌∷◌}
 use Rattle.std.specs.Cmp.{IsTotalOrder, nat_cmp_total, on_total, then_total}
 use Rattle.std.specs.Cmp.Lexicographic.{options_total}
 use Rattle.std.specs.FinMap.Entries.{find}
@@ -20,6 +20,11 @@ group_cmp = then_cmp (on (λ g. g.before) (option_cmp tag_cmp)) (on (λ g. g.aft
 pub groups_total : IsTotalOrder group_cmp
 groups_total = then_total (on_total (λ (g : Group). g.before) (options_total (on_total (λ (t : Tag). t.0) nat_cmp_total))) (on_total (λ (g : Group). g.after) sigs_total)
 
--- each group is found at its place in the list, and no other is found
-abbrev pub ArePlaces : List Group → List (Group × ℕ) → Type 0
-ArePlaces gs es = (g : Group) → find group_cmp g es ≡ position_from (same_group g) 0 gs
+-- each group is found at its place in the list, counted from the low one on, and no other is found
+abbrev pub ArePlaces : ℕ → List Group → List (Group × ℕ) → Type 0
+ArePlaces low gs es = (g : Group) → find group_cmp g es ≡ position_from (same_group g) low gs
+
+-- the groups behind the first
+abbrev pub behind : List Group → List Group
+behind [] = []
+behind (g ∷ gs) = gs

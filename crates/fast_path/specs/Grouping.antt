@@ -81,6 +81,11 @@ group_of_class f = record { before = f.before; after = f.sig }
 abbrev pub same_class : Option Tag → List Part → Fresh → Bool
 same_class before sig f = same_group (record { before = before; after = sig }) (group_of_class f)
 
+-- the first class was made for this tag before and this signature after
+abbrev pub is_first_class : Option Tag → List Part → List Fresh → Bool
+is_first_class before sig [] = false
+is_first_class before sig (f ∷ fs) = same_class before sig f
+
 -- the groups of classes
 abbrev pub groups_of : List Fresh → List Group
 groups_of fs = map group_of_class fs

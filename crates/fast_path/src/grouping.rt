@@ -5,18 +5,19 @@ ghost use Rattle.std.specs.Prelude.{◌≡◌, [], ◌∷◌, IfOk, OnOk, length
 ghost use Rattle.std.specs.List.{position_from};
 ghost use Rattle.net_types.specs.Attributes.{same_option};
 ghost use Rattle.events.specs.Tags.{same_tag};
-ghost use Rattle.fast_path.specs.Grouping.{groups_of, more_groups, moved_groups, one_more, same_class};
+ghost use Rattle.fast_path.specs.Grouping.{groups_of, is_first_class, more_groups, moved_groups, one_more, same_class};
 
 use crate::fresh::Fresh;
 use crate::group_key::GroupKey;
 use crate::known::KnownClasses;
-use net_types::{Memory, Prefix, Sig, Tag, TryCopy};
+use net_types::{Memory, Prefix, Sig, Tag, TryCopy, same_items};
 use ordered_map::OrderedMap;
 use route_server::Proposal;
 use std::alloc::Global;
 use std::marker::Model;
 
-/// Groups by their first places, each found by its tag before and its signature after. Contracts see the list of them.
+/// Groups by their first places, each found by its tag before and its signature after: the first, which mostly is the only
+/// one, by a look at it, and the others in a map. Contracts see the list of them.
 #[derive(Drop)]
 pub struct Groups<'a> {
     fresh: Vec<Fresh>,
@@ -26,14 +27,31 @@ pub struct Groups<'a> {
 impl<'a> Model for Groups<'a> {
     ghost use Rattle.std.specs.Prelude.{List};
     ghost use Rattle.fast_path.specs.Grouping.{groups_of};
-    ghost use Rattle.fast_path.specs.GroupOrder.{ArePlaces};
+    ghost use Rattle.fast_path.specs.GroupOrder.{ArePlaces, behind};
     ghost use Rattle.fast_path.specs.declared.fresh.Fresh.{Fresh};
 
     ghost Value = { List Fresh };
 
     ghost view = { λ a. a.fresh.items };
 
-    ghost invariant = { λ a. ArePlaces (groups_of a.fresh.items) a.places.items };
+    ghost invariant = { λ a. ArePlaces 1 (behind (groups_of a.fresh.items)) a.places.items };
+}
+
+/// Whether the group of a class is the one with this tag before and this signature after.
+fn is_class(fresh: &Fresh, before: Option<Tag>, sig: &Sig) -> bool
+    ensures { result ≡ same_class before sig.now fresh.now }
+{
+    same_tags(before, fresh.before) && same_items(sig.items(), fresh.sig.items())
+}
+
+/// Whether the first group is the one with this tag before and this signature after.
+fn is_first(fresh: &[Fresh], before: Option<Tag>, sig: &Sig) -> bool
+    ensures { result ≡ is_first_class before sig.now fresh.now }
+{
+    match fresh {
+        [first, ..] => is_class(first, before, sig),
+        [] => false,
+    }
 }
 
 impl<'a> Groups<'a> {
@@ -58,6 +76,9 @@ impl<'a> Groups<'a> {
     pub fn place(&self, before: Option<Tag>, sig: &'a Sig) -> Option<usize>
         ensures { result ≡ position_from (same_class before sig.now) 0 self.now }
     {
+        if is_first(&self.fresh, before, sig) {
+            return Some(0);
+        }
         self.places.get(&GroupKey::new(before, sig)).copied()
     }
 
@@ -65,15 +86,18 @@ impl<'a> Groups<'a> {
     fn add(&mut self, before: Option<Tag>, sig: &'a Sig) -> Result<(), Memory>
         ensures { OnOk result (groups_of self.new ≡ one_more (groups_of self.old) (record { before = before; after = sig.now })) }
     {
-        let key = GroupKey::new(before, sig);
-        if self.places.get(&key).is_some() {
+        if self.place(before, sig).is_some() {
             return Ok(());
         }
         let own = sig.copy()?;
+        if self.fresh.is_empty() {
+            self.fresh.push(Fresh { before, sig: own })?;
+            return Ok(());
+        }
         self.places.reserve(1)?;
         let place = self.fresh.len();
         self.fresh.push(Fresh { before, sig: own })?;
-        self.places.put(key, place);
+        self.places.put(GroupKey::new(before, sig), place);
         Ok(())
     }
 

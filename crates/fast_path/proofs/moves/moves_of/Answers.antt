@@ -1,12 +1,6 @@
 -- One change more, or none.
-use Rattle.std.proofs.Common.{◌≡◌, ◌+◌, ◌++◌, ◌∷◌, [], true, false, cond, filter, not, take, sym, ap, ◌∙◌, append-nil}
-use Rattle.std.specs.FinMap.{get}
-use Rattle.std.proofs.lemmas.List.Elements.{filter_more}
-use Rattle.events.specs.Tags.{same_tag}
-use Rattle.events.specs.declared.TagChange.{TagChange}
-use Rattle.net_types.specs.Attributes.{same_option}
+use Rattle.std.proofs.Common.{sym, ap, ◌∙◌}
 use Rattle.fast_path.specs.Emptied.{old_tags}
-use Rattle.fast_path.specs.Offers.{others}
 use Rattle.fast_path.proofs.MoveCount.{left_more, other_more, other_same}
 use Rattle.fast_path.proofs.moves.moves_of.Goals as goal
 use Rattle.fast_path.proofs.moves.moves_of.Goals.{then-not-same_tags+in_ok-push, else-not-same_tags}

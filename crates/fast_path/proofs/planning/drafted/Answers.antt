@@ -7,7 +7,6 @@ use Rattle.net_types.proofs.OrderedLemmas.{ordered_rises}
 use Rattle.net_types.specs.Keys.{pair_cmp}
 use Rattle.net_types.specs.Sets.{IsRising}
 use Rattle.fast_path.specs.Committing.{classes_of, kept_of}
-use Rattle.fast_path.specs.Drafts.{tagged_by}
 use Rattle.fast_path.specs.Emptied.{emptied, emptied_of, old_tags}
 use Rattle.fast_path.specs.Grouping.{Known}
 use Rattle.fast_path.specs.Newly.{newly_tagged}
