@@ -2,6 +2,7 @@
 
 ghost use Rattle.std.specs.Prelude.{◌≡◌, ◌≤◌, ◌<◌, ◌+◌, length, None, option_copied, is_some, if◌then◌else◌};
 ghost use Rattle.std.specs.FinMap as map;
+ghost use Rattle.events.specs.After.{without_pairs};
 ghost use Rattle.block_build.specs.Installed.{Installed, count_at, rule_count};
 
 use crate::block::Block;
@@ -27,6 +28,13 @@ pub trait Blocks {
         ensures capacity { (installed self.new).capacity ≡ (installed self.old).capacity }
         ensures room { (installed self.old).room ≤ (installed self.new).room }
         ensures count { rule_count (installed self.new).table + count_at (installed self.old).table pair ≡ rule_count (installed self.old).table };
+
+    /// The rules of these pairs go. There is room for no fewer new pairs than before.
+    fn drop_blocks(&mut self, pairs: &[Pair])
+        ensures table { (installed self.new).table ≡ without_pairs (installed self.old).table pairs.now }
+        ensures capacity { (installed self.new).capacity ≡ (installed self.old).capacity }
+        ensures room { (installed self.old).room ≤ (installed self.new).room }
+        ensures count { rule_count (installed self.new).table ≤ rule_count (installed self.old).table };
 
     /// How many rules there are.
     fn rules(&self) -> usize

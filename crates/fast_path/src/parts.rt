@@ -66,9 +66,7 @@ pub fn forget_all(classes: &mut ClassMap, dead: &[Tag])
     ensures tag { classes.new.tag ≡ classes.old.tag }
     ensures kept { classes.new.kept ≡ kept_without classes.old.kept dead.now }
 {
-    for tag in dead {
-        classes.forget(*tag);
-    }
+    classes.forget_each(dead);
 }
 
 /// Takes the fresh tags.
@@ -98,9 +96,7 @@ pub fn remove_all<B: Blocks>(switch: &mut B, drops: &[Pair])
     ensures room { (B.installed switch.old).room ≤ (B.installed switch.new).room }
     ensures count { rule_count (B.installed switch.new).table ≤ rule_count (B.installed switch.old).table }
 {
-    for pair in drops {
-        switch.drop_block(*pair);
-    }
+    switch.drop_blocks(drops);
 }
 
 /// Puts the rules of pairs in.

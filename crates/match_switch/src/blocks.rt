@@ -81,6 +81,10 @@ impl Blocks for Switch {
         Switch::drop_block(self, pair);
     }
 
+    fn drop_blocks(&mut self, pairs: &[Pair]) {
+        Switch::drop_blocks(self, pairs);
+    }
+
     fn rules(&self) -> usize {
         Switch::rules(self)
     }
