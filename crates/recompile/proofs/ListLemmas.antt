@@ -1,15 +1,9 @@
 -- The last item of a list.
-use Rattle.std.proofs.Common.{◌≡◌, ℕ, zero, suc, ◌+◌, ◌-◌, ◌<◌, ◌≤◌, ◌⊎◌, List, [], ◌∷◌, length, take, refl, sym, ap, subst, ◌∙◌, inl, inr, arith}
-use Rattle.std.specs.Prelude.{Bool, true, false, nat_lt, Option, Some, None, slice_get}
-use Rattle.std.specs.FinMap.{FinMap}
-use Rattle.std.proofs.lemmas.Bool.{ltb-false, ltb-true}
+use Rattle.std.proofs.Common.{◌≡◌, ℕ, zero, suc, ◌+◌, ◌-◌, ◌≤◌, ◌⊎◌, List, [], ◌∷◌, length, take, refl, sym, ap, subst, ◌∙◌, inl, inr, arith}
+use Rattle.std.specs.Prelude.{Some, None, slice_get}
 use Rattle.std.proofs.lemmas.List.{length-take-le}
 use Rattle.net_types.proofs.FindLemmas.{not_there, slice_get_some}
-use Rattle.net_types.specs.Keys.{prefix_cmp}
 use Rattle.net_types.specs.Sets.{Member}
-use Rattle.net_types.specs.declared.address.Tag.{Tag}
-use Rattle.prefix_classes.proofs.MergeLemmas.{same_number}
-use Rattle.prefix_classes.specs.Classes.{IsAbove, IsNextTag, members}
 
 before_last : {A : Type 0} (k : ℕ) (xs : List A) (x y : A) → length xs ≡ suc k → slice_get xs k ≡ Some x → Member y xs → Member y (take k xs) ⊎ (y ≡ x)
 before_last k [] x y e at m = elim m [ ]
