@@ -1,10 +1,12 @@
-//! Puts as many prefixes into a map as the first argument says, looks up as many addresses as the second one says, and tells
-//! how many there are and how many were found, so that bench/run can tell how long one takes.
+//! Makes room for as many prefixes in a map as the first argument says, puts as many into it as the second one says, looks up as
+//! many addresses as the third one says, and tells how many there are and how many were found, so that bench/run can tell how
+//! long each takes.
 #![tactic(auto)]
 
 use net_types::{Ip, Memory, Prefix};
 use prefix_map::PrefixMap;
 use std::alloc::Global;
+use std::mem::ManuallyDrop;
 use std::{env, io};
 
 /// Addresses in no order.
@@ -20,13 +22,16 @@ impl Addresses {
     }
 }
 
-/// The arguments: how many prefixes, and how many addresses.
-fn counts(rt: &HostRuntime) -> (u32, u32) {
+/// The arguments: for how many prefixes there is room, how many there are, and how many addresses.
+fn counts(rt: &HostRuntime) -> (u32, u32, u32) {
     let Ok(args) = env::args(rt) else {
-        return (0, 0);
+        return (0, 0, 0);
     };
     let mut words = args.skip(1);
-    (number(words.next()), number(words.next()))
+    let room = number(words.next());
+    let prefixes = number(words.next());
+    let addresses = number(words.next());
+    (room, prefixes, addresses)
 }
 
 fn number(word: Option<String>) -> u32 {
@@ -36,11 +41,11 @@ fn number(word: Option<String>) -> u32 {
     }
 }
 
-/// A map of so many prefixes of 20 to 31 bits.
-fn filled(alloc: Global, count: u32) -> Result<PrefixMap<u32>, Memory> {
+/// A map with room for so many prefixes, and then with so many of 20 to 31 bits.
+fn filled(alloc: Global, room: u32, count: u32) -> Result<PrefixMap<u32>, Memory> {
     let mut addresses = Addresses { last: 1 };
     let mut map = PrefixMap::new(alloc);
-    map.reserve(count as usize)?;
+    map.reserve(room as usize)?;
     for number in 0..count {
         let ip = addresses.next();
         if let Ok(prefix) = Prefix::new(ip, 20 + (number % 12) as u8) {
@@ -63,12 +68,14 @@ fn found(map: &PrefixMap<u32>, count: u32) -> u32 {
 }
 
 fn main(rt: HostRuntime) -> io::Result<()> {
-    let (prefixes, addresses) = counts(&rt);
-    match filled(rt.alloc(), prefixes) {
+    let (room, prefixes, addresses) = counts(&rt);
+    match filled(rt.alloc(), room, prefixes) {
         Err(Memory) => println!(rt; "no memory"),
         Ok(map) => {
             let held = map.len();
             let found = found(&map, addresses);
+            // The process ends, and the system takes the map's memory back at once.
+            let _left = ManuallyDrop::new(map);
             println!(rt; "{held} prefixes, {found} of {addresses} addresses found")
         }
     }
