@@ -2,6 +2,7 @@
 
 use net_types::{Ip, Memory, Prefix};
 use prefix_map::PrefixMap;
+use std::alloc::Global;
 use std::mem;
 use std::test::Fail;
 
@@ -192,47 +193,74 @@ fn a_fork_without_a_value_goes(rt: HostRuntime) -> Result<(), Fail> {
     Ok(())
 }
 
-#[test]
-fn prefixes_answer_as_a_list(rt: HostRuntime) -> Result<(), Fail> {
-    let mut map: PrefixMap<u32> = PrefixMap::new(rt.alloc());
+// A change and look-ups beside a list: whether all answers are alike.
+fn are_alike(
+    map: &mut PrefixMap<u32>,
+    slow: &mut SlowMap,
+    round: u32,
+    seed: u32,
+) -> Result<bool, Memory> {
+    let key = some_prefix(seed);
+    let removing = if round / 1000 % 2 == 0 { 3 } else { 7 };
+    let changed = if (next(seed) >> 8) % 10 < removing {
+        map.remove(key) == slow.remove(key)
+    } else {
+        map.insert(key, round)? == slow.insert(key, round)?
+    };
+    let ip = some_prefix(next(next(seed))).address;
+    let longest = map.longest(ip).map(|entry| (entry.0, *entry.1));
+    Ok(
+        changed
+            && map.get(key).copied() == slow.get(key)
+            && map.len() == slow.entries.len()
+            && longest == slow.longest(ip),
+    )
+}
+
+// Whether the walks over both are alike, and the list that the map makes of its entries.
+fn are_alike_whole(map: &PrefixMap<u32>, slow: &SlowMap) -> Result<bool, Memory> {
+    let entries = map.entries()?;
+    let walked = map.iter().map(|entry| (entry.0, *entry.1));
+    Ok(same_entries(map, slow) && entries.iter().map(|entry| (entry.0, *entry.1)).eq(walked))
+}
+
+// The first round, if any, in which a map and a list differ. In one of them room is made for so many prefixes that they stand in a
+// table from then on.
+fn first_difference(alloc: Global, table_round: u32) -> Result<Option<u32>, Memory> {
+    let mut map: PrefixMap<u32> = PrefixMap::new(alloc);
     let mut slow = SlowMap {
-        entries: Vec::new(rt.alloc()),
+        entries: Vec::new(alloc),
     };
     let mut seed = 20201;
     for round in 0..6000u32 {
-        seed = next(seed);
-        let key = some_prefix(seed);
-        seed = next(seed);
-        let removing = if round / 1000 % 2 == 0 { 3 } else { 7 };
-        if (seed >> 8) % 10 < removing {
-            assert!(rt; map.remove(key) == slow.remove(key), "round {round}");
-        } else {
-            assert!(rt;
-                map.insert(key, round).is_ok_and(|before| slow
-                    .insert(key, round)
-                    .is_ok_and(|other| before == other)),
-                "round {round}"
-            );
+        if round == table_round {
+            map.reserve(40000)?;
         }
-        assert!(rt; map.get(key).copied() == slow.get(key), "round {round}");
-        assert!(rt; map.len() == slow.entries.len(), "round {round}");
-        seed = next(seed);
-        let ip = some_prefix(seed).address;
-        assert!(rt;
-            map.longest(ip).map(|entry| (entry.0, *entry.1)) == slow.longest(ip),
-            "round {round}"
-        );
-        if round % 50 == 0 {
-            assert!(rt; same_entries(&map, &slow), "round {round}");
-            let entries = map.entries()?;
-            assert!(rt;
-                entries
-                    .iter()
-                    .map(|entry| (entry.0, *entry.1))
-                    .eq(map.iter().map(|entry| (entry.0, *entry.1))),
-                "round {round}"
-            );
+        seed = next(next(next(seed)));
+        if !are_alike(&mut map, &mut slow, round, seed)? {
+            return Ok(Some(round));
+        }
+        if round % 100 == 0 && !are_alike_whole(&map, &slow)? {
+            return Ok(Some(round));
         }
     }
+    Ok(None)
+}
+
+#[test]
+fn prefixes_answer_as_a_list(rt: HostRuntime) -> Result<(), Fail> {
+    assert!(rt; first_difference(rt.alloc(), u32::MAX)? == None);
+    Ok(())
+}
+
+#[test]
+fn many_prefixes_answer_as_a_list(rt: HostRuntime) -> Result<(), Fail> {
+    assert!(rt; first_difference(rt.alloc(), 0)? == None);
+    Ok(())
+}
+
+#[test]
+fn prefixes_that_become_many_answer_as_a_list(rt: HostRuntime) -> Result<(), Fail> {
+    assert!(rt; first_difference(rt.alloc(), 3500)? == None);
     Ok(())
 }
