@@ -1,5 +1,5 @@
 -- Look-ups that ask at a fork for no more than the length and the address of a prefix.
-use Rattle.std.proofs.Common.{◌≡◌, ◌≤◌, ◌<◌, ◌++◌, ◌∷◌, ◌&&◌, cond, true, false, List, [], Option, inl, inr, sym, ap, ◌∙◌, refl, arith}
+use Rattle.std.proofs.Common.{◌≡◌, ◌≤◌, ◌<◌, ◌++◌, ◌∷◌, ◌&&◌, cond, false, List, [], Option, inl, inr, sym, ap, ◌∙◌, refl, arith}
 use Rattle.std.specs.Prelude.{Some, None, nat_eq}
 use Rattle.std.proofs.lemmas.Bool.{cases_Bool, eq-eqb, false≢true}
 use Rattle.net_types.proofs.OrderLemmas.{prefix_tie}
@@ -11,7 +11,7 @@ use Rattle.std.specs.FinMap.Entries.{find}
 use Rattle.net_types.specs.Keys.{prefix_cmp}
 use Rattle.net_types.specs.declared.prefix.Prefix.{Prefix}
 use Rattle.prefix_map.specs.Entries.{own}
-use Rattle.prefix_map.specs.Halves.{middle, LiesIn, LiesLow, LiesHigh}
+use Rattle.prefix_map.specs.Halves.{middle, LiesLow, LiesHigh}
 use Rattle.prefix_map.specs.Tries.{AllKeys}
 use Rattle.prefix_map.proofs.HalfLemmas.{begins}
 use Rattle.prefix_map.proofs.ListLemmas.{all_of, all_append, IsPast, IsBefore, find_past, find_before}

@@ -1,3 +1,4 @@
+pub mod CoverLemmas
 pub mod FindLemmas
 pub mod ForkLemmas
 pub mod HalfLemmas
@@ -8,4 +9,5 @@ pub mod NodeLemmas
 pub mod Sizes
 pub mod SortLemmas
 pub mod StandLemmas
+pub mod TableLemmas
 pub mod WalkLemmas

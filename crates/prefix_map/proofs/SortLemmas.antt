@@ -24,7 +24,7 @@ below_append x (e ∷ es) ds h k =
     let parts = and_parts (is_lt (prefix_cmp x e.0)) (below_all prefix_cmp x es) h in
     and_from _ _ parts.0 (below_append x es ds parts.1 k)
 
-sorted_append : {V : Type 0} (es ds : List (Prefix × V)) → is_sorted prefix_cmp es ≡ true → is_sorted prefix_cmp ds ≡ true → AllKeys (λ p. IsBefore p ds) es → is_sorted prefix_cmp (es ++ ds) ≡ true
+pub sorted_append : {V : Type 0} (es ds : List (Prefix × V)) → is_sorted prefix_cmp es ≡ true → is_sorted prefix_cmp ds ≡ true → AllKeys (λ p. IsBefore p ds) es → is_sorted prefix_cmp (es ++ ds) ≡ true
 sorted_append [] ds h k apart = k
 sorted_append (e ∷ es) ds h k apart =
     let parts = and_parts (below_all prefix_cmp e.0 es) (is_sorted prefix_cmp es) h in

@@ -17,7 +17,7 @@ use Rattle.prefix_map.proofs.StandLemmas.{turned}
 use Rattle.std.proofs.lemmas.Option.{same_Some}
 
 module _ {V : Type 0} where
-  before_below : (x : Prefix) (es : List (Prefix × V)) → below_all prefix_cmp x es ≡ true → IsBefore x es
+  pub before_below : (x : Prefix) (es : List (Prefix × V)) → below_all prefix_cmp x es ≡ true → IsBefore x es
   before_below x [] h = tt
   before_below x (e ∷ es) h =
       let parts = and_parts (is_lt (prefix_cmp x e.0)) (below_all prefix_cmp x es) h in

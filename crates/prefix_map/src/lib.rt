@@ -4,8 +4,10 @@
 mod change;
 mod iter;
 mod map;
+mod parts;
 mod place;
 mod spare;
+mod table;
 mod trie;
 
 pub use iter::Iter;

@@ -1,4 +1,4 @@
-//! The map: a trie, and boxes that wait for more prefixes.
+//! The map: its parts, and boxes that wait for more prefixes.
 
 ghost use Rattle.std.specs.Prelude.{◌≡◌, ◌≤◌, ◌<◌, ◌+◌, Some, None, IsTrue, IsOk, OnOk, OnErr, IfOk, IfSome, option_copied, is_some, length, if◌then◌else◌};
 ghost use Rattle.std.specs.FinMap as map;
@@ -7,10 +7,10 @@ ghost use Rattle.net_types.specs.Prefixes.{covers};
 ghost use Rattle.net_types.specs.Routes.{longest_of};
 ghost use Rattle.prefix_map.specs.Entries.{seen_entries};
 
-use crate::change::{put_in, take_from};
 use crate::iter::Iter;
+use crate::parts::Parts;
 use crate::spare::fill;
-use crate::trie::{Node, Trie, gather, longest_in, value_of};
+use crate::trie::{Node, Trie};
 use net_types::{Ip, Memory, Prefix};
 use std::alloc::Global;
 use std::marker::Model;
@@ -19,11 +19,15 @@ use std::marker::Model;
 /// walk down the trie meets fewer pages of memory.
 const MORE_BOXES: usize = 63;
 
+/// How many prefixes there are at least, with those that there is room for, where they stand in a table. Its own memory is less than
+/// that of so many boxes.
+const MANY: usize = 32768;
+
 /// A map from prefixes to values, and room for a number of new prefixes.
 #[derive(Drop)]
 pub struct PrefixMap<V> {
     alloc: Global,
-    trie: Trie<V>,
+    parts: Parts<V>,
     // one or more for each new prefix that there is room for
     spare: Vec<Box<Node<V>>>,
     room: usize,
@@ -35,16 +39,16 @@ impl<V> Model for PrefixMap<V> {
     ghost use Rattle.std.specs.Coded.{codes};
     ghost use Rattle.std.specs.FinMap as map;
     ghost use Rattle.prefix_map.specs.Held.{Held};
-    ghost use Rattle.prefix_map.specs.Entries.{entries_of};
+    ghost use Rattle.prefix_map.specs.Parts.{entries_in};
     ghost use Rattle.prefix_map.specs.Kept.{IsKept};
 
     ghost Value = { Held V };
 
     ghost coded = { Prim.hlevel (codes, map.code, V.code) };
 
-    ghost view = { λ a. record { map = map.from_sorted (entries_of a.trie); room = a.room } };
+    ghost view = { λ a. record { map = map.from_sorted (entries_in a.parts); room = a.room } };
 
-    ghost invariant = { λ a. IsKept a.trie (vec_len a.spare) a.room a.count };
+    ghost invariant = { λ a. IsKept a.parts (vec_len a.spare) a.room a.count };
 }
 
 impl<V> PrefixMap<V> {
@@ -54,7 +58,7 @@ impl<V> PrefixMap<V> {
     {
         PrefixMap {
             alloc,
-            trie: Trie::Empty,
+            parts: Parts::One(Trie::Empty),
             spare: Vec::new(alloc),
             room: 0,
             count: 0,
@@ -65,7 +69,7 @@ impl<V> PrefixMap<V> {
     pub fn get(&self, key: Prefix) -> Option<&V>
         ensures { option_copied result ≡ map.get self.now.map key }
     {
-        value_of(&self.trie, key)
+        self.parts.value(key)
     }
 
     /// The longest prefix of the map that covers an address, with its value; none where no prefix of the map covers it.
@@ -73,7 +77,7 @@ impl<V> PrefixMap<V> {
         ensures key { option_map (λ entry. entry.0) result ≡ longest_of (map.keys self.now.map) ip }
         ensures value { IfSome result (λ entry. Some entry.1.now ≡ map.get self.now.map entry.0) }
     {
-        longest_in(&self.trie, ip)
+        self.parts.longest(ip)
     }
 
     /// How many prefixes have a value.
@@ -87,7 +91,7 @@ impl<V> PrefixMap<V> {
     pub fn iter(&self) -> Iter<'_, V>
         ensures { result ≡ map.entries self.now.map }
     {
-        Iter::new(&self.trie)
+        Iter::new(&self.parts)
     }
 
     /// The prefixes with their values, ascending by address, and then by length: all in one walk, as a list.
@@ -95,7 +99,7 @@ impl<V> PrefixMap<V> {
         ensures { IfOk result (λ entries. seen_entries entries.items ≡ map.entries self.now.map) }
     {
         let mut entries = Vec::with_capacity(self.alloc, self.count)?;
-        gather(&self.trie, &mut entries)?;
+        self.parts.gather(&mut entries)?;
         Ok(entries)
     }
 }
@@ -113,6 +117,10 @@ impl<V: Drop> PrefixMap<V> {
         }
         if entries > usize::MAX - self.count {
             return Err(Memory);
+        }
+        if self.count + entries >= MANY {
+            self.parts
+                .divide(self.alloc, &mut self.spare, self.room, self.count)?;
         }
         if self.spare.len() < entries {
             let more = (self.count / 4).min(MORE_BOXES);
@@ -144,7 +152,7 @@ impl<V: Drop> PrefixMap<V> {
         ensures map { self.new.map ≡ map.insert self.old.map key value }
         ensures room { self.old.room ≤ self.new.room + (if is_some result then 0 else 1) }
     {
-        let before = put_in(&mut self.trie, &mut self.spare, key, value);
+        let before = self.parts.put(&mut self.spare, key, value);
         if before.is_none() {
             self.room -= 1;
             self.count += 1;
@@ -158,7 +166,7 @@ impl<V: Drop> PrefixMap<V> {
         ensures map { self.new.map ≡ map.remove self.old.map key }
         ensures room { self.old.room ≤ self.new.room }
     {
-        let before = take_from(&mut self.trie, &mut self.spare, key);
+        let before = self.parts.take(&mut self.spare, key);
         if before.is_some() {
             self.count -= 1;
         }
