@@ -12,7 +12,8 @@ use Rattle.std.proofs.lemmas.List.{length-map, map-append}
 use Rattle.ordered_map.specs.Changes.{with_values, changed_at, changed_or_given, changed_or_put}
 use Rattle.ordered_map.specs.Entries.{put_given}
 use Rattle.ordered_map.specs.Kept.{IsKept}
-use Rattle.ordered_map.proofs.SplitLemmas.{less, IsPast, past_smaller, past_tied, below_smaller, below_tied, sorted_back, left_of, here_at, right_of}
+use Rattle.ordered_map.specs.Runs.{IsPast}
+use Rattle.ordered_map.proofs.SplitLemmas.{less, past_smaller, past_tied, below_smaller, below_tied, sorted_back, left_of, here_at, right_of, beyond_of, between_of}
 
 module _ {K V : Type 0} (R : K → K → Ordering) where
   below_values : (f : K → V → V) (x : K) (es : List (K × V)) → below_all R x (with_values f es) ≡ below_all R x es
@@ -27,10 +28,10 @@ module _ {K V : Type 0} (R : K → K → Ordering) where
   pub values_rise : (f : K → V → V) (es fs : List (K × V)) → is_sorted R es ≡ true → fs ≡ with_values f es → is_sorted R fs ≡ true
   values_rise f es fs rising is = ap (is_sorted R) is ∙ sorted_values f es ∙ rising
 
-  pub values_kept : (f : K → V → V) (es fs : List (K × V)) (spare count : ℕ) → IsKept R es spare count → fs ≡ with_values f es → IsKept R fs spare count
-  values_kept f es fs spare count kept is =
+  pub values_kept : (f : K → V → V) (es fs : List (K × V)) (spare room count : ℕ) → IsKept R es spare room count → fs ≡ with_values f es → IsKept R fs spare room count
+  values_kept f es fs spare room count kept is =
       let size : length fs ≡ length es = ap length is ∙ length-map es (λ (e : K × V). (e.0, f e.0 e.1)) in
-      record { rising = values_rise f es fs kept.rising is; counted = omega (arith, size, kept.counted); fits = kept.fits }
+      record { rising = values_rise f es fs kept.rising is; boxes = kept.boxes; counted = omega (arith, size, kept.counted); fits = kept.fits }
 
   -- what is found of a key once the value of one has changed
   pub find-changed : IsTotalOrder R → (q : K) (f : V → V) (u : K) (es : List (K × V)) → find R u (changed_at R q f es) ≡ cond (eq_by_cmp R u q) (option_map f (find R u es)) (find R u es)
@@ -59,11 +60,11 @@ module _ {K V : Type 0} (R : K → K → Ordering) where
     abbrev one : K × V → K × V
     one e = (e.0, cond (eq_by_cmp R q e.0) (f e.1) e.1)
 
-    past_stay : (l : List (K × V)) → IsPast R q l → map one l ≡ l
+    pub past_stay : (l : List (K × V)) → IsPast R q l → map one l ≡ l
     past_stay [] p = refl
     past_stay (e ∷ l) p = λ i. (e.0, cond (is_eq (p.0 i)) (f e.1) e.1) ∷ past_stay l p.1 i
 
-    below_stay : (m : List (K × V)) → below_all R q m ≡ true → map one m ≡ m
+    pub below_stay : (m : List (K × V)) → below_all R q m ≡ true → map one m ≡ m
     below_stay [] h = refl
     below_stay (e ∷ m) h =
         let parts = and_parts (is_lt (R q e.0)) (below_all R q m) h in
@@ -86,6 +87,19 @@ module _ {K V : Type 0} (R : K → K → Ordering) where
       changed_right more =
           map-append one l (e ∷ r)
           ∙ (λ i. past_stay l (past_smaller R o q l e r h more) i ++ (e.0, cond (is_eq (more i)) (f e.1) e.1) ∷ map one r)
+
+    -- the same where some others stand right of the entry, and more past them
+    module _ (o : IsTotalOrder R) (l : List (K × V)) (e : K × V) (m r : List (K × V)) (h : is_sorted R (l ++ e ∷ (m ++ r)) ≡ true) (more : R q e.0 ≡ Greater) where
+      pub changed_beyond : IsPast R q m → changed_at R q f (l ++ e ∷ (m ++ r)) ≡ l ++ e ∷ (m ++ changed_at R q f r)
+      changed_beyond past =
+          changed_right o l e (m ++ r) h more
+          ∙ ap (λ es. l ++ e ∷ es) (map-append one m r ∙ ap (λ es. es ++ map one r) (past_stay m past))
+
+      pub changed_between : (is_sorted R (m ++ r) ≡ true → below_all R q r ≡ true) → changed_at R q f (l ++ e ∷ (m ++ r)) ≡ l ++ e ∷ (changed_at R q f m ++ r)
+      changed_between within =
+          let below = within (right_of R o q l e (m ++ r) h more).rising in
+          changed_right o l e (m ++ r) h more
+          ∙ ap (λ es. l ++ e ∷ es) (map-append one m r ∙ ap (λ es. map one m ++ es) (below_stay r below))
 
   -- ---- a value that changes, or one that is given to a key without one
 
@@ -115,3 +129,17 @@ module _ {K V : Type 0} (R : K → K → Ordering) where
           let split = right_of R o q l e r h more in
           ap (λ s. put_given R q (option_or (option_map f s) given) (l ++ e ∷ r)) split.find_is
           ∙ split.put_is (option_or (option_map f (find R q r)) given)
+
+    -- the same where some others stand right of the entry, and more past them
+    module _ (o : IsTotalOrder R) (given : Option V) (l : List (K × V)) (e : K × V) (m r : List (K × V)) (h : is_sorted R (l ++ e ∷ (m ++ r)) ≡ true) (more : R q e.0 ≡ Greater) where
+      pub given_beyond : IsPast R q m → changed_or_given R q f given (l ++ e ∷ (m ++ r)) ≡ l ++ e ∷ (m ++ changed_or_given R q f given r)
+      given_beyond past =
+          let split = beyond_of R o q l e m r h more past in
+          ap (λ s. put_given R q (option_or (option_map f s) given) (l ++ e ∷ (m ++ r))) split.find_is
+          ∙ split.put_is (option_or (option_map f (find R q r)) given)
+
+      pub given_between : (is_sorted R (m ++ r) ≡ true → below_all R q r ≡ true) → changed_or_given R q f given (l ++ e ∷ (m ++ r)) ≡ l ++ e ∷ (changed_or_given R q f given m ++ r)
+      given_between within =
+          let split = between_of R o q l e m r h more within in
+          ap (λ s. put_given R q (option_or (option_map f s) given) (l ++ e ∷ (m ++ r))) split.find_is
+          ∙ split.put_is (option_or (option_map f (find R q m)) given)

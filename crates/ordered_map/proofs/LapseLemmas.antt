@@ -5,11 +5,12 @@ use Rattle.std.specs.Cmp.{IsTotalOrder}
 use Rattle.std.specs.Option.{option_map}
 use Rattle.std.specs.declared.cmp.Ordering.{Ordering}
 use Rattle.std.specs.declared.cmp.Ordering.TheVariants.{Less, Equal, Greater}
-use Rattle.std.specs.FinMap.Entries.{find, is_sorted}
+use Rattle.std.specs.FinMap.Entries.{find, is_sorted, below_all}
 use Rattle.ordered_map.specs.Kept.{IsKept}
 use Rattle.ordered_map.specs.Lapsed.{changed_or_without, lapsing, lasting, with_value}
 use Rattle.ordered_map.proofs.CountLemmas.{put_known, put_rises, took_known, took_none, without_rises}
-use Rattle.ordered_map.proofs.SplitLemmas.{IsLeft, IsRight, left_of, here_at, right_of}
+use Rattle.ordered_map.specs.Runs.{IsPast}
+use Rattle.ordered_map.proofs.SplitLemmas.{IsLeft, IsRight, IsBeyond, IsBetween, left_of, here_at, right_of, beyond_of, between_of}
 
 module _ {K V : Type 0} (R : K → K → Ordering) (o : IsTotalOrder R) (q : K) (f : V → V) (lapsed : V → Bool) where
   module _ (l : List (K × V)) (e : K × V) (r : List (K × V)) (h : is_sorted R (l ++ e ∷ r) ≡ true) where
@@ -43,6 +44,26 @@ module _ {K V : Type 0} (R : K → K → Ordering) (o : IsTotalOrder R) (q : K) 
         by split None = split.without_is
         by split (Some v) = split.put_is (Some v)
 
+  -- the same where some others stand right of the entry, and more past them
+  module _ (l : List (K × V)) (e : K × V) (m r : List (K × V)) (h : is_sorted R (l ++ e ∷ (m ++ r)) ≡ true) (more : R q e.0 ≡ Greater) where
+    pub lapsed_beyond : IsPast R q m → changed_or_without R q f lapsed (l ++ e ∷ (m ++ r)) ≡ l ++ e ∷ (m ++ changed_or_without R q f lapsed r)
+    lapsed_beyond past =
+        let split = beyond_of R o q l e m r h more past in
+        ap (λ s. with_value R q (lasting lapsed (option_map f s)) (l ++ e ∷ (m ++ r))) split.find_is ∙ by split (lasting lapsed (option_map f (find R q r)))
+      where
+        by : IsBeyond R q l e m r → (now : Option V) → with_value R q now (l ++ e ∷ (m ++ r)) ≡ l ++ e ∷ (m ++ with_value R q now r)
+        by split None = split.without_is
+        by split (Some v) = split.put_is (Some v)
+
+    pub lapsed_between : (is_sorted R (m ++ r) ≡ true → below_all R q r ≡ true) → changed_or_without R q f lapsed (l ++ e ∷ (m ++ r)) ≡ l ++ e ∷ (changed_or_without R q f lapsed m ++ r)
+    lapsed_between within =
+        let split = between_of R o q l e m r h more within in
+        ap (λ s. with_value R q (lasting lapsed (option_map f s)) (l ++ e ∷ (m ++ r))) split.find_is ∙ by split (lasting lapsed (option_map f (find R q m)))
+      where
+        by : IsBetween R q l e m r → (now : Option V) → with_value R q now (l ++ e ∷ (m ++ r)) ≡ l ++ e ∷ (with_value R q now m ++ r)
+        by split None = split.without_is
+        by split (Some v) = split.put_is (Some v)
+
   module _ (es fs : List (K × V)) (is : fs ≡ changed_or_without R q f lapsed es) where
     pub lapsed_rises : is_sorted R es ≡ true → is_sorted R fs ≡ true
     lapsed_rises rising = by (lasting lapsed (option_map f (find R q es))) is
@@ -51,25 +72,25 @@ module _ {K V : Type 0} (R : K → K → Ordering) (o : IsTotalOrder R) (q : K) 
         by None is = without_rises R o es fs q rising is
         by (Some v) is = put_rises R o es fs q v rising is
 
-    module _ (spare left count : ℕ) (kept : IsKept R es spare count) where
-      pub lapsed_took : is_some (lapsing lapsed (option_map f (find R q es))) ≡ true → left ≤ spare + 1 → IsKept R fs left (count - 1)
-      lapsed_took some room = by (find R q es) refl is some
+    module _ (spare left room count : ℕ) (kept : IsKept R es spare room count) (more : spare ≤ left) where
+      pub lapsed_took : is_some (lapsing lapsed (option_map f (find R q es))) ≡ true → IsKept R fs left room (count - 1)
+      lapsed_took some = by (find R q es) refl is some
         where
-          at : (v : V) (b : Bool) → find R q es ≡ Some v → fs ≡ with_value R q (cond b None (Some (f v))) es → is_some (cond b (Some (f v)) None) ≡ true → IsKept R fs left (count - 1)
-          at v true was is some = took_known R o es fs q spare left count kept is (ap is_some was) room
+          at : (v : V) (b : Bool) → find R q es ≡ Some v → fs ≡ with_value R q (cond b None (Some (f v))) es → is_some (cond b (Some (f v)) None) ≡ true → IsKept R fs left room (count - 1)
+          at v true was is some = took_known R o es fs q spare left room count kept is (ap is_some was) more
           at v false was is some = absurd (cc)
 
-          by : (now : Option V) → find R q es ≡ now → fs ≡ with_value R q (lasting lapsed (option_map f now)) es → is_some (lapsing lapsed (option_map f now)) ≡ true → IsKept R fs left (count - 1)
+          by : (now : Option V) → find R q es ≡ now → fs ≡ with_value R q (lasting lapsed (option_map f now)) es → is_some (lapsing lapsed (option_map f now)) ≡ true → IsKept R fs left room (count - 1)
           by None was is some = absurd (cc)
           by (Some v) was is some = at v (lapsed (f v)) was is some
 
-      pub lapsed_none : is_some (lapsing lapsed (option_map f (find R q es))) ≡ false → spare ≤ left → left ≤ spare + 0 → IsKept R fs left count
-      lapsed_none none room most = by (find R q es) refl is none
+      pub lapsed_none : is_some (lapsing lapsed (option_map f (find R q es))) ≡ false → IsKept R fs left room count
+      lapsed_none none = by (find R q es) refl is none
         where
-          at : (v : V) (b : Bool) → find R q es ≡ Some v → fs ≡ with_value R q (cond b None (Some (f v))) es → is_some (cond b (Some (f v)) None) ≡ false → IsKept R fs left count
+          at : (v : V) (b : Bool) → find R q es ≡ Some v → fs ≡ with_value R q (cond b None (Some (f v))) es → is_some (cond b (Some (f v)) None) ≡ false → IsKept R fs left room count
           at v true was is none = absurd (cc)
-          at v false was is none = put_known R o es fs q (f v) spare left count kept is (ap is_some was) (omega (arith, room, most))
+          at v false was is none = put_known R o es fs q (f v) spare left room count kept is (ap is_some was) (omega (arith, more))
 
-          by : (now : Option V) → find R q es ≡ now → fs ≡ with_value R q (lasting lapsed (option_map f now)) es → is_some (lapsing lapsed (option_map f now)) ≡ false → IsKept R fs left count
-          by None was is none = took_none R o es fs q spare left count kept is (ap is_some was) most
+          by : (now : Option V) → find R q es ≡ now → fs ≡ with_value R q (lasting lapsed (option_map f now)) es → is_some (lapsing lapsed (option_map f now)) ≡ false → IsKept R fs left room count
+          by None was is none = took_none R o es fs q spare left room count kept is (ap is_some was) more
           by (Some v) was is none = at v (lapsed (f v)) was is none

@@ -1,8 +1,11 @@
 pub mod CountLemmas
 pub mod SplitLemmas
 pub mod WalkLemmas
+pub mod GatherLemmas
 pub mod ChangeLemmas
 pub mod LapseLemmas
 pub mod EachLemmas
 pub mod PartLemmas
+pub mod RunLemmas
 pub mod WeightLemmas
+pub mod PutLemmas

@@ -1,5 +1,5 @@
 -- Entries that rise, split at one of them: where a key is sought, put, taken out and passed.
-use Rattle.std.proofs.Common.{◌≡◌, ◌<◌, length, length-append, arith, true, false, cond, not, List, [], ◌∷◌, ◌++◌, ap, ◌∙◌, refl}
+use Rattle.std.proofs.Common.{◌≡◌, ◌<◌, ◌+◌, length, length-append, arith, true, false, cond, not, List, [], ◌∷◌, ◌++◌, ap, ◌∙◌, refl}
 use Rattle.std.specs.Prelude.{Option, None, Some}
 use Rattle.std.specs.Cmp.{IsTotalOrder}
 use Rattle.std.specs.Ordering.{is_lt, is_eq, ordering_reverse}
@@ -8,6 +8,7 @@ use Rattle.std.specs.declared.cmp.Ordering.TheVariants.{Less, Equal, Greater}
 use Rattle.std.specs.FinMap.Entries.{find, put, is_sorted, below_all, by_order}
 use Rattle.std.proofs.lemmas.Bool.{and_from, and_parts}
 use Rattle.ordered_map.specs.Entries.{without, above, put_given, head_of}
+use Rattle.ordered_map.specs.Runs.{IsPast}
 
 pub less : (r : Ordering) → is_lt r ≡ true → r ≡ Less
 less Less e = refl
@@ -18,11 +19,6 @@ pub turned : {K : Type 0} {R : K → K → Ordering} (o : IsTotalOrder R) (x y :
 turned o x y r e = o.antisymm y x ∙ ap ordering_reverse e
 
 module _ {K X : Type 0} (R : K → K → Ordering) where
-  -- the key is greater than each of these
-  abbrev pub IsPast : K → List (K × X) → Type 0
-  IsPast q [] = Unit {0}
-  IsPast q (e ∷ es) = (R q e.0 ≡ Greater) × IsPast q es
-
   -- what stands left of an entry, where the key is smaller than it
   pub record IsLeft (q : K) (l : List (K × X)) (e : K × X) (r : List (K × X)) : Type 0 where
     pub rising : is_sorted R l ≡ true
@@ -47,7 +43,7 @@ module _ {K X : Type 0} (R : K → K → Ordering) where
     pub without_is : without R q (l ++ e ∷ r) ≡ l ++ e ∷ without R q r
     pub above_is : above R q (l ++ e ∷ r) ≡ above R q r
 
-  below_front : (x : K) (l m : List (K × X)) → below_all R x (l ++ m) ≡ true → below_all R x l ≡ true
+  pub below_front : (x : K) (l m : List (K × X)) → below_all R x (l ++ m) ≡ true → below_all R x l ≡ true
   below_front x [] m h = refl
   below_front x (e ∷ l) m h =
       let parts = and_parts (is_lt (R x e.0)) (below_all R x (l ++ m)) h in
@@ -69,41 +65,45 @@ module _ {K X : Type 0} (R : K → K → Ordering) where
 
   -- ---- past the entries with smaller keys
 
-  find_past : (q : K) (l m : List (K × X)) → IsPast q l → find R q (l ++ m) ≡ find R q m
+  pub find_past : (q : K) (l m : List (K × X)) → IsPast R q l → find R q (l ++ m) ≡ find R q m
   find_past q [] m p = refl
   find_past q (e ∷ l) m p = ap (λ r. cond (is_eq r) (Some e.1) (find R q (l ++ m))) p.0 ∙ find_past q l m p.1
 
-  put_past : (q : K) (v : X) (l m : List (K × X)) → IsPast q l → put R q v (l ++ m) ≡ l ++ put R q v m
+  pub put_past : (q : K) (v : X) (l m : List (K × X)) → IsPast R q l → put R q v (l ++ m) ≡ l ++ put R q v m
   put_past q v [] m p = refl
   put_past q v (e ∷ l) m p =
       ap (λ r. by_order r ((q, v) ∷ e ∷ (l ++ m)) ((e.0, v) ∷ (l ++ m)) (e ∷ put R q v (l ++ m))) p.0
       ∙ ap (λ es. e ∷ es) (put_past q v l m p.1)
 
-  given_past : (q : K) (l : List (K × X)) (e : K × X) (r : List (K × X)) → IsPast q l → R q e.0 ≡ Greater → (o : Option X) → put_given R q o (l ++ e ∷ r) ≡ l ++ e ∷ put_given R q o r
+  pub given_past : (q : K) (l : List (K × X)) (e : K × X) (r : List (K × X)) → IsPast R q l → R q e.0 ≡ Greater → (o : Option X) → put_given R q o (l ++ e ∷ r) ≡ l ++ e ∷ put_given R q o r
   given_past q l e r p more None = refl
   given_past q l e r p more (Some v) = put_past q v l (e ∷ r) p ∙ ap (λ s. l ++ by_order s ((q, v) ∷ e ∷ r) ((e.0, v) ∷ r) (e ∷ put R q v r)) more
 
-  pub without_past : (q : K) (l m : List (K × X)) → IsPast q l → without R q (l ++ m) ≡ l ++ without R q m
+  pub given_over : (q : K) (l m : List (K × X)) → IsPast R q l → (o : Option X) → put_given R q o (l ++ m) ≡ l ++ put_given R q o m
+  given_over q l m p None = refl
+  given_over q l m p (Some v) = put_past q v l m p
+
+  pub without_past : (q : K) (l m : List (K × X)) → IsPast R q l → without R q (l ++ m) ≡ l ++ without R q m
   without_past q [] m p = refl
   without_past q (e ∷ l) m p =
       ap (λ r. cond (not (is_eq r)) (e ∷ without R q (l ++ m)) (without R q (l ++ m))) p.0
       ∙ ap (λ es. e ∷ es) (without_past q l m p.1)
 
-  above_past : (q : K) (l m : List (K × X)) → IsPast q l → above R q (l ++ m) ≡ above R q m
+  pub above_past : (q : K) (l m : List (K × X)) → IsPast R q l → above R q (l ++ m) ≡ above R q m
   above_past q [] m p = refl
   above_past q (e ∷ l) m p =
       ap (λ r. cond (is_lt r) (e ∷ above R q (l ++ m)) (above R q (l ++ m))) p.0 ∙ above_past q l m p.1
 
   -- ---- before the entries with greater keys
 
-  find_before : (q : K) (l m : List (K × X)) → below_all R q m ≡ true → find R q (l ++ m) ≡ find R q l
+  pub find_before : (q : K) (l m : List (K × X)) → below_all R q m ≡ true → find R q (l ++ m) ≡ find R q l
   find_before q [] [] h = refl
   find_before q [] (e ∷ m) h =
       let parts = and_parts (is_lt (R q e.0)) (below_all R q m) h in
       ap (λ r. cond (is_eq r) (Some e.1) (find R q m)) (less _ parts.0) ∙ find_before q [] m parts.1
   find_before q (e ∷ l) m h = ap (cond (is_eq (R q e.0)) (Some e.1)) (find_before q l m h)
 
-  put_before : (q : K) (v : X) (l m : List (K × X)) → below_all R q m ≡ true → put R q v (l ++ m) ≡ put R q v l ++ m
+  pub put_before : (q : K) (v : X) (l m : List (K × X)) → below_all R q m ≡ true → put R q v (l ++ m) ≡ put R q v l ++ m
   put_before q v [] [] h = refl
   put_before q v [] (e ∷ m) h =
       let parts = and_parts (is_lt (R q e.0)) (below_all R q m) h in
@@ -115,7 +115,7 @@ module _ {K X : Type 0} (R : K → K → Ordering) where
         | Greater ↦ ap (λ es. e ∷ es) (put_before q v l m h)
       ]
 
-  given_before : (q : K) (l m : List (K × X)) → below_all R q m ≡ true → (o : Option X) → put_given R q o (l ++ m) ≡ put_given R q o l ++ m
+  pub given_before : (q : K) (l m : List (K × X)) → below_all R q m ≡ true → (o : Option X) → put_given R q o (l ++ m) ≡ put_given R q o l ++ m
   given_before q l m h None = refl
   given_before q l m h (Some v) = put_before q v l m h
 
@@ -145,13 +145,13 @@ module _ {K X : Type 0} (R : K → K → Ordering) where
 
   module _ (o : IsTotalOrder R) where
     -- a key that is not smaller than an entry is greater than all before it
-    pub past_smaller : (q : K) (l : List (K × X)) (e : K × X) (r : List (K × X)) → is_sorted R (l ++ e ∷ r) ≡ true → R q e.0 ≡ Greater → IsPast q l
+    pub past_smaller : (q : K) (l : List (K × X)) (e : K × X) (r : List (K × X)) → is_sorted R (l ++ e ∷ r) ≡ true → R q e.0 ≡ Greater → IsPast R q l
     past_smaller q [] e r h more = tt
     past_smaller q (f ∷ l) e r h more =
         let parts = and_parts (below_all R f.0 (l ++ e ∷ r)) (is_sorted R (l ++ e ∷ r)) h in
         (turned o f.0 q Less (o.trans f.0 e.0 q (below_entry f.0 l e r parts.0) (turned o q e.0 Greater more)), past_smaller q l e r parts.1 more)
 
-    pub past_tied : (q : K) (l : List (K × X)) (e : K × X) (r : List (K × X)) → is_sorted R (l ++ e ∷ r) ≡ true → R q e.0 ≡ Equal → IsPast q l
+    pub past_tied : (q : K) (l : List (K × X)) (e : K × X) (r : List (K × X)) → is_sorted R (l ++ e ∷ r) ≡ true → R q e.0 ≡ Equal → IsPast R q l
     past_tied q [] e r h tie = tt
     past_tied q (f ∷ l) e r h tie =
         let parts = and_parts (below_all R f.0 (l ++ e ∷ r)) (is_sorted R (l ++ e ∷ r)) h in
@@ -223,3 +223,51 @@ first_or (Some x) best = Some x
 pub first_of_split : {A : Type 0} (l : List A) (e : A) (r : List A) (best : Option A) → first_or (head_of (l ++ e ∷ r)) best ≡ first_or (head_of l) (Some e)
 first_of_split [] e r best = refl
 first_of_split (x ∷ l) e r best = refl
+
+-- ---- what stands right of an entry, split once more
+
+pub length_parts : {A : Type 0} (l : List A) (e : A) (m r : List A) → length (l ++ e ∷ (m ++ r)) ≡ length l + (1 + (length m + length r))
+length_parts l e m r =
+    let size = length-append l (e ∷ (m ++ r)) in
+    let rest = length-append m r in
+    omega (arith, size, rest)
+
+pub last_shorter : {A : Type 0} (es l : List A) (e : A) (m r : List A) → es ≡ l ++ e ∷ (m ++ r) → length r < length es
+last_shorter es l e m r whole = let size = ap length whole ∙ length_parts l e m r in omega (arith, size)
+
+module _ {K X : Type 0} (R : K → K → Ordering) where
+  -- what stands past some others, where the key is greater than all of these
+  pub record IsBeyond (q : K) (l : List (K × X)) (e : K × X) (m r : List (K × X)) : Type 0 where
+    pub rising : is_sorted R r ≡ true
+    pub find_is : find R q (l ++ e ∷ (m ++ r)) ≡ find R q r
+    pub put_is : (o : Option X) → put_given R q o (l ++ e ∷ (m ++ r)) ≡ l ++ e ∷ (m ++ put_given R q o r)
+    pub without_is : without R q (l ++ e ∷ (m ++ r)) ≡ l ++ e ∷ (m ++ without R q r)
+
+  -- the others themselves, where the key is smaller than what stands past them
+  pub record IsBetween (q : K) (l : List (K × X)) (e : K × X) (m r : List (K × X)) : Type 0 where
+    pub rising : is_sorted R m ≡ true
+    pub find_is : find R q (l ++ e ∷ (m ++ r)) ≡ find R q m
+    pub put_is : (o : Option X) → put_given R q o (l ++ e ∷ (m ++ r)) ≡ l ++ e ∷ (put_given R q o m ++ r)
+    pub without_is : without R q (l ++ e ∷ (m ++ r)) ≡ l ++ e ∷ (without R q m ++ r)
+
+  module _ (o : IsTotalOrder R) (q : K) (l : List (K × X)) (e : K × X) (m r : List (K × X)) (h : is_sorted R (l ++ e ∷ (m ++ r)) ≡ true) (more : R q e.0 ≡ Greater) where
+    pub beyond_of : IsPast R q m → IsBeyond q l e m r
+    beyond_of past =
+        let split = right_of R o q l e (m ++ r) h more in
+        record {
+          rising = sorted_back R m r split.rising;
+          find_is = split.find_is ∙ find_past R q m r past;
+          put_is = λ given. split.put_is given ∙ ap (λ es. l ++ e ∷ es) (given_over R q m r past given);
+          without_is = split.without_is ∙ ap (λ es. l ++ e ∷ es) (without_past R q m r past);
+        }
+
+    pub between_of : (is_sorted R (m ++ r) ≡ true → below_all R q r ≡ true) → IsBetween q l e m r
+    between_of within =
+        let split = right_of R o q l e (m ++ r) h more in
+        let below = within split.rising in
+        record {
+          rising = sorted_front R m r split.rising;
+          find_is = split.find_is ∙ find_before R q m r below;
+          put_is = λ given. split.put_is given ∙ ap (λ es. l ++ e ∷ es) (given_before R q m r below given);
+          without_is = split.without_is ∙ ap (λ es. l ++ e ∷ es) (without_before R q m r below);
+        }

@@ -1,5 +1,5 @@
 -- What is left of entries that rise, after the first of those above a key.
-use Rattle.std.proofs.Common.{◌≡◌, true, false, cond, List, [], ◌∷◌, sym, ap, subst, ◌∙◌, refl}
+use Rattle.std.proofs.Common.{◌≡◌, true, false, cond, List, [], ◌∷◌, ◌++◌, sym, ap, subst, ◌∙◌, refl}
 use Rattle.std.specs.Prelude.{Some, None, Option}
 use Rattle.std.specs.Borrow.{Bor}
 use Rattle.std.specs.Cmp.{IsTotalOrder}
@@ -10,7 +10,7 @@ use Rattle.std.specs.FinMap.Entries.{is_sorted, below_all}
 use Rattle.std.proofs.lemmas.Bool.{and_from, and_parts}
 use Rattle.std.proofs.lemmas.Option.{same_Some}
 use Rattle.ordered_map.specs.Entries.{above, head_of, left_after}
-use Rattle.ordered_map.proofs.SplitLemmas.{less, turned, above_before, below_smaller}
+use Rattle.ordered_map.proofs.SplitLemmas.{less, turned, above_before, below_smaller, first_or, here_at, right_of}
 
 pub none_left : {A : Type 0} (xs : List A) → head_of xs ≡ None → xs ≡ []
 none_left [] e = refl
@@ -62,3 +62,39 @@ module _ {K V : Type 0} (R : K → K → Ordering) (o : IsTotalOrder R) where
   pub after_left : (last : Option (Bor K)) (es : List (K × V)) (e : K × V) → is_sorted R es ≡ true → head_of (left_after R last es) ≡ Some e → left_after R last es ≡ e ∷ above R e.0 es
   after_left None es e rising is = after_all es e rising is
   after_left (Some last) es e rising is = after_above last.now es e rising is
+
+-- ---- past the entries of a box, from left to right
+
+module _ {K V : Type 0} (R : K → K → Ordering) (q : K) where
+  above_append : (l m : List (K × V)) → above R q (l ++ m) ≡ above R q l ++ above R q m
+  above_append [] m = refl
+  above_append (e ∷ l) m =
+      elim (is_lt (R q e.0)) as (λ b. cond b (e ∷ above R q (l ++ m)) (above R q (l ++ m)) ≡ cond b (e ∷ above R q l) (above R q l) ++ above R q m) [
+        | true ↦ ap (λ es. e ∷ es) (above_append l m)
+        | false ↦ above_append l m
+      ]
+
+  -- what stands after an entry that the key isn't smaller than
+  pub record IsAfter (l : List (K × V)) (e : K × V) (m r : List (K × V)) : Type 0 where
+    pub rising : is_sorted R (m ++ r) ≡ true
+    pub above_is : above R q (l ++ e ∷ (m ++ r)) ≡ above R q m ++ above R q r
+
+  module _ (o : IsTotalOrder R) (l : List (K × V)) (e : K × V) (m r : List (K × V)) (h : is_sorted R (l ++ e ∷ (m ++ r)) ≡ true) where
+    pub after_entry : is_lt (R q e.0) ≡ false → IsAfter l e m r
+    after_entry apart = by (R q e.0) refl apart
+      where
+        by : (s : Ordering) → R q e.0 ≡ s → is_lt s ≡ false → IsAfter l e m r
+        by Less is apart = absurd (cc)
+        by Equal is apart =
+            let split = here_at R o q l e (m ++ r) h is in
+            record { rising = split.rising; above_is = split.above_is ∙ above_append m r }
+        by Greater is apart =
+            let split = right_of R o q l e (m ++ r) h is in
+            record { rising = split.rising; above_is = split.above_is ∙ above_append m r }
+
+pub first_there : {A : Type 0} (xs ys : List A) (x : A) (best : Option A) → head_of xs ≡ Some x → first_or (head_of (xs ++ ys)) best ≡ Some x
+first_there [] ys x best is = cc
+first_there (d ∷ xs) ys x best is = is
+
+pub first_beyond : {A : Type 0} (xs ys : List A) → head_of xs ≡ None → xs ++ ys ≡ ys
+first_beyond xs ys is = ap (λ zs. zs ++ ys) (none_left xs is)

@@ -41,6 +41,9 @@ weigh_cons {K} {V} w e es = sum_by-cons (λ (d : K × V). w d.1) e es
 pub weigh_split : {K V : Type 0} (w : V → ℕ) (l : List (K × V)) (e : K × V) (r : List (K × V)) → weigh w (l ++ e ∷ r) ≡ weigh w l + (w e.1 + weigh w r)
 weigh_split {K} {V} w l e r = sum_by-append (λ (d : K × V). w d.1) l (e ∷ r) ∙ ap (λ n. weigh w l + n) (weigh_cons w e r)
 
+pub weigh_parts : {K V : Type 0} (w : V → ℕ) (l : List (K × V)) (e : K × V) (m r : List (K × V)) → weigh w (l ++ e ∷ (m ++ r)) ≡ weigh w l + (w e.1 + (weigh w m + weigh w r))
+weigh_parts {K} {V} w l e m r = weigh_split w l e (m ++ r) ∙ ap (λ n. weigh w l + (w e.1 + n)) (sum_by-append (λ (d : K × V). w d.1) m r)
+
 module _ {K V : Type 0} (R : K → K → Ordering) (o : IsTotalOrder R) where
   pub weigh_without : (w : V → ℕ) (k : K) (es : List (K × V)) → is_sorted R es ≡ true → weight_of w (find R k es) + weigh w (without R k es) ≡ weigh w es
   weigh_without w k [] rising = refl
@@ -71,9 +74,26 @@ module _ {K V : Type 0} (R : K → K → Ordering) (o : IsTotalOrder R) where
         weight = (λ i. weight_of w (there i) + weigh w (is i)) ∙ weigh_without w k es rising;
       }
 
-  pub each_kept : (qs : List K) (es fs : List (K × V)) (spare left count after : ℕ) → IsKept R es spare count → fs ≡ without_each R qs es → after + length es ≡ count + length fs → left + length fs ≤ spare + length es → IsKept R fs left after
-  each_kept qs es fs spare left count after kept is counts boxes = record {
-    rising = ap (is_sorted R) is ∙ each_rises R o qs es kept.rising;
-    counted = omega (arith, counts, kept.counted);
-    fits = omega (arith, counts, boxes, kept.counted, kept.fits);
-  }
+  without_fewer : (q : K) (es : List (K × V)) → length (without R q es) ≤ length es
+  without_fewer q [] = omega arith
+  without_fewer q (e ∷ es) =
+      let fewer = without_fewer q es in
+      elim (is_eq (R q e.0)) as (λ b. length (cond (not b) (e ∷ without R q es) (without R q es)) ≤ length (e ∷ es)) [ true ↦ omega (arith, fewer) | false ↦ omega (arith, fewer) ]
+
+  each_fewer : (qs : List K) (es : List (K × V)) → length (without_each R qs es) ≤ length es
+  each_fewer [] es = omega arith
+  each_fewer (q ∷ qs) es =
+      let one = without_fewer q es in
+      let others = each_fewer qs (without R q es) in
+      omega (arith, one, others)
+
+  pub each_kept : (qs : List K) (es fs : List (K × V)) (spare left room count after : ℕ) → IsKept R es spare room count → fs ≡ without_each R qs es → after + length es ≡ count + length fs → spare ≤ left → IsKept R fs left room after
+  each_kept qs es fs spare left room count after kept is counts boxes =
+      let size = ap length is in
+      let fewer = each_fewer qs es in
+      record {
+        rising = ap (is_sorted R) is ∙ each_rises R o qs es kept.rising;
+        boxes = omega (arith, boxes, kept.boxes);
+        counted = omega (arith, counts, kept.counted);
+        fits = omega (arith, counts, size, fewer, kept.counted, kept.fits);
+      }

@@ -15,16 +15,16 @@ abbrev mutual
 
   pub node_entries : {K V : Type 0} → Node K V → List (K × V)
   node_entries Blank = []
-  node_entries (Full height key left right value) = entries_of left ++ (key, value) ∷ entries_of right
+  node_entries (Full height key left right value others) = entries_of left ++ (key, value) ∷ (others ++ entries_of right)
 
--- the entry of a node alone
-abbrev pub own_entry : {K V : Type 0} → Node K V → List (K × V)
-own_entry Blank = []
-own_entry (Full height key left right value) = (key, value) ∷ []
+-- those of a node alone
+abbrev pub own_entries : {K V : Type 0} → Node K V → List (K × V)
+own_entries Blank = []
+own_entries (Full height key left right value others) = (key, value) ∷ others
 
 abbrev pub is_full : {K V : Type 0} → Node K V → Bool
 is_full Blank = false
-is_full (Full height key left right value) = true
+is_full (Full height key left right value others) = true
 
 -- the entries with a value for a key, where one is given
 abbrev pub put_given : {K V : Type 0} → (K → K → Ordering) → K → Option V → List (K × V) → List (K × V)
@@ -49,14 +49,14 @@ abbrev pub head_of : {A : Type 0} → List A → Option A
 head_of [] = None
 head_of (x ∷ xs) = Some x
 
--- ---- the entry of a tree's root, and the others
-abbrev value_here : {K V : Type 0} → Node K V → Option V
+-- ---- the least entry of a tree's root, and the others
+abbrev pub value_here : {K V : Type 0} → Node K V → Option V
 value_here Blank = None
-value_here (Full height key left right value) = Some value
+value_here (Full height key left right value others) = Some value
 
-abbrev beside : {K V : Type 0} → Node K V → List (K × V)
+abbrev pub beside : {K V : Type 0} → Node K V → List (K × V)
 beside Blank = []
-beside (Full height key left right value) = entries_of left ++ entries_of right
+beside (Full height key left right value others) = entries_of left ++ (others ++ entries_of right)
 
 abbrev pub root_value : {K V : Type 0} → Tree K V → Option V
 root_value Empty = None
@@ -65,6 +65,24 @@ root_value (Fork' p node) = value_here node
 abbrev pub beside_root : {K V : Type 0} → Tree K V → List (K × V)
 beside_root Empty = []
 beside_root (Fork' p node) = beside node
+
+-- those beside the least one of a node, and of a tree's root
+abbrev pub others_of : {K V : Type 0} → Node K V → List (K × V)
+others_of Blank = []
+others_of (Full height key left right value others) = others
+
+abbrev pub root_others : {K V : Type 0} → Tree K V → List (K × V)
+root_others Empty = []
+root_others (Fork' p node) = others_of node
+
+-- those left of a tree's root
+abbrev pub left_entries : {K V : Type 0} → Node K V → List (K × V)
+left_entries Blank = []
+left_entries (Full height key left right value others) = entries_of left
+
+abbrev pub root_left : {K V : Type 0} → Tree K V → List (K × V)
+root_left Empty = []
+root_left (Fork' p node) = left_entries node
 
 -- the entries after the last that was given, and all where none was
 abbrev pub left_after : {K V : Type 0} → (K → K → Ordering) → Option (Bor K) → List (K × V) → List (K × V)

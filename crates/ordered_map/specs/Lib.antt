@@ -4,4 +4,5 @@ pub mod Kept
 pub mod Changes
 pub mod Lapsed
 pub mod Parted
+pub mod Runs
 pub mod Weights

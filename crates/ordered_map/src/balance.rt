@@ -1,8 +1,9 @@
 //! Heights, and the rotations that keep the two sides of a node about as high as one another.
 
-ghost use Rattle.std.specs.Prelude.{◌≡◌, ◌++◌, ◌∷◌, IsTrue};
-ghost use Rattle.ordered_map.specs.Entries.{entries_of, is_full, node_entries, own_entry};
+ghost use Rattle.std.specs.Prelude.{◌≡◌, ◌++◌, ◌∷◌, [], IsTrue};
+ghost use Rattle.ordered_map.specs.Entries.{entries_of, is_full, node_entries, own_entries};
 
+use crate::run::Run;
 use crate::tree::{Node, Tree};
 use std::mem;
 
@@ -17,6 +18,7 @@ pub(crate) fn height_of<K, V>(tree: &Tree<K, V>) -> u8 {
                 left: _,
                 right: _,
                 value: _,
+                others: _,
             } => *height,
         },
     }
@@ -42,28 +44,30 @@ fn height_above<K, V>(left: &Tree<K, V>, right: &Tree<K, V>) -> u8 {
     height_of(left).max(height_of(right)).saturating_add(1)
 }
 
-/// The node of an entry between two trees.
-pub(crate) fn full<K, V>(left: Tree<K, V>, key: K, value: V, right: Tree<K, V>) -> Node<K, V>
-    ensures { node_entries result ≡ entries_of left ++ (key, value) ∷ entries_of right }
+/// The node of an entry and some greater ones, without trees beside it.
+pub(crate) fn full<K, V>(key: K, value: V, others: Run<K, V>) -> Node<K, V>
+    ensures entries { node_entries result ≡ (key, value) ∷ others }
+    ensures own { own_entries result ≡ (key, value) ∷ others }
+    ensures full { IsTrue (is_full result) }
 {
-    let height = height_above(&left, &right);
     Node::Full {
-        height,
+        height: 1,
         key,
-        left,
-        right,
+        left: Tree::Empty,
+        right: Tree::Empty,
         value,
+        others,
     }
 }
 
-/// The tree of an entry in a box between two trees.
+/// The tree of the entries in a box between two trees.
 pub(crate) fn between<K: Drop, V: Drop>(
     low: Tree<K, V>,
     mut node: Box<Node<K, V>>,
     high: Tree<K, V>,
 ) -> Tree<K, V>
     requires { IsTrue (is_full node.value) }
-    ensures { entries_of result ≡ entries_of low ++ own_entry node.value ++ entries_of high }
+    ensures { entries_of result ≡ entries_of low ++ own_entries node.value ++ entries_of high }
 {
     match &mut *node {
         Node::Blank => unreachable!(),
@@ -73,6 +77,7 @@ pub(crate) fn between<K: Drop, V: Drop>(
             left,
             right,
             value: _,
+            others: _,
         } => {
             *height = height_above(&low, &high);
             *left = low;
@@ -132,6 +137,7 @@ fn settle<K, V>(tree: &mut Tree<K, V>) -> Stand
                 left,
                 right,
                 value: _,
+                others: _,
             } => settle_at(height, height_of(left), height_of(right)),
         },
     }
@@ -170,6 +176,7 @@ fn lean_of<K, V>(tree: &Tree<K, V>) -> Lean {
                 left,
                 right,
                 value: _,
+                others: _,
             } => lean_between(height_of(left), height_of(right)),
         },
     }
@@ -198,6 +205,7 @@ fn mark_height<K, V>(tree: &mut Tree<K, V>)
                 left,
                 right,
                 value: _,
+                others: _,
             } => *height = height_above(left, right),
         },
     }
@@ -217,6 +225,7 @@ fn lift_left<K: Drop, V: Drop>(tree: &mut Tree<K, V>)
                 left,
                 right: _,
                 value: _,
+                others: _,
             } => straighten_left(left),
         },
     }
@@ -246,6 +255,7 @@ fn lift_right<K: Drop, V: Drop>(tree: &mut Tree<K, V>)
                 left: _,
                 right,
                 value: _,
+                others: _,
             } => straighten_right(right),
         },
     }
@@ -277,6 +287,7 @@ fn turn_right<K: Drop, V: Drop>(tree: &mut Tree<K, V>)
             left,
             right,
             value: _,
+            others: _,
         } => match mem::replace(left, Tree::Empty) {
             Tree::Empty => *tree = Tree::Fork(top),
             Tree::Fork(mut below) => match &mut *below {
@@ -287,6 +298,7 @@ fn turn_right<K: Drop, V: Drop>(tree: &mut Tree<K, V>)
                     left: _,
                     right: middle,
                     value: _,
+                    others: _,
                 } => {
                     *left = mem::replace(middle, Tree::Empty);
                     *height = height_above(left, right);
@@ -315,6 +327,7 @@ fn turn_left<K: Drop, V: Drop>(tree: &mut Tree<K, V>)
             left,
             right,
             value: _,
+            others: _,
         } => match mem::replace(right, Tree::Empty) {
             Tree::Empty => *tree = Tree::Fork(top),
             Tree::Fork(mut below) => match &mut *below {
@@ -325,6 +338,7 @@ fn turn_left<K: Drop, V: Drop>(tree: &mut Tree<K, V>)
                     left: middle,
                     right: _,
                     value: _,
+                    others: _,
                 } => {
                     *right = mem::replace(middle, Tree::Empty);
                     *height = height_above(left, right);

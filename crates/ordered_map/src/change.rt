@@ -1,24 +1,27 @@
 //! How entries come into a tree and leave it.
 
-ghost use Rattle.std.specs.Prelude.{◌≡◌, ◌≤◌, ◌<◌, ◌+◌, ◌++◌, [], None, IsTrue, IfSome, IfNone, is_some, drop, if◌then◌else◌};
+ghost use Rattle.std.specs.Prelude.{◌≡◌, ◌≤◌, ◌<◌, ◌+◌, ◌++◌, ◌∷◌, [], None, IsTrue, IfSome, IfNone, OnSome, is_some, length, drop, if◌then◌else◌};
+ghost use Rattle.std.specs.Bool.{OnTrue, OnFalse};
 ghost use Rattle.std.specs.Vec.{vec_len};
-ghost use Rattle.std.specs.FinMap.Entries.{find, is_sorted};
+ghost use Rattle.std.specs.FinMap.Entries.{find, is_sorted, below_all};
 ghost use Rattle.ordered_map.specs.Changes.{changed_or_given};
 ghost use Rattle.std.specs.Option.{option_map};
 ghost use Rattle.ordered_map.specs.Lapsed.{changed_or_without, lapsing};
-ghost use Rattle.ordered_map.specs.Entries.{entries_of, own_entry, is_full, put_given, without, root_value, beside_root, head_of};
+ghost use Rattle.ordered_map.specs.Entries.{entries_of, node_entries, own_entries, others_of, left_entries, root_others, root_left, value_here, beside, is_full, put_given, without, root_value, beside_root, head_of};
+ghost use Rattle.ordered_map.specs.Runs.{IsPast};
 
-use crate::balance::{Height, between, height_of, height_since, level, rebalance};
-use crate::spare::{give_back, lone};
+use crate::balance::{Height, between, full, height_of, height_since, level, rebalance};
+use crate::run::Run;
+use crate::spare::{Spare, give_back, lone, taken};
 use crate::tree::{Node, Tree};
-use crate::values::{Change, Lapse};
+use crate::values::{Change, Lapse, exchange};
 use std::cmp::Ordering;
 use std::mem;
 
-/// Gives a key the value that is handed in, and hands out the one before. A new key takes one of the spare boxes.
+/// Gives a key the value that is handed in, and hands out the one before. A new key takes one of the spare boxes at most.
 pub(crate) fn put_in<K: Ord + Drop, V: Drop>(
     tree: &mut Tree<K, V>,
-    spare: &mut Vec<Box<Node<K, V>>>,
+    spare: &mut Vec<Spare<K, V>>,
     key: K,
     value: &mut Option<V>,
 ) -> Height
@@ -27,7 +30,7 @@ pub(crate) fn put_in<K: Ord + Drop, V: Drop>(
     requires given { IsTrue (is_some value.old) }
     ensures value { value.new ≡ find K.cmp key (entries_of tree.old) }
     ensures entries { entries_of tree.new ≡ put_given K.cmp key value.old (entries_of tree.old) }
-    ensures room { vec_len spare.old ≡ vec_len spare.new + (if is_some value.new then 0 else 1) }
+    ensures room { vec_len spare.old ≤ vec_len spare.new + (if is_some value.new then 0 else 1) }
 {
     match tree {
         Tree::Empty => put_alone(tree, spare, key, value),
@@ -39,8 +42,13 @@ pub(crate) fn put_in<K: Ord + Drop, V: Drop>(
                 left,
                 right,
                 value: old,
+                others,
             } => match key.cmp(held) {
                 Ordering::Less => {
+                    if left.is_empty() && !others.is_full() {
+                        put_least(held, old, others, key, value);
+                        return Height::Same;
+                    }
                     let side = put_in(left, spare, key, value);
                     rebalance(tree, side)
                 }
@@ -49,8 +57,17 @@ pub(crate) fn put_in<K: Ord + Drop, V: Drop>(
                     Height::Same
                 }
                 Ordering::Greater => {
-                    let side = put_in(right, spare, key, value);
-                    rebalance(tree, side)
+                    if goes_right(others, right, &key) {
+                        let side = put_in(right, spare, key, value);
+                        return rebalance(tree, side);
+                    }
+                    match others.put(key, value) {
+                        None => Height::Same,
+                        Some(key) => {
+                            let side = put_between(others, right, spare, key, value);
+                            rebalance(tree, side)
+                        }
+                    }
                 }
             },
         },
@@ -58,10 +75,10 @@ pub(crate) fn put_in<K: Ord + Drop, V: Drop>(
 }
 
 /// Changes the value of a key, and gives it the one that is handed in where it has none: that is used up then, and the new
-/// key takes one of the spare boxes.
+/// key takes one of the spare boxes at most.
 pub(crate) fn change_or_put_in<K: Ord + Drop, V: Drop, C: Change<V>>(
     tree: &mut Tree<K, V>,
-    spare: &mut Vec<Box<Node<K, V>>>,
+    spare: &mut Vec<Spare<K, V>>,
     key: K,
     change: &C,
     value: &mut Option<V>,
@@ -71,7 +88,7 @@ pub(crate) fn change_or_put_in<K: Ord + Drop, V: Drop, C: Change<V>>(
     requires given { IsTrue (is_some value.old) }
     ensures used { is_some value.new ≡ is_some (find K.cmp key (entries_of tree.old)) }
     ensures entries { entries_of tree.new ≡ changed_or_given K.cmp key (C.changed change.now) value.old (entries_of tree.old) }
-    ensures room { vec_len spare.old ≡ vec_len spare.new + (if is_some value.new then 0 else 1) }
+    ensures room { vec_len spare.old ≤ vec_len spare.new + (if is_some value.new then 0 else 1) }
 {
     match tree {
         Tree::Empty => put_alone(tree, spare, key, value),
@@ -83,8 +100,13 @@ pub(crate) fn change_or_put_in<K: Ord + Drop, V: Drop, C: Change<V>>(
                 left,
                 right,
                 value: old,
+                others,
             } => match key.cmp(held) {
                 Ordering::Less => {
+                    if left.is_empty() && !others.is_full() {
+                        put_least(held, old, others, key, value);
+                        return Height::Same;
+                    }
                     let side = change_or_put_in(left, spare, key, change, value);
                     rebalance(tree, side)
                 }
@@ -93,18 +115,39 @@ pub(crate) fn change_or_put_in<K: Ord + Drop, V: Drop, C: Change<V>>(
                     Height::Same
                 }
                 Ordering::Greater => {
-                    let side = change_or_put_in(right, spare, key, change, value);
-                    rebalance(tree, side)
+                    if goes_right(others, right, &key) {
+                        let side = change_or_put_in(right, spare, key, change, value);
+                        return rebalance(tree, side);
+                    }
+                    match others.change_or_put(key, change, value) {
+                        None => Height::Same,
+                        Some(key) => {
+                            let side = put_between(others, right, spare, key, value);
+                            rebalance(tree, side)
+                        }
+                    }
                 }
             },
         },
     }
 }
 
+// Whether a key that is greater than a node's least one belongs right of the node.
+fn goes_right<K: Ord, V>(others: &Run<K, V>, right: &Tree<K, V>, key: &K) -> bool
+    requires rising { IsTrue (is_sorted K.cmp (others.now ++ entries_of right.now)) }
+    ensures past { OnTrue result (IsPast K.cmp key.now others.now) }
+    ensures within { OnFalse result (IsTrue (below_all K.cmp key.now (entries_of right.now))) }
+{
+    if !others.is_below(key) {
+        return false;
+    }
+    others.is_full() || !right.is_empty()
+}
+
 // The entry takes the place of a tree without entries.
 fn put_alone<K: Ord + Drop, V: Drop>(
     tree: &mut Tree<K, V>,
-    spare: &mut Vec<Box<Node<K, V>>>,
+    spare: &mut Vec<Spare<K, V>>,
     key: K,
     value: &mut Option<V>,
 ) -> Height
@@ -123,22 +166,111 @@ fn put_alone<K: Ord + Drop, V: Drop>(
     }
 }
 
-// The value that is handed in takes the place of one that is held.
-fn exchange<V>(value: &mut Option<V>, held: &mut V)
-    requires { IsTrue (is_some value.old) }
-    ensures given { value.old ≡ Some held.new }
-    ensures before { value.new ≡ Some held.old }
+// The entry becomes the least of a node, and the one before the first of the others.
+fn put_least<K: Ord + Drop, V: Drop>(
+    held: &mut K,
+    old: &mut V,
+    others: &mut Run<K, V>,
+    key: K,
+    value: &mut Option<V>,
+)
+    requires less { K.cmp key held.old ≡ Ordering.Less }
+    requires room { length others.old < 15 }
+    requires given { IsTrue (is_some value.old) }
+    ensures value { value.new ≡ None }
+    ensures entries { (held.new, old.new) ∷ others.new ≡ put_given K.cmp key value.old ((held.old, old.old) ∷ others.old) }
 {
-    match value {
-        Some(given) => mem::swap(given, held),
+    match value.take() {
+        Some(value) => {
+            let next = mem::replace(held, key);
+            others.put_first(next, mem::replace(old, value));
+        }
         None => unreachable!(),
     }
 }
 
-/// Takes a key out, and hands out its value. Its box waits for another entry, or is freed.
+// Puts a new entry among a full run. The upper half goes into a box of its own, which becomes the first on the right.
+fn put_between<K: Ord + Drop, V: Drop>(
+    others: &mut Run<K, V>,
+    right: &mut Tree<K, V>,
+    spare: &mut Vec<Spare<K, V>>,
+    key: K,
+    value: &mut Option<V>,
+) -> Height
+    requires rising { IsTrue (is_sorted K.cmp (others.old ++ entries_of right.old)) }
+    requires within { IsTrue (below_all K.cmp key (entries_of right.old)) }
+    requires absent { find K.cmp key others.old ≡ None }
+    requires full { length others.old ≡ 15 }
+    requires room { 0 < vec_len spare.old }
+    requires given { IsTrue (is_some value.old) }
+    ensures value { value.new ≡ None }
+    ensures entries { others.new ++ entries_of right.new ≡ put_given K.cmp key value.old (others.old ++ entries_of right.old) }
+    ensures room { vec_len spare.old ≡ vec_len spare.new + 1 }
+{
+    let (mut node, mut upper) = taken(spare);
+    others.halve(&mut upper);
+    match upper.take_first() {
+        None => unreachable!(),
+        Some((least, first)) => {
+            if key.cmp(&least).is_lt() {
+                put_among(others, key, value);
+            } else {
+                put_among(&mut upper, key, value);
+            }
+            *node = full(least, first, upper);
+            put_front(right, node)
+        }
+    }
+}
+
+// Puts a new entry among a few, where there is room for it.
+fn put_among<K: Ord + Drop, V: Drop>(others: &mut Run<K, V>, key: K, value: &mut Option<V>)
+    requires rising { IsTrue (is_sorted K.cmp others.old) }
+    requires absent { find K.cmp key others.old ≡ None }
+    requires room { length others.old < 15 }
+    requires given { IsTrue (is_some value.old) }
+    ensures value { value.new ≡ None }
+    ensures entries { others.new ≡ put_given K.cmp key value.old others.old }
+{
+    if others.put(key, value).is_some() {
+        unreachable!()
+    }
+}
+
+// The entries in a box become the first of a tree.
+fn put_front<K: Drop, V: Drop>(tree: &mut Tree<K, V>, front: Box<Node<K, V>>) -> Height
+    requires { IsTrue (is_full front.value) }
+    ensures { entries_of tree.new ≡ own_entries front.value ++ entries_of tree.old }
+{
+    match tree {
+        Tree::Empty => {
+            *tree = between(Tree::Empty, front, Tree::Empty);
+            Height::Changed
+        }
+        Tree::Fork(node) => match &mut **node {
+            Node::Blank => {
+                *tree = between(Tree::Empty, front, Tree::Empty);
+                Height::Changed
+            }
+            Node::Full {
+                height: _,
+                key: _,
+                left,
+                right: _,
+                value: _,
+                others: _,
+            } => {
+                let side = put_front(left, front);
+                rebalance(tree, side)
+            }
+        },
+    }
+}
+
+/// Takes a key out, and hands out its value. A box that becomes empty waits for other entries, or is freed.
 pub(crate) fn take_from<K: Ord + Drop, V: Drop>(
     tree: &mut Tree<K, V>,
-    spare: &mut Vec<Box<Node<K, V>>>,
+    spare: &mut Vec<Spare<K, V>>,
     key: &K,
     taken: &mut Option<V>,
 ) -> Height
@@ -146,7 +278,6 @@ pub(crate) fn take_from<K: Ord + Drop, V: Drop>(
     ensures value { taken.new ≡ find K.cmp key.now (entries_of tree.old) }
     ensures entries { entries_of tree.new ≡ without K.cmp key.now (entries_of tree.old) }
     ensures room { vec_len spare.old ≤ vec_len spare.new }
-    ensures one { vec_len spare.new ≤ vec_len spare.old + (if is_some taken.new then 1 else 0) }
 {
     match tree {
         Tree::Empty => {
@@ -164,6 +295,7 @@ pub(crate) fn take_from<K: Ord + Drop, V: Drop>(
                 left,
                 right,
                 value: _,
+                others,
             } => match key.cmp(held) {
                 Ordering::Less => {
                     let side = take_from(left, spare, key, taken);
@@ -171,8 +303,12 @@ pub(crate) fn take_from<K: Ord + Drop, V: Drop>(
                 }
                 Ordering::Equal => take_root(tree, spare, taken),
                 Ordering::Greater => {
-                    let side = take_from(right, spare, key, taken);
-                    rebalance(tree, side)
+                    if others.is_below(key) {
+                        let side = take_from(right, spare, key, taken);
+                        return rebalance(tree, side);
+                    }
+                    *taken = others.take(key);
+                    Height::Same
                 }
             },
         },
@@ -180,10 +316,10 @@ pub(crate) fn take_from<K: Ord + Drop, V: Drop>(
 }
 
 /// Changes the value of a key, where it has one, and takes the key out where the value has lapsed then: that is handed out.
-/// Its box waits for another entry, or is freed.
+/// A box that becomes empty waits for other entries, or is freed.
 pub(crate) fn change_or_take<K: Ord + Drop, V: Lapse + Drop, C: Change<V>>(
     tree: &mut Tree<K, V>,
-    spare: &mut Vec<Box<Node<K, V>>>,
+    spare: &mut Vec<Spare<K, V>>,
     key: &K,
     change: &C,
     taken: &mut Option<V>,
@@ -192,7 +328,6 @@ pub(crate) fn change_or_take<K: Ord + Drop, V: Lapse + Drop, C: Change<V>>(
     ensures value { taken.new ≡ lapsing V.lapsed (option_map (C.changed change.now) (find K.cmp key.now (entries_of tree.old))) }
     ensures entries { entries_of tree.new ≡ changed_or_without K.cmp key.now (C.changed change.now) V.lapsed (entries_of tree.old) }
     ensures room { vec_len spare.old ≤ vec_len spare.new }
-    ensures one { vec_len spare.new ≤ vec_len spare.old + (if is_some taken.new then 1 else 0) }
 {
     match tree {
         Tree::Empty => {
@@ -210,6 +345,7 @@ pub(crate) fn change_or_take<K: Ord + Drop, V: Lapse + Drop, C: Change<V>>(
                 left,
                 right,
                 value,
+                others,
             } => match key.cmp(held) {
                 Ordering::Less => {
                     let side = change_or_take(left, spare, key, change, taken);
@@ -224,24 +360,76 @@ pub(crate) fn change_or_take<K: Ord + Drop, V: Lapse + Drop, C: Change<V>>(
                     Height::Same
                 }
                 Ordering::Greater => {
-                    let side = change_or_take(right, spare, key, change, taken);
-                    rebalance(tree, side)
+                    if others.is_below(key) {
+                        let side = change_or_take(right, spare, key, change, taken);
+                        return rebalance(tree, side);
+                    }
+                    *taken = others.change_or_take(key, change);
+                    Height::Same
                 }
             },
         },
     }
 }
 
-/// Takes the entry of the root out, and hands out its value.
+/// Takes the least entry of the root out, and hands out its value. A box that becomes empty waits for other entries, or is
+/// freed.
 pub(crate) fn take_root<K: Drop, V: Drop>(
     tree: &mut Tree<K, V>,
-    spare: &mut Vec<Box<Node<K, V>>>,
+    spare: &mut Vec<Spare<K, V>>,
     taken: &mut Option<V>,
 ) -> Height
     ensures value { taken.new ≡ root_value tree.old }
     ensures entries { entries_of tree.new ≡ beside_root tree.old }
     ensures room { vec_len spare.old ≤ vec_len spare.new }
-    ensures one { vec_len spare.new ≤ vec_len spare.old + (if is_some taken.new then 1 else 0) }
+{
+    match tree {
+        Tree::Empty => {}
+        Tree::Fork(node) => {
+            if let Some(least) = take_own(node) {
+                *taken = Some(least.1);
+                return Height::Same;
+            }
+        }
+    }
+    drop_root_box(tree, spare, taken)
+}
+
+// Takes the least entry of a node out, where there are others in its box.
+fn take_own<K: Drop, V: Drop>(node: &mut Node<K, V>) -> Option<(K, V)>
+    ensures value { IfSome result (λ least. value_here node.old ≡ Some least.1) }
+    ensures own { IfSome result (λ least. own_entries node.old ≡ least ∷ own_entries node.new) }
+    ensures rest { OnSome result (node_entries node.new ≡ beside node.old) }
+    ensures left { OnSome result (left_entries node.new ≡ left_entries node.old) }
+    ensures kept { IfNone result (node.new ≡ node.old) }
+    ensures alone { IfNone result (others_of node.old ≡ []) }
+{
+    match node {
+        Node::Blank => None,
+        Node::Full {
+            height: _,
+            key,
+            left: _,
+            right: _,
+            value,
+            others,
+        } => {
+            let (next, other) = others.take_first()?;
+            Some((mem::replace(key, next), mem::replace(value, other)))
+        }
+    }
+}
+
+// Takes the only entry of the root's box out, and hands out its value.
+fn drop_root_box<K: Drop, V: Drop>(
+    tree: &mut Tree<K, V>,
+    spare: &mut Vec<Spare<K, V>>,
+    taken: &mut Option<V>,
+) -> Height
+    requires alone { root_others tree.old ≡ [] }
+    ensures value { taken.new ≡ root_value tree.old }
+    ensures entries { entries_of tree.new ≡ beside_root tree.old }
+    ensures room { vec_len spare.old ≤ vec_len spare.new }
 {
     *taken = None;
     let mut node = match mem::replace(tree, Tree::Empty) {
@@ -256,20 +444,21 @@ pub(crate) fn take_root<K: Drop, V: Drop>(
             left,
             right,
             value,
+            others,
         } => {
             *tree = joined(left, right);
-            give_back(spare, node);
+            give_back(spare, node, others);
             *taken = Some(value);
             height_since(tree, height)
         }
     }
 }
 
-// Two trees as one. The first entry on the right stands between them.
+// Two trees as one. The first entries on the right stand between them.
 fn joined<K: Drop, V: Drop>(left: Tree<K, V>, mut right: Tree<K, V>) -> Tree<K, V>
     ensures { entries_of result ≡ entries_of left ++ entries_of right }
 {
-    match take_first(&mut right) {
+    match take_box(&mut right) {
         None => left,
         Some(first) => {
             let mut tree = between(left, first, right);
@@ -279,9 +468,9 @@ fn joined<K: Drop, V: Drop>(left: Tree<K, V>, mut right: Tree<K, V>) -> Tree<K, 
     }
 }
 
-// Takes the box of the first entry out.
-fn take_first<K: Drop, V: Drop>(tree: &mut Tree<K, V>) -> Option<Box<Node<K, V>>>
-    ensures first { IfSome result (λ first. entries_of tree.old ≡ own_entry first.value ++ entries_of tree.new) }
+// Takes the box of the first entries out.
+fn take_box<K: Drop, V: Drop>(tree: &mut Tree<K, V>) -> Option<Box<Node<K, V>>>
+    ensures first { IfSome result (λ first. entries_of tree.old ≡ own_entries first.value ++ entries_of tree.new) }
     ensures full { IfSome result (λ first. IsTrue (is_full first.value)) }
     ensures none { IfNone result (entries_of tree.old ≡ []) }
     ensures left { IfNone result (entries_of tree.new ≡ []) }
@@ -298,9 +487,10 @@ fn take_first<K: Drop, V: Drop>(tree: &mut Tree<K, V>) -> Option<Box<Node<K, V>>
             left,
             right,
             value: _,
+            others: _,
         } => {
             let before = height_of(left);
-            match take_first(left) {
+            match take_box(left) {
                 None => {
                     *tree = mem::replace(right, Tree::Empty);
                     Some(node)
@@ -316,13 +506,15 @@ fn take_first<K: Drop, V: Drop>(tree: &mut Tree<K, V>) -> Option<Box<Node<K, V>>
     }
 }
 
-// Takes the box of the first entry out, and leaves the heights above it as they are: no path gets longer by that, and what
-// is taken from the front is mostly taken to its end.
-fn take_front<K: Drop, V: Drop>(tree: &mut Tree<K, V>) -> Option<Box<Node<K, V>>>
-    ensures first { IfSome result (λ first. entries_of tree.old ≡ own_entry first.value ++ entries_of tree.new) }
-    ensures full { IfSome result (λ first. IsTrue (is_full first.value)) }
-    ensures none { IfNone result (entries_of tree.old ≡ []) }
-    ensures left { IfNone result (entries_of tree.new ≡ []) }
+/// Takes the first entry out, and leaves the heights above it as they are: no path gets longer by that, and what is taken
+/// from the front is mostly taken to its end. A box that becomes empty waits for other entries, or is freed.
+pub(crate) fn take_least<K: Drop, V: Drop>(
+    tree: &mut Tree<K, V>,
+    spare: &mut Vec<Spare<K, V>>,
+) -> Option<(K, V)>
+    ensures first { result ≡ head_of (entries_of tree.old) }
+    ensures entries { entries_of tree.new ≡ drop 1 (entries_of tree.old) }
+    ensures room { vec_len spare.old ≤ vec_len spare.new }
 {
     match tree {
         Tree::Empty => None,
@@ -332,43 +524,49 @@ fn take_front<K: Drop, V: Drop>(tree: &mut Tree<K, V>) -> Option<Box<Node<K, V>>
                 height: _,
                 key: _,
                 left,
-                right,
+                right: _,
                 value: _,
-            } => match take_front(left) {
-                Some(first) => Some(first),
-                None => {
-                    let rest = mem::replace(right, Tree::Empty);
-                    match mem::replace(tree, rest) {
-                        Tree::Empty => None,
-                        Tree::Fork(first) => Some(first),
-                    }
+                others: _,
+            } => {
+                if let Some(first) = take_least(left, spare) {
+                    return Some(first);
                 }
-            },
+                if let Some(first) = take_own(node) {
+                    return Some(first);
+                }
+                take_first_box(tree, spare)
+            }
         },
     }
 }
 
-/// Takes the first entry out. Its box waits for another entry, or is freed.
-pub(crate) fn take_least<K: Drop, V: Drop>(
+// Takes the only entry of the root's box out, where there is none left of it.
+fn take_first_box<K: Drop, V: Drop>(
     tree: &mut Tree<K, V>,
-    spare: &mut Vec<Box<Node<K, V>>>,
+    spare: &mut Vec<Spare<K, V>>,
 ) -> Option<(K, V)>
+    requires alone { root_others tree.old ≡ [] }
+    requires first { root_left tree.old ≡ [] }
     ensures first { result ≡ head_of (entries_of tree.old) }
     ensures entries { entries_of tree.new ≡ drop 1 (entries_of tree.old) }
     ensures room { vec_len spare.old ≤ vec_len spare.new }
-    ensures one { vec_len spare.new ≤ vec_len spare.old + (if is_some result then 1 else 0) }
 {
-    let mut node = take_front(tree)?;
+    let mut node = match mem::replace(tree, Tree::Empty) {
+        Tree::Empty => return None,
+        Tree::Fork(node) => node,
+    };
     match mem::replace(&mut *node, Node::Blank) {
-        Node::Blank => unreachable!(),
+        Node::Blank => None,
         Node::Full {
             height: _,
             key,
             left: _,
-            right: _,
+            right,
             value,
+            others,
         } => {
-            give_back(spare, node);
+            *tree = right;
+            give_back(spare, node, others);
             Some((key, value))
         }
     }

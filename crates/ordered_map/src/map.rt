@@ -13,22 +13,19 @@ use crate::change::{change_or_put_in, change_or_take, put_in, take_from, take_le
 use crate::iter::Iter;
 use crate::keys::rise;
 use crate::leaving::{Tally, Untold, take_each, take_in_turn};
-use crate::spare::fill;
-use crate::tree::{Node, Tree, first, gather, next_after, value_of};
+use crate::spare::{Spare, fill};
+use crate::tree::{Tree, first, gather, next_after, value_of};
 use crate::values::{Change, Lapse, change_all, change_at};
 use std::alloc::{AllocError, Global};
 use std::marker::Model;
-
-/// The most boxes that are made beside those that were asked for. Boxes that are made at once lie side by side, so that
-/// a walk down the tree meets fewer pages of memory.
-const MORE_BOXES: usize = 63;
 
 /// A map from keys to values, and room for a number of new keys.
 #[derive(Drop)]
 pub struct OrderedMap<K: Ord, V> {
     alloc: Global,
     tree: Tree<K, V>,
-    spare: Vec<Box<Node<K, V>>>,
+    spare: Vec<Spare<K, V>>,
+    room: usize,
     count: usize,
 }
 
@@ -44,9 +41,9 @@ impl<K: Ord, V> Model for OrderedMap<K, V> {
     ghost use Rattle.ordered_map.specs.Entries.{entries_of};
     ghost use Rattle.ordered_map.specs.Kept.{IsKept};
 
-    ghost view = { λ a. record { items = entries_of a.tree; room = vec_len a.spare } };
+    ghost view = { λ a. record { items = entries_of a.tree; room = a.room } };
 
-    ghost invariant = { λ a. IsKept K.cmp (entries_of a.tree) (vec_len a.spare) a.count };
+    ghost invariant = { λ a. IsKept K.cmp (entries_of a.tree) (vec_len a.spare) a.room a.count };
 }
 
 impl<K: Ord, V> OrderedMap<K, V> {
@@ -59,6 +56,7 @@ impl<K: Ord, V> OrderedMap<K, V> {
             alloc,
             tree: Tree::Empty,
             spare: Vec::new(alloc),
+            room: 0,
             count: 0,
         }
     }
@@ -134,7 +132,7 @@ impl<K: Ord, V> OrderedMap<K, V> {
 }
 
 impl<K: Ord + Drop, V: Drop> OrderedMap<K, V> {
-    /// Makes room for so many new keys. It takes memory only where there is less, and may then make more room than that.
+    /// Makes room for so many new keys. It takes memory only where there is less.
     pub fn reserve(&mut self, keys: usize) -> Result<(), AllocError>
         ensures items { self.new.items ≡ self.old.items }
         ensures rising { IsTrue (is_sorted K.cmp self.new.items) }
@@ -142,15 +140,15 @@ impl<K: Ord + Drop, V: Drop> OrderedMap<K, V> {
         ensures kept { self.old.room ≤ self.new.room }
         ensures enough { keys ≤ self.old.room → IsOk result }
     {
-        let most = usize::MAX - self.count;
-        if keys > most {
-            return Err(AllocError);
-        }
-        if keys <= self.spare.len() {
+        if keys <= self.room {
             return Ok(());
         }
-        let more = (self.count / 8).min(MORE_BOXES).min(most - keys);
-        fill(self.alloc, &mut self.spare, keys + more)
+        if keys > usize::MAX - self.count {
+            return Err(AllocError);
+        }
+        fill(self.alloc, &mut self.spare, keys)?;
+        self.room = keys;
+        Ok(())
     }
 
     /// Gives a key a value, and answers the one before. It takes memory only for a new key without room, and after
@@ -180,6 +178,7 @@ impl<K: Ord + Drop, V: Drop> OrderedMap<K, V> {
         let mut before = Some(value);
         put_in(&mut self.tree, &mut self.spare, key, &mut before);
         if before.is_none() {
+            self.room -= 1;
             self.count += 1;
         }
         before
@@ -196,6 +195,7 @@ impl<K: Ord + Drop, V: Drop> OrderedMap<K, V> {
         let mut given = Some(value);
         change_or_put_in(&mut self.tree, &mut self.spare, key, change, &mut given);
         if given.is_none() {
+            self.room -= 1;
             self.count += 1;
         }
     }

@@ -1,12 +1,14 @@
-//! A tree of entries whose keys rise from left to right, one box an entry.
+//! A tree of entries whose keys rise from left to right, some in each box.
 
-ghost use Rattle.std.specs.Prelude.{◌≡◌, ◌≤◌, ◌++◌, IsTrue, OnOk, map, option_copied, take};
+ghost use Rattle.std.specs.Prelude.{◌≡◌, ◌≤◌, ◌++◌, [], IsTrue, OnOk, map, option_copied, take};
+ghost use Rattle.std.specs.Bool.{OnTrue};
 ghost use Rattle.std.specs.Vec.{vec_len};
 ghost use Rattle.std.specs.Option.{option_map};
 ghost use Rattle.std.specs.Map.Iter.{deref_pair};
 ghost use Rattle.std.specs.FinMap.Entries.{find, is_sorted};
 ghost use Rattle.ordered_map.specs.Entries.{entries_of, above, head_of};
 
+use crate::run::Run;
 use std::alloc::AllocError;
 use std::cmp::Ordering;
 
@@ -17,7 +19,7 @@ pub(crate) enum Tree<K, V> {
     Fork(Box<Node<K, V>>),
 }
 
-/// An entry between two trees, or nothing in a box that waits for an entry.
+/// An entry and some greater ones between two trees, or nothing in a box that waits for an entry.
 #[cycle(tree)]
 #[derive(Drop)]
 pub(crate) enum Node<K, V> {
@@ -29,7 +31,19 @@ pub(crate) enum Node<K, V> {
         left: Tree<K, V>,
         right: Tree<K, V>,
         value: V,
+        others: Run<K, V>,
     },
+}
+
+impl<K, V> Tree<K, V> {
+    pub(crate) fn is_empty(&self) -> bool
+        ensures { OnTrue result (entries_of self.now ≡ []) }
+    {
+        match self {
+            Tree::Empty => true,
+            Tree::Fork(_) => false,
+        }
+    }
 }
 
 /// The value of a key, where it has one.
@@ -47,10 +61,16 @@ pub(crate) fn value_of<'a, K: Ord, V>(tree: &'a Tree<K, V>, key: &K) -> Option<&
                 left,
                 right,
                 value,
+                others,
             } => match key.cmp(held) {
                 Ordering::Less => here = left,
                 Ordering::Equal => return Some(value),
-                Ordering::Greater => here = right,
+                Ordering::Greater => {
+                    if !others.is_below(key) {
+                        return others.get(key);
+                    }
+                    here = right;
+                }
             },
         }
     }
@@ -72,6 +92,7 @@ pub(crate) fn first<K, V>(tree: &Tree<K, V>) -> Option<(&K, &V)>
                 left,
                 right: _,
                 value,
+                others: _,
             } => {
                 best = Some((key, value));
                 here = left;
@@ -97,14 +118,18 @@ pub(crate) fn next_after<'a, K: Ord, V>(tree: &'a Tree<K, V>, key: &K) -> Option
                 left,
                 right,
                 value,
-            } => match key.cmp(held) {
-                Ordering::Less => {
+                others,
+            } => {
+                if key.cmp(held).is_lt() {
                     best = Some((held, value));
                     here = left;
+                } else {
+                    if let Some(next) = others.next_after(key) {
+                        return Some(next);
+                    }
+                    here = right;
                 }
-                Ordering::Equal => here = right,
-                Ordering::Greater => here = right,
-            },
+            }
         }
     }
     best
@@ -117,7 +142,8 @@ pub(crate) fn gather<'a, K, V>(
     entries: &mut Vec<(&'a K, &'a V)>,
 ) -> Result<(), AllocError>
     requires { vec_len entries.old ≤ count }
-    ensures { OnOk result (map deref_pair entries.new.items ≡ take count (map deref_pair entries.old.items ++ entries_of tree.now)) }
+    ensures entries { OnOk result (map deref_pair entries.new.items ≡ take count (map deref_pair entries.old.items ++ entries_of tree.now)) }
+    ensures few { OnOk result (vec_len entries.new ≤ count) }
 {
     match tree {
         Tree::Empty => Ok(()),
@@ -129,14 +155,35 @@ pub(crate) fn gather<'a, K, V>(
                 left,
                 right,
                 value,
+                others,
             } => {
                 gather(left, count, entries)?;
                 if entries.len() == count {
                     return Ok(());
                 }
                 entries.push((key, value))?;
+                gather_run(others.entries(), count, entries)?;
                 gather(right, count, entries)
             }
         },
     }
+}
+
+// Puts entries last until there are so many.
+fn gather_run<'a, K, V>(
+    others: &'a [(K, V)],
+    count: usize,
+    entries: &mut Vec<(&'a K, &'a V)>,
+) -> Result<(), AllocError>
+    requires { vec_len entries.old ≤ count }
+    ensures entries { OnOk result (map deref_pair entries.new.items ≡ take count (map deref_pair entries.old.items ++ others.now)) }
+    ensures few { OnOk result (vec_len entries.new ≤ count) }
+{
+    for (key, value) in others {
+        if entries.len() == count {
+            return Ok(());
+        }
+        entries.push((key, value))?;
+    }
+    Ok(())
 }

@@ -1,12 +1,13 @@
 //! Values that change where they stand.
 
-ghost use Rattle.std.specs.Prelude.{◌≡◌, Bool, IsTrue};
+ghost use Rattle.std.specs.Prelude.{◌≡◌, Bool, Some, IsTrue, is_some};
 ghost use Rattle.std.specs.FinMap.Entries.{is_sorted};
 ghost use Rattle.ordered_map.specs.Changes.{changed_all, changed_at};
 ghost use Rattle.ordered_map.specs.Entries.{entries_of};
 
 use crate::tree::{Node, Tree};
 use std::cmp::Ordering;
+use std::mem;
 
 /// What becomes of a value that changes.
 pub trait Change<V> {
@@ -28,6 +29,18 @@ pub trait Lapse {
         ensures { result ≡ lapsed self.now };
 }
 
+/// The value that is handed in takes the place of one that is held.
+pub(crate) fn exchange<V>(value: &mut Option<V>, held: &mut V)
+    requires { IsTrue (is_some value.old) }
+    ensures given { value.old ≡ Some held.new }
+    ensures before { value.new ≡ Some held.old }
+{
+    match value {
+        Some(given) => mem::swap(given, held),
+        None => unreachable!(),
+    }
+}
+
 /// Changes the value of a key, where it has one.
 pub(crate) fn change_at<K: Ord, V, C: Change<V>>(tree: &mut Tree<K, V>, key: &K, change: &C)
     requires rising { IsTrue (is_sorted K.cmp (entries_of tree.old)) }
@@ -43,10 +56,17 @@ pub(crate) fn change_at<K: Ord, V, C: Change<V>>(tree: &mut Tree<K, V>, key: &K,
                 left,
                 right,
                 value,
+                others,
             } => match key.cmp(held) {
                 Ordering::Less => change_at(left, key, change),
                 Ordering::Equal => change.change(value),
-                Ordering::Greater => change_at(right, key, change),
+                Ordering::Greater => {
+                    if others.is_below(key) {
+                        change_at(right, key, change);
+                    } else {
+                        others.change_at(key, change);
+                    }
+                }
             },
         },
     }
@@ -66,9 +86,11 @@ pub(crate) fn change_all<K, V, C: Change<V>>(tree: &mut Tree<K, V>, change: &C)
                 left,
                 right,
                 value,
+                others,
             } => {
                 change_all(left, change);
                 change.change(value);
+                others.change_all(change);
                 change_all(right, change);
             }
         },

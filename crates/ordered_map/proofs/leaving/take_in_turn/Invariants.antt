@@ -13,5 +13,4 @@ invariant-loop-key g l = record {
   count : l.count + length (entries_of l.fn.tree) ≡ l.fn.count + length (entries_of l.tree);
   tally : g.T.Tally.total l.tally + weigh g.T.Tally.weight (entries_of l.tree) ≡ g.T.Tally.total l.fn.tally + weigh g.T.Tally.weight (entries_of l.fn.tree);
   room : vec_len l.fn.spare ≤ vec_len l.spare;
-  boxes : vec_len l.spare + length (entries_of l.tree) ≤ vec_len l.fn.spare + length (entries_of l.fn.tree);
 }

@@ -1,7 +1,6 @@
 -- The entry that is gone counted one, and its value what it weighs.
-use Rattle.std.proofs.Common.{◌≤◌, ◌+◌, sym, subst, ◌∙◌, arith, if◌then◌else◌}
-use Rattle.std.specs.Prelude.{Some, None, is_some}
-use Rattle.std.specs.Vec.{vec_len}
+use Rattle.std.proofs.Common.{sym, ◌∙◌, arith}
+use Rattle.std.specs.Prelude.{Some, None}
 use Rattle.ordered_map.specs.Entries.{entries_of}
 use Rattle.ordered_map.proofs.WeightLemmas.{took}
 use Rattle.ordered_map.proofs.leaving.take_one.Goals as goal
@@ -26,12 +25,6 @@ returns-in-Some-clause-tally g c =
     let it = took g.K.Ord.cmp g.met.K.Ord.total g.T.Tally.weight c.args.key.now (entries_of c.args.tree.now) (entries_of c.take_from.new.tree) (Some c.in-Some.value) c.requires.rising c.take_from.ensures.entries (sym c.in-Some.is ∙ c.take_from.ensures.value) in
     omega (arith, it.weight, c.count.ensures)
 
-pub returns-in-Some-clause-boxes : goal.returns-in-Some-clause-boxes
-returns-in-Some-clause-boxes g c =
-    let it = took g.K.Ord.cmp g.met.K.Ord.total g.T.Tally.weight c.args.key.now (entries_of c.args.tree.now) (entries_of c.take_from.new.tree) (Some c.in-Some.value) c.requires.rising c.take_from.ensures.entries (sym c.in-Some.is ∙ c.take_from.ensures.value) in
-    let one : vec_len c.take_from.new.spare ≤ vec_len c.args.spare.now + 1 = subst (λ o. vec_len c.take_from.new.spare ≤ vec_len c.args.spare.now + (if is_some o then 1 else 0)) c.in-Some.is c.take_from.ensures.one in
-    omega (arith, it.size, one)
-
 pub returns-in_default-clause-rising : goal.returns-in_default-clause-rising
 returns-in_default-clause-rising g c =
     let it = took g.K.Ord.cmp g.met.K.Ord.total g.T.Tally.weight c.args.key.now (entries_of c.args.tree.now) (entries_of c.take_from.new.tree) None c.requires.rising c.take_from.ensures.entries (sym c.in_default.is ∙ c.take_from.ensures.value) in
@@ -46,9 +39,3 @@ pub returns-in_default-clause-tally : goal.returns-in_default-clause-tally
 returns-in_default-clause-tally g c =
     let it = took g.K.Ord.cmp g.met.K.Ord.total g.T.Tally.weight c.args.key.now (entries_of c.args.tree.now) (entries_of c.take_from.new.tree) None c.requires.rising c.take_from.ensures.entries (sym c.in_default.is ∙ c.take_from.ensures.value) in
     omega (arith, it.weight)
-
-pub returns-in_default-clause-boxes : goal.returns-in_default-clause-boxes
-returns-in_default-clause-boxes g c =
-    let it = took g.K.Ord.cmp g.met.K.Ord.total g.T.Tally.weight c.args.key.now (entries_of c.args.tree.now) (entries_of c.take_from.new.tree) None c.requires.rising c.take_from.ensures.entries (sym c.in_default.is ∙ c.take_from.ensures.value) in
-    let one : vec_len c.take_from.new.spare ≤ vec_len c.args.spare.now + 0 = subst (λ o. vec_len c.take_from.new.spare ≤ vec_len c.args.spare.now + (if is_some o then 1 else 0)) c.in_default.is c.take_from.ensures.one in
-    omega (arith, it.size, one)
