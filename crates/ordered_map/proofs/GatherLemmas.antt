@@ -1,5 +1,5 @@
 -- Entries that are put last until there are so many.
-use Rattle.std.proofs.Common.{◌≡◌, ◌<◌, ◌≤◌, ◌+◌, ℕ, suc, zero, length, length-append, arith, List, [], ◌∷◌, ◌++◌, ap, sym, ◌∙◌, refl, take, get_or}
+use Rattle.std.proofs.Common.{◌≡◌, ◌<◌, ◌≤◌, ◌+◌, ℕ, suc, zero, length, List, [], ◌∷◌, ◌++◌, ap, sym, ◌∙◌, refl, take, get_or}
 use Rattle.std.proofs.lemmas.List.{append_assoc, take_all, take_at, take_more, take-append-drop}
 use Rattle.std.specs.Prelude.{drop}
 

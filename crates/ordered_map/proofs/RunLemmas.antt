@@ -40,9 +40,10 @@ module _ {K V : Type 0} (es : List (K × V)) (place : ℕ) (x : K × V) (is : x 
   value_changed f l e r whole at = (λ i. slice_set (whole i) (at i) ((here_is l e r whole at i).0, f (here_is l e r whole at i).1)) ∙ set_there l e r (e.0, f e.1)
 
   pub value_exchanged : (given back : Option V) (v : V) → given ≡ Some v → back ≡ Some x.1 → IsExchanged es place given back (slice_set es place (x.0, v))
-  value_exchanged given back v is was l e r whole at w now =
-      ((λ i. slice_set (whole i) (at i) ((here_is l e r whole at i).0, same_Some v w (sym is ∙ now) i)) ∙ set_there l e r (e.0, w),
-       was ∙ ap (λ y. Some y.1) (here_is l e r whole at))
+  value_exchanged given back v is was l e r whole at w now = (
+    (λ i. slice_set (whole i) (at i) ((here_is l e r whole at i).0, same_Some v w (sym is ∙ now) i)) ∙ set_there l e r (e.0, w),
+    was ∙ ap (λ y. Some y.1) (here_is l e r whole at),
+  )
 
 module _ {K V : Type 0} (R : K → K → Ordering) (q : K) where
   -- the key is past the entries before these
@@ -158,7 +159,6 @@ head_at [] (suc n) = refl
 head_at (e ∷ es) zero = refl
 head_at (e ∷ es) (suc n) = head_at es n
 
-
 module _ {K V : Type 0} (R : K → K → Ordering) (o : IsTotalOrder R) (q : K) (es : List (K × V)) (e : K × V) (is : slice_get es (length es - 1) ≡ Some e) where
   pub past_last : is_sorted R es ≡ true → is_gt (R q e.0) ≡ true → IsPast R q es
   past_last rising more =
@@ -236,9 +236,10 @@ module _ {K V : Type 0} (R : K → K → Ordering) (q : K) (es : List (K × V)) 
     pub held_put : (given back : Option V) (fs : List (K × V)) → is_some given ≡ true → IsExchanged es place given back fs → (back ≡ find R q es) × (fs ≡ put_given R q given es)
     held_put None back fs some exchanged = cc
     held_put (Some v) back fs some exchanged =
-        let parts = exchanged first.before first.entry first.after first.whole first.size v refl in
-        (parts.1 ∙ sym (found_there R q o es place rising first),
-         parts.0 ∙ sym (ap (put R q v) first.whole ∙ (held_at R q o es place rising first).put_is v))
+        let parts = exchanged first.before first.entry first.after first.whole first.size v refl in (
+          parts.1 ∙ sym (found_there R q o es place rising first),
+          parts.0 ∙ sym (ap (put R q v) first.whole ∙ (held_at R q o es place rising first).put_is v),
+        )
 
     pub held_given : (f : V → V) (given : Option V) → changed_or_given R q f given es ≡ first.before ++ (first.entry.0, f first.entry.1) ∷ first.after
     held_given f given =

@@ -92,13 +92,6 @@ impl<K, V> Run<K, V> {
         }
     }
 
-    /// Whether it has none.
-    pub(crate) fn is_empty(&self) -> bool
-        ensures { OnTrue result (self.now ≡ []) }
-    {
-        self.entries.is_empty()
-    }
-
     /// Whether it has as many as it may have.
     pub(crate) fn is_full(&self) -> bool
         ensures { OnFalse result (length self.now < 15) }

@@ -35,9 +35,7 @@ pub(crate) fn fill<K: Drop, V: Drop>(
 }
 
 /// Takes a box out, and a run without entries.
-pub(crate) fn taken<K: Drop, V: Drop>(
-    spare: &mut Vec<Spare<K, V>>,
-) -> (Box<Node<K, V>>, Run<K, V>)
+pub(crate) fn taken<K: Drop, V: Drop>(spare: &mut Vec<Spare<K, V>>) -> (Box<Node<K, V>>, Run<K, V>)
     requires { 0 < vec_len spare.old }
     ensures run { result.1 ≡ [] }
     ensures room { vec_len spare.new + 1 ≡ vec_len spare.old }

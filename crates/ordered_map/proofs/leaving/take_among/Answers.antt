@@ -1,5 +1,5 @@
 -- A key that isn't past all entries leaves them alone or takes one out. Where one is past all, so are those after it.
-use Rattle.std.proofs.Common.{length, sym, ◌∙◌, arith}
+use Rattle.std.proofs.Common.{sym, ◌∙◌, arith}
 use Rattle.std.specs.Prelude.{Some, None}
 use Rattle.ordered_map.proofs.EachLemmas.{gone_one, gone_past}
 use Rattle.ordered_map.proofs.WeightLemmas.{took}

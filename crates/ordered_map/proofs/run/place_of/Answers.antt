@@ -1,5 +1,5 @@
 -- The first of those that are left.
-use Rattle.std.proofs.Common.{◌≡◌, sym, ◌∙◌, ap, arith, length, length-append, List, ◌++◌}
+use Rattle.std.proofs.Common.{sym, ◌∙◌}
 use Rattle.ordered_map.proofs.RunLemmas.{first_at, passed_one}
 use Rattle.ordered_map.proofs.run.place_of.Goals as goal
 

@@ -1,5 +1,5 @@
 -- Up to a place values are changed, and stay from there on.
-use Rattle.std.proofs.Common.{◌≡◌, ◌≤◌, ◌<◌, length, sym, ap, subst, ◌∙◌, arith}
+use Rattle.std.proofs.Common.{length, ap, ◌∙◌, arith}
 use Rattle.ordered_map.proofs.RunLemmas.{up_to_all, up_to_next, up_to_none, up_to_size}
 use Rattle.ordered_map.proofs.run.Run.change_all.Goals as goal
 
@@ -25,9 +25,10 @@ loop-place-preserved g c =
     let within = c.loop-place-test.true in
     let size = c.len.ensures ∙ c.loop-place.self-inside.entries.ok.0 in
     let capacity = c.change_value.ensures.capacity in
-    let fits = c.loop-place.invariant.1 in
-    (up_to_next (g.C.Change.changed c.args.change.now) c.args.self.now c.loop-place.place c.loop-place.self-inside.entries.items _ c.loop-place.invariant.0 (omega (arith, within, size)) c.change_value.ensures.entries,
-     omega (arith, capacity, fits))
+    let fits = c.loop-place.invariant.1 in (
+      up_to_next (g.C.Change.changed c.args.change.now) c.args.self.now c.loop-place.place c.loop-place.self-inside.entries.items _ c.loop-place.invariant.0 (omega (arith, within, size)) c.change_value.ensures.entries,
+      omega (arith, capacity, fits),
+    )
 
 pub returns : goal.returns
 returns g c =

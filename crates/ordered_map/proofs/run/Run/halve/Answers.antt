@@ -1,5 +1,5 @@
 -- What was taken out stands in front of what was taken out before.
-use Rattle.std.proofs.Common.{◌≡◌, ◌≤◌, ◌<◌, ◌+◌, ◌/◌, ◌++◌, ◌∷◌, [], length, length-append, sym, ap, ◌∙◌, arith}
+use Rattle.std.proofs.Common.{◌++◌, ◌∷◌, [], length, length-append, sym, ap, ◌∙◌, arith}
 use Rattle.std.proofs.lemmas.List.{append_assoc, append-nil}
 use Rattle.ordered_map.proofs.run.Run.halve.Goals as goal
 
@@ -38,10 +38,12 @@ loop-self-preserved g c =
     let more = c.loop-self-test.true in
     let len = c.len.ensures ∙ c.loop-self.self-inside.entries.ok.0 in
     let capacity = c.in-Some.ensures.capacity in
-    let fits = c.loop-self.invariant.2 in
-    (ap (λ us. c.pop.new.self.items ++ us) c.put_first.ensures ∙ sym (append_assoc c.pop.new.self.items ((c.in-Some.key, c.in-Some.value) ∷ []) c.loop-self.upper)
-     ∙ ap (λ es. es ++ c.loop-self.upper) (sym c.in-Some.ensures.items) ∙ c.loop-self.invariant.0,
-     omega (arith, size, more, len), omega (arith, capacity, fits))
+    let fits = c.loop-self.invariant.2 in (
+      ap (λ us. c.pop.new.self.items ++ us) c.put_first.ensures ∙ sym (append_assoc c.pop.new.self.items ((c.in-Some.key, c.in-Some.value) ∷ []) c.loop-self.upper)
+          ∙ ap (λ es. es ++ c.loop-self.upper) (sym c.in-Some.ensures.items) ∙ c.loop-self.invariant.0,
+      omega (arith, size, more, len),
+      omega (arith, capacity, fits),
+    )
 
 pub returns-clause-whole : goal.returns-clause-whole
 returns-clause-whole g c = c.loop-self.invariant.0

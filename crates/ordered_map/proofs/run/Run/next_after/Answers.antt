@@ -1,5 +1,5 @@
 -- The entry behind the key, or at the gap.
-use Rattle.std.proofs.Common.{sym, ap, ◌∙◌, arith, length, drop, ◌+◌}
+use Rattle.std.proofs.Common.{sym, ap, ◌∙◌, arith, ◌+◌}
 use Rattle.std.proofs.lemmas.Bool.{OnTrue_at}
 use Rattle.ordered_map.specs.Entries.{head_of}
 use Rattle.ordered_map.proofs.RunLemmas.{after_here, gap_at, head_at, held_above, is_within, none_above}
