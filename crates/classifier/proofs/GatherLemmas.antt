@@ -41,7 +41,7 @@ key_eq_is a b =
     regrouped (option_eq same_ip a.0.src b.0.src) (option_eq same_ip a.0.dst b.0.dst) (option_eq eqb a.0.sport b.0.sport) (option_eq eqb a.0.dport b.0.dport) (eqb (kind_of a.1) (kind_of b.1) && eqb (number_of a.1) (number_of b.1))
     ∙ ap (λ l. option_eq same_ip a.0.src b.0.src && (option_eq same_ip a.0.dst b.0.dst && (option_eq eqb a.0.sport b.0.sport && (option_eq eqb a.0.dport b.0.dport && l)))) (locs_are a.1 b.1)
 
-among-push : (xs : List Item) (y z : Item) → is_among (xs ++ y ∷ []) z ≡ (is_among xs z || same_item y z)
+pub among-push : (xs : List Item) (y z : Item) → is_among (xs ++ y ∷ []) z ≡ (is_among xs z || same_item y z)
 among-push [] y z = or-false (same_item y z)
 among-push (x ∷ xs) y z = ap (λ b. same_item x z || b) (among-push xs y z) ∙ sym (or_regroup (same_item x z) (is_among xs z) (same_item y z))
   where

@@ -1,12 +1,15 @@
 -- Unions of results.
-use Rattle.std.proofs.Common.{◌≡◌, false, cond, List, [], ◌∷◌, ◌++◌, append_assoc, refl, inl, inr, sym, ap, ◌∙◌, subst}
+use Rattle.std.proofs.Common.{◌≡◌, true, false, cond, if◌then◌else◌, ◌||◌, List, [], ◌∷◌, ◌++◌, append_assoc, refl, inl, inr, sym, ap, ◌∙◌, subst}
 use Rattle.std.specs.Bool.{Decides}
-use Rattle.std.proofs.lemmas.Bool.{cases_Bool}
+use Rattle.std.proofs.Math.Bool.{or-false}
+use Rattle.std.proofs.lemmas.Bool.{cases_Bool, false≢true}
 use Rattle.std.proofs.lemmas.List.{append-nil}
 use Rattle.net_types.proofs.SetLemmas
+use Rattle.net_types.proofs.WidthLemmas.{HasNoRepeats-push}
 use Rattle.net_types.specs.Sets.{HasNoRepeats, Member}
-use Rattle.classifier.proofs.ItemLemmas.{among-member, item_exact, item_refl}
-use Rattle.classifier.specs.Items.{Item, add_all, is_among, same_item}
+use Rattle.classifier.proofs.GatherLemmas.{among-push}
+use Rattle.classifier.proofs.ItemLemmas.{among-member, item_exact, item_refl, member-among}
+use Rattle.classifier.specs.Items.{Item, add, add_all, is_among, same_item}
 
 absent : (ks ys : List Item) (y : Item) → HasNoRepeats (ks ++ y ∷ ys) → Member y ks → ⊥
 absent [] ys y d k = elim k [ ]
@@ -34,3 +37,52 @@ item-decides a b = (item_exact a b, λ e. ap (same_item a) (sym e) ∙ item_refl
 -- beside none, items are as they were
 pub beside_none : (others xs : List Item) → others ≡ [] → HasNoRepeats xs → xs ≡ add_all others xs
 beside_none others xs none d = sym (ap (λ ks. add_all ks xs) none ∙ added_items [] xs d)
+
+-- ---- a list with what another has besides
+
+-- the items of the second list that the first doesn't have
+abbrev pub besides : List Item → List Item → List Item
+besides xs [] = []
+besides xs (y ∷ ys) = if is_among xs y then besides xs ys else y ∷ besides xs ys
+
+unequal : (y : Item) (ys : List Item) (z : Item) → HasNoRepeats (y ∷ ys) → Member z ys → same_item y z ≡ false
+unequal y ys z d k = elim (cases_Bool (same_item y z)) [
+  | inl same ↦ absurd (d.0 (subst (λ w. Member w ys) (sym (item_exact y z same)) k))
+  | inr fine ↦ fine
+]
+
+joined_items : (ks xs ys : List Item) → HasNoRepeats ys → ((y : Item) → Member y ys → is_among ks y ≡ is_among xs y) → add_all ks ys ≡ ks ++ besides xs ys
+joined_items ks xs [] d alike = sym (append-nil ks)
+joined_items ks xs (y ∷ ys) d alike = elim (cases_Bool (is_among xs y)) [
+  | inl there ↦
+      ap (λ b. add_all (cond b ks (ks ++ y ∷ [])) ys) (alike y (inl refl) ∙ there)
+      ∙ joined_items ks xs ys d.1 (λ z k. alike z (inr k))
+      ∙ ap (λ b. ks ++ cond b (besides xs ys) (y ∷ besides xs ys)) (sym there)
+  | inr new ↦
+      ap (λ b. add_all (cond b ks (ks ++ y ∷ [])) ys) (alike y (inl refl) ∙ new)
+      ∙ joined_items (ks ++ y ∷ []) xs ys d.1 (λ z k. among-push ks y z ∙ ap (λ b. is_among ks z || b) (unequal y ys z d k) ∙ or-false (is_among ks z) ∙ alike z (inr k))
+      ∙ append_assoc ks (y ∷ []) (besides xs ys)
+      ∙ ap (λ b. ks ++ cond b (besides xs ys) (y ∷ besides xs ys)) (sym new)
+]
+
+add_all-HasNoRepeats : (xs ys : List Item) → HasNoRepeats xs → HasNoRepeats (add_all xs ys)
+add_all-HasNoRepeats xs [] d = d
+add_all-HasNoRepeats xs (y ∷ ys) d = add_all-HasNoRepeats (add xs y) ys (elim (cases_Bool (is_among xs y)) [
+  | inl there ↦ subst (λ b. HasNoRepeats (cond b xs (xs ++ y ∷ []))) (sym there) d
+  | inr new ↦ subst (λ b. HasNoRepeats (cond b xs (xs ++ y ∷ []))) (sym new) (HasNoRepeats-push xs y d (λ k. false≢true (sym new ∙ member-among xs y k)))
+])
+
+-- one more item is there already, or comes behind
+pub besides_known : (ps xs ys whole : List Item) (y : Item) → ps ++ besides xs (y ∷ ys) ≡ whole → is_among xs y ≡ true → ps ++ besides xs ys ≡ whole
+besides_known ps xs ys whole y made there = ap (λ b. ps ++ cond b (besides xs ys) (y ∷ besides xs ys)) (sym there) ∙ made
+
+pub besides_new : (ps xs ys whole : List Item) (y : Item) → ps ++ besides xs (y ∷ ys) ≡ whole → is_among xs y ≡ false → (ps ++ y ∷ []) ++ besides xs ys ≡ whole
+besides_new ps xs ys whole y made new = append_assoc ps (y ∷ []) (besides xs ys) ∙ ap (λ b. ps ++ cond b (besides xs ys) (y ∷ besides xs ys)) (sym new) ∙ made
+
+-- once nothing is left, all is joined
+pub all_joined : (ps xs ys left : List Item) → HasNoRepeats ys → left ≡ [] → ps ++ besides xs left ≡ xs ++ besides xs ys → ps ≡ add_all xs ys
+all_joined ps xs ys left d none made =
+    sym (append-nil ps) ∙ ap (λ zs. ps ++ besides xs zs) (sym none) ∙ made ∙ sym (joined_items xs xs ys d (λ y k. refl))
+
+pub joined-HasNoRepeats : (ps xs ys : List Item) → HasNoRepeats xs → ps ≡ add_all xs ys → HasNoRepeats ps
+joined-HasNoRepeats ps xs ys d made = subst HasNoRepeats (sym made) (add_all-HasNoRepeats xs ys d)

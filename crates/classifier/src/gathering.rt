@@ -120,6 +120,28 @@ pub fn push_each(
     Ok(())
 }
 
+/// The first list, and behind it those of the second that the set doesn't have.
+pub fn joined(
+    alloc: Global,
+    first: &Results,
+    seen: &HashSet<Key>,
+    second: &Results,
+) -> Result<Results, Memory>
+    requires { Knows first.now seen.now }
+    ensures { IfOk result (λ both. both ≡ add_all first.now second.now) }
+{
+    first.known();
+    second.known();
+    let mut pairs = Vec::with_capacity(alloc, first.len().saturating_add(second.len()))?;
+    pairs.extend_from_slice(first.items())?;
+    for pair in second.items() {
+        if !seen.contains(&key_of(pair)) {
+            pairs.push(*pair)?;
+        }
+    }
+    Ok(Results::from_vec(pairs))
+}
+
 /// Puts each of the pairs last, unless it is there.
 pub fn push_all(alloc: Global, results: &mut Results, others: &Results) -> Result<(), Memory>
     ensures { OnOk result (results.new ≡ add_all results.old others.now) }

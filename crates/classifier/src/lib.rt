@@ -10,6 +10,7 @@ mod hull;
 mod join;
 mod line;
 mod ops;
+mod prints;
 mod product;
 mod results;
 mod run;

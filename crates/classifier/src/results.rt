@@ -5,6 +5,7 @@ ghost use Rattle.std.specs.Cmp.Lexicographic.{pointwise};
 ghost use Rattle.classifier.specs.Items.{add, add_all, is_among, same_item};
 ghost use Rattle.net_types.specs.Sets.{HasNoRepeats};
 
+use crate::prints::print_of;
 use net_types::{Assign, Loc, Memory, SharedItems, TryCopy};
 use std::alloc::Global;
 use std::marker::Model;
@@ -13,6 +14,8 @@ use std::marker::Model;
 #[derive(Drop)]
 pub struct Results {
     pairs: SharedItems<(Assign, Loc)>,
+    // the number of the list where it is shared and may be asked for again and again, else 0
+    print: u64,
 }
 
 impl Model for Results {
@@ -64,6 +67,7 @@ impl Results {
     {
         Results {
             pairs: SharedItems::new(alloc),
+            print: 0,
         }
     }
 
@@ -73,6 +77,7 @@ impl Results {
     {
         Ok(Results {
             pairs: SharedItems::from_vec(Vec::with_capacity(alloc, room)?),
+            print: 0,
         })
     }
 
@@ -83,6 +88,7 @@ impl Results {
     {
         if !has_pair(self.pairs.items(), &pair) {
             self.pairs.push(pair)?;
+            self.print = 0;
         }
         Ok(())
     }
@@ -93,6 +99,7 @@ impl Results {
         ensures { OnOk result (self.new ≡ self.old ++ pair ∷ []) }
     {
         self.pairs.push(pair)?;
+        self.print = 0;
         Ok(())
     }
 
@@ -131,12 +138,32 @@ impl Results {
         are_same(self.items(), others.items())
     }
 
+    /// A number by which most lists differ. Nothing rests on it but how soon they are told apart.
+    pub fn print(&self) -> u64 {
+        if self.print != 0 {
+            return self.print;
+        }
+        print_of(self.items())
+    }
+
+    /// The results that are in a vector, each once.
+    pub fn from_vec(pairs: Vec<(Assign, Loc)>) -> Results
+        requires { HasNoRepeats pairs.items }
+        ensures { result ≡ pairs.items }
+    {
+        Results {
+            pairs: SharedItems::from_vec(pairs),
+            print: 0,
+        }
+    }
+
     /// The same results, of which a copy is a further owner, without the pairs being copied.
     pub fn shared(self) -> Result<Results, Memory>
         ensures { IfOk result (λ shared. shared ≡ self) }
     {
+        let print = self.print();
         let pairs = self.pairs.shared()?;
-        Ok(Results { pairs })
+        Ok(Results { pairs, print })
     }
 
     /// Puts each of the pairs last, unless it is there.
@@ -154,7 +181,8 @@ impl TryCopy for Results {
     /// A further owner of the pairs where they are shared; else they are copied.
     fn copy(&self) -> Result<Results, Memory> {
         let pairs = self.pairs.copy()?;
-        Ok(Results { pairs })
+        let print = self.print;
+        Ok(Results { pairs, print })
     }
 }
 
