@@ -1,9 +1,9 @@
 -- Unions of results.
-use Rattle.std.proofs.Common.{◌≡◌, true, false, cond, if◌then◌else◌, ◌||◌, List, [], ◌∷◌, ◌++◌, append_assoc, refl, inl, inr, sym, ap, ◌∙◌, subst}
+use Rattle.std.proofs.Common.{◌≡◌, ◌≤◌, ℕ, true, false, cond, drop, if◌then◌else◌, ◌||◌, List, [], ◌∷◌, ◌++◌, append_assoc, refl, inl, inr, length, arith, sym, ap, ◌∙◌, subst}
 use Rattle.std.specs.Bool.{Decides}
 use Rattle.std.proofs.Math.Bool.{or-false}
 use Rattle.std.proofs.lemmas.Bool.{cases_Bool, false≢true}
-use Rattle.std.proofs.lemmas.List.{append-nil}
+use Rattle.std.proofs.lemmas.List.{append-nil, drop_all}
 use Rattle.net_types.proofs.SetLemmas
 use Rattle.net_types.proofs.WidthLemmas.{HasNoRepeats-push}
 use Rattle.net_types.specs.Sets.{HasNoRepeats, Member}
@@ -80,9 +80,21 @@ pub besides_new : (ps xs ys whole : List Item) (y : Item) → ps ++ besides xs (
 besides_new ps xs ys whole y made new = append_assoc ps (y ∷ []) (besides xs ys) ∙ ap (λ b. ps ++ cond b (besides xs ys) (y ∷ besides xs ys)) (sym new) ∙ made
 
 -- once nothing is left, all is joined
-pub all_joined : (ps xs ys left : List Item) → HasNoRepeats ys → left ≡ [] → ps ++ besides xs left ≡ xs ++ besides xs ys → ps ≡ add_all xs ys
-all_joined ps xs ys left d none made =
+pub all_joined : (ps xs ys items : List Item) (at : ℕ) → HasNoRepeats ys → items ≡ ys → length items ≤ at → ps ++ besides xs (drop at ys) ≡ xs ++ besides xs ys → ps ≡ add_all xs ys
+all_joined ps xs ys items at d same ended made =
+    let none : drop at ys ≡ [] = drop_all at ys (subst (λ zs. length zs ≤ at) same ended) in
     sym (append-nil ps) ∙ ap (λ zs. ps ++ besides xs zs) (sym none) ∙ made ∙ sym (joined_items xs xs ys d (λ y k. refl))
 
 pub joined-HasNoRepeats : (ps xs ys : List Item) → HasNoRepeats xs → ps ≡ add_all xs ys → HasNoRepeats ps
 joined-HasNoRepeats ps xs ys d made = subst HasNoRepeats (sym made) (add_all-HasNoRepeats xs ys d)
+
+same_length : (xs ys : List Item) → length (xs ++ ys) ≡ length xs → xs ++ ys ≡ xs
+same_length [] [] h = refl
+same_length [] (y ∷ ys) h = absurd (omega arith)
+same_length (x ∷ xs) ys h = ap (λ zs. x ∷ zs) (same_length xs ys (omega arith))
+
+-- where the list is no longer than the first, the second has nothing besides
+pub none_joined : (ps xs ys : List Item) → HasNoRepeats ys → ps ≡ add_all xs ys → length ps ≡ length xs → xs ≡ add_all xs ys
+none_joined ps xs ys d made long =
+    let all : add_all xs ys ≡ xs ++ besides xs ys = joined_items xs xs ys d (λ y k. refl) in
+    sym (all ∙ same_length xs (besides xs ys) (sym (ap length (made ∙ all)) ∙ long))

@@ -5,7 +5,7 @@ ghost use Rattle.classifier.specs.Gathered.{key_of, kind_of, number_of, Knows};
 ghost use Rattle.classifier.specs.Items.{add, add_all};
 
 use crate::results::Results;
-use net_types::{Assign, Loc, Memory};
+use net_types::{Assign, Loc, Memory, TryCopy};
 use std::alloc::Global;
 use std::collections::HashSet;
 use std::marker::Model;
@@ -120,7 +120,7 @@ pub fn push_each(
     Ok(())
 }
 
-/// The first list, and behind it those of the second that the set doesn't have.
+/// The first list, and behind it those of the second that the set doesn't have: where there are none, the same list again.
 pub fn joined(
     alloc: Global,
     first: &Results,
@@ -138,6 +138,9 @@ pub fn joined(
         if !seen.contains(&key_of(pair)) {
             pairs.push(*pair)?;
         }
+    }
+    if pairs.len() == first.len() {
+        return first.copy();
     }
     Ok(Results::from_vec(pairs))
 }

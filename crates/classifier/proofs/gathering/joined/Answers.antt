@@ -1,12 +1,12 @@
 -- Each pair of the second list is in the set, or comes behind.
-use Rattle.std.proofs.Common.{◌≡◌, true, false, ◌+◌, ◌<◌, [], ◌∷◌, ◌++◌, drop, get_or, length, arith, rules, sym, ap, subst, ◌∙◌}
-use Rattle.std.proofs.lemmas.List.{drop_all, drop_more}
+use Rattle.std.proofs.Common.{◌≡◌, IfOk, true, false, ◌+◌, ◌<◌, [], ◌∷◌, ◌++◌, drop, get_or, length, arith, rules, sym, ap, subst, ◌∙◌}
+use Rattle.std.proofs.lemmas.List.{drop_more}
 use Rattle.net_types.specs.Headers.{no_change}
 use Rattle.net_types.specs.declared.headers.Loc.TheVariants.{Stay}
 use Rattle.std.specs.HashSet.{contains}
 use Rattle.classifier.specs.Gathered.{key_eq, key_of}
 use Rattle.classifier.specs.Items.{is_among}
-use Rattle.classifier.proofs.UnionLemmas.{all_joined, besides, besides_known, besides_new, joined-HasNoRepeats}
+use Rattle.classifier.proofs.UnionLemmas.{all_joined, besides, besides_known, besides_new, joined-HasNoRepeats, none_joined}
 use Rattle.classifier.proofs.gathering.joined.Goals as goal
 use Rattle.classifier.proofs.gathering.joined.Goals.{then-not-contains+in_ok-push, else-not-contains}
 
@@ -32,11 +32,20 @@ loop-pair-preserved c =
           subst (λ ps. ps ++ besides xs (drop (at + 1) ys) ≡ whole) (sym (ap (λ v. v.items) w.pairs-is)) (besides_known c.loop-pair.pairs.items xs (drop (at + 1) ys) whole y left there)
     ]
 
+pub returns-then-len : goal.returns-then-len
+returns-then-len c =
+    let made = all_joined c.loop-pair.pairs.items c.args.first.now c.args.second.now c.items-pair-items.result.now c.loop-pair.pair-index c.known-2.ensures c.items-pair-items.ensures c.loop-pair-test.false c.loop-pair.invariant in
+    let long : length c.loop-pair.pairs.items ≡ length c.args.first.now =
+    (let ok = c.loop-pair.pairs.ok in let counted = c.len-3.ensures in let same = c.if-len.true in let first = c.len-4.ensures in omega (arith, ok, counted, same, first)) in
+    subst (λ all. IfOk c.copy.result (λ both. both ≡ all))
+    (none_joined c.loop-pair.pairs.items c.args.first.now c.args.second.now c.known-2.ensures made long) c.copy.ensures
+
 pub from_vec-requires : goal.from_vec-requires
-from_vec-requires c = joined-HasNoRepeats c.loop-pair.pairs.items c.args.first.now c.args.second.now c.known.ensures
-    (all_joined c.loop-pair.pairs.items c.args.first.now c.args.second.now (drop c.loop-pair.pair-index c.args.second.now) c.known-2.ensures
-    (drop_all c.loop-pair.pair-index c.args.second.now (let same = ap length c.items-pair-items.ensures in let test = c.loop-pair-test.false in omega (arith, same, test))) c.loop-pair.invariant)
+from_vec-requires c =
+    joined-HasNoRepeats c.loop-pair.pairs.items c.args.first.now c.args.second.now c.known.ensures
+    (all_joined c.loop-pair.pairs.items c.args.first.now c.args.second.now c.items-pair-items.result.now c.loop-pair.pair-index c.known-2.ensures c.items-pair-items.ensures c.loop-pair-test.false c.loop-pair.invariant)
 
 pub returns : goal.returns
-returns c = c.from_vec.ensures ∙ all_joined c.loop-pair.pairs.items c.args.first.now c.args.second.now (drop c.loop-pair.pair-index c.args.second.now) c.known-2.ensures
-    (drop_all c.loop-pair.pair-index c.args.second.now (let same = ap length c.items-pair-items.ensures in let test = c.loop-pair-test.false in omega (arith, same, test))) c.loop-pair.invariant
+returns c =
+    c.from_vec.ensures
+    ∙ all_joined c.loop-pair.pairs.items c.args.first.now c.args.second.now c.items-pair-items.result.now c.loop-pair.pair-index c.known-2.ensures c.items-pair-items.ensures c.loop-pair-test.false c.loop-pair.invariant
