@@ -8,6 +8,7 @@ pub mod PolicyRight
 pub mod ViewLemmas
 pub mod BoundLemmas
 pub mod ExitLemmas
+mod ReceiveLemmas
 pub mod GroupLemmas
 pub mod PastLemmas
 pub mod AloneLemmas

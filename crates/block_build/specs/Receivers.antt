@@ -5,6 +5,7 @@ use Rattle.classifier.specs.Lines.{line}
 use Rattle.classifier.specs.declared.line.Line.{Line}
 use Rattle.net_types.specs.Cubes.{everything}
 use Rattle.net_types.specs.Headers.{no_change}
+use Rattle.net_types.specs.Sets.{Member, union_over}
 use Rattle.net_types.specs.declared.address.Pid.{Pid}
 use Rattle.net_types.specs.declared.address.PortNo.{PortNo}
 use Rattle.net_types.specs.declared.headers.Assign.{Assign}
@@ -29,6 +30,23 @@ add_exit kept set (Some port) = add kept (set, Out port)
 abbrev pub add_exits : PortNo → List Item → List Item → List Item
 add_exits hop kept [] = kept
 add_exits hop kept (i ∷ items) = add_exits hop (add_exit kept i.0 (exit_of hop i.1)) items
+
+-- what leaves by a port, where there is one
+abbrev pub exit_at : Assign → Option PortNo → List Item
+exit_at set None = []
+exit_at set (Some port) = (set, Out port) ∷ []
+
+-- the ports by which items leave, one after another
+abbrev pub exits_in : PortNo → List Item → List Item
+exits_in hop items = union_over (λ (i : Item). exit_at i.0 (exit_of hop i.1)) items
+
+-- none of the items goes there
+abbrev pub NoneGoes : Loc → List Item → Type 0
+NoneGoes loc items = (i : Item) → Member i items → i.1 ≡ loc → ⊥
+
+-- no item that stays leaves as one does that leaves by the port of the NEXT_HOP anyway
+abbrev pub AreApart : PortNo → List Item → Type 0
+AreApart hop items = (i j : Item) → Member i items → Member j items → i.1 ≡ Stay → j.1 ≡ Out hop → ⊥
 
 -- how a receiver's results leave, and the packet as it is where there are none
 abbrev pub received_items : PortNo → List Item → List Item

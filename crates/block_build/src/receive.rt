@@ -1,9 +1,9 @@
 //! What a receiver makes of a packet, as ports to leave by.
 
-ghost use Rattle.std.specs.Prelude.{◌≡◌, ◌∷◌, [], IfOk, OnOk};
+ghost use Rattle.std.specs.Prelude.{◌≡◌, ◌++◌, ◌∷◌, [], IfOk, IsTrue, OnOk};
 ghost use Rattle.net_types.specs.Headers.{no_change};
 ghost use Rattle.net_types.specs.declared.headers.Loc.TheVariants.{Out};
-ghost use Rattle.block_build.specs.Receivers.{add_exit, add_exits, exit_of, received_items};
+ghost use Rattle.block_build.specs.Receivers.{AreApart, NoneGoes, add_exit, add_exits, exit_at, exit_of, received_items};
 
 use classifier::{Gathering, Lines, Results};
 use net_types::{Assign, Loc, Memory, Pid, PortNo};
@@ -49,6 +49,45 @@ fn exits_of(alloc: Global, hop: PortNo, results: &Results) -> Result<Results, Me
     Ok(exits.into_results())
 }
 
+/// Whether none of the results goes there.
+fn none_goes(items: &[(Assign, Loc)], loc: Loc) -> bool
+    ensures { IsTrue result → NoneGoes loc items.now }
+{
+    for pair in items {
+        if pair.1 == loc {
+            return false;
+        }
+    }
+    true
+}
+
+/// Puts how a result leaves last, where it does.
+fn push_pair(
+    pairs: &mut Vec<(Assign, Loc)>,
+    set: Assign,
+    exit: Option<PortNo>,
+) -> Result<(), Memory>
+    ensures { OnOk result (pairs.new.items ≡ pairs.old.items ++ exit_at set exit) }
+{
+    if let Some(port) = exit {
+        pairs.push((set, Loc::Out(port)))?;
+    }
+    Ok(())
+}
+
+/// How each of the results leaves, where none of them leaves as another does.
+fn exits_apart(alloc: Global, hop: PortNo, results: &Results) -> Result<Results, Memory>
+    requires { AreApart hop results.now }
+    ensures { IfOk result (λ r. r ≡ add_exits hop [] results.now) }
+{
+    results.known();
+    let mut pairs = Vec::with_capacity(alloc, results.len())?;
+    for pair in results.items() {
+        push_pair(&mut pairs, pair.0, exit_of(hop, pair.1))?;
+    }
+    Ok(Results::from_vec(pairs))
+}
+
 /// The packet as it is, by the port of the NEXT_HOP.
 fn unchanged(alloc: Global, hop: PortNo) -> Result<Results, Memory>
     ensures { IfOk result (λ r. r ≡ (no_change, Out hop) ∷ []) }
@@ -56,6 +95,13 @@ fn unchanged(alloc: Global, hop: PortNo) -> Result<Results, Memory>
     let mut exits = Results::with_room(alloc, 1)?;
     exits.push((Assign::none(), Loc::Out(hop)))?;
     Ok(exits)
+}
+
+/// Whether none of the results leaves as another does: none stays, or none leaves by the port of the NEXT_HOP anyway.
+fn are_apart(hop: PortNo, items: &[(Assign, Loc)]) -> bool
+    ensures { IsTrue result → AreApart hop items.now }
+{
+    none_goes(items, Loc::Stay) || none_goes(items, Loc::Out(hop))
 }
 
 /// How the results leave, and the packet as it is where there are none.
@@ -67,7 +113,10 @@ pub(crate) fn received_results(
     ensures { IfOk result (λ r. r ≡ received_items hop results.now) }
 {
     if results.is_empty() {
-        unchanged(alloc, hop)
+        return unchanged(alloc, hop);
+    }
+    if are_apart(hop, results.items()) {
+        exits_apart(alloc, hop, results)
     } else {
         exits_of(alloc, hop, results)
     }

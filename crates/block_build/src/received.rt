@@ -18,6 +18,7 @@ const MOST: usize = 16;
 /// How results leave, with the port of a NEXT_HOP.
 #[derive(Drop)]
 struct Leaving {
+    print: u64,
     hop: PortNo,
     results: Results,
     exits: Results,
@@ -34,11 +35,11 @@ pub(crate) struct Received {
 }
 
 /// How results leave, where it was kept.
-fn found<'u>(kept: &'u [Leaving], hop: PortNo, results: &Results) -> Option<&'u Results>
+fn found<'u>(kept: &'u [Leaving], print: u64, hop: PortNo, results: &Results) -> Option<&'u Results>
     ensures { IfSome result (λ exits. exits.now ≡ received_items hop results.now) }
 {
     for earlier in kept {
-        if earlier.hop == hop && earlier.results.equals(results) {
+        if earlier.print == print && earlier.hop == hop && earlier.results.equals(results) {
             return Some(&earlier.exits);
         }
     }
@@ -48,6 +49,7 @@ fn found<'u>(kept: &'u [Leaving], hop: PortNo, results: &Results) -> Option<&'u 
 /// Keeps how results leave. Where there are many, the earlier ones go.
 fn keep(
     kept: &mut Vec<Leaving>,
+    print: u64,
     hop: PortNo,
     results: &Results,
     exits: &Results,
@@ -60,6 +62,7 @@ fn keep(
     let results = results.copy()?;
     let exits = exits.copy()?;
     kept.push(Leaving {
+        print,
         hop,
         results,
         exits,
@@ -89,11 +92,12 @@ impl Received {
         if results.len() <= FEW {
             return received_results(self.alloc, hop, results);
         }
-        if let Some(exits) = found(&self.kept, hop, results) {
+        let print = results.print();
+        if let Some(exits) = found(&self.kept, print, hop, results) {
             return exits.copy();
         }
         let exits = received_results(self.alloc, hop, results)?.shared()?;
-        keep(&mut self.kept, hop, results, &exits)?;
+        keep(&mut self.kept, print, hop, results, &exits)?;
         Ok(exits)
     }
 

@@ -17,6 +17,7 @@ const MOST: usize = 16;
 /// Results and the actions that they became.
 #[derive(Drop)]
 struct Turn {
+    print: u64,
     results: Results,
     actions: Actions,
     ghost is: { actions ≡ actions_of results },
@@ -30,11 +31,11 @@ pub(crate) struct Turned {
 }
 
 /// The actions that results became, where they were kept.
-fn found<'u>(kept: &'u [Turn], results: &Results) -> Option<&'u Actions>
+fn found<'u>(kept: &'u [Turn], print: u64, results: &Results) -> Option<&'u Actions>
     ensures { IfSome result (λ actions. actions.now ≡ actions_of results.now) }
 {
     for earlier in kept {
-        if earlier.results.equals(results) {
+        if earlier.print == print && earlier.results.equals(results) {
             return Some(&earlier.actions);
         }
     }
@@ -42,7 +43,12 @@ fn found<'u>(kept: &'u [Turn], results: &Results) -> Option<&'u Actions>
 }
 
 /// Keeps the actions that results became. Where there are many, the earlier ones go.
-fn keep(kept: &mut Vec<Turn>, results: &Results, actions: &Actions) -> Result<(), Memory>
+fn keep(
+    kept: &mut Vec<Turn>,
+    print: u64,
+    results: &Results,
+    actions: &Actions,
+) -> Result<(), Memory>
     requires { actions.now ≡ actions_of results.now }
 {
     if kept.len() >= MOST {
@@ -50,7 +56,11 @@ fn keep(kept: &mut Vec<Turn>, results: &Results, actions: &Actions) -> Result<()
     }
     let results = results.copy()?;
     let actions = actions.copy()?;
-    kept.push(Turn { results, actions })?;
+    kept.push(Turn {
+        print,
+        results,
+        actions,
+    })?;
     Ok(())
 }
 
@@ -70,11 +80,12 @@ impl Turned {
         if results.len() <= FEW {
             return actions_of(self.alloc, results.items());
         }
-        if let Some(actions) = found(&self.kept, results) {
+        let print = results.print();
+        if let Some(actions) = found(&self.kept, print, results) {
             return actions.copy();
         }
         let actions = actions_of(self.alloc, results.items())?.shared()?;
-        keep(&mut self.kept, results, &actions)?;
+        keep(&mut self.kept, print, results, &actions)?;
         Ok(actions)
     }
 }
