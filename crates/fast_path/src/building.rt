@@ -13,10 +13,10 @@ ghost use Rattle.block_build.specs.Installed.{count_at, rule_count};
 ghost use Rattle.block_build.specs.Lent.{AreOf};
 ghost use Rattle.fast_path.specs.Building.{AreBlocksFor, AreInOrder, HasPart, IsBlockFor, IsFaultBeside, IsFaultFor, IsRefusedFor, IsWideBy, is_class_of, part_at, refused, rules_left, sig_after, site_of};
 ghost use Rattle.fast_path.specs.Grouping.{Known};
-ghost use Rattle.fast_path.specs.Last.{IsLast};
+ghost use Rattle.fast_path.specs.Last.{AreLast};
 
 use crate::known::{KnownClasses, part_in};
-use crate::last::{Last, built_again, keep};
+use crate::last::{Lasts, built_again, noted};
 use crate::planned::{Class, FastFault};
 use block_build::{
     Block, Blocks, BuildFault, Views, build, no_more_cells, right_for_policies, views_are_of,
@@ -81,12 +81,13 @@ fn block_of<L: Ledger>(
     port: PortNo,
     part: &Part,
     room: usize,
-    last: &mut Option<Last>,
+    blocks: &[(Pair, Block)],
+    lasts: &mut Lasts,
     steps: &mut Steps<L>,
 ) -> Result<Block, BuildFault>
     requires whole { IsWhole (length views.now) part.now }
-    requires last { IsLast views.now last.old }
-    ensures last { IsLast views.now last.new }
+    requires last { AreLast views.now blocks.now lasts.old }
+    ensures last { IfOk result (λ block. (next : AnyPair) → AreLast views.now (blocks.now ++ (next, block) ∷ []) lasts.new) }
     ensures steps { steps.new ≤ steps.old + 1 }
     ensures right { IfOk result (λ block. (ps : Policies) → AreOf ps views.now → IsRight ps part.now port block) }
     ensures room { IfOk result (λ block. length block ≤ room) }
@@ -96,13 +97,13 @@ fn block_of<L: Ledger>(
     views_are_of();
     right_for_policies();
     no_more_cells();
-    if let Some(block) = built_again(views, last, part, room)? {
+    if let Some(block) = built_again(views, lasts, blocks, part, room)? {
         steps.tick();
         return Ok(block);
     }
     let view = views.view(alloc, part)?;
     let block = build(alloc, &view, port, part, room, steps)?;
-    let block = keep(views, last, part, block)?;
+    let block = noted(views, lasts, blocks, part, block)?;
     Ok(block)
 }
 
@@ -125,20 +126,30 @@ fn block_within<L: Ledger>(
     part: &Part,
     built: usize,
     room: usize,
-    last: &mut Option<Last>,
+    blocks: &[(Pair, Block)],
+    lasts: &mut Lasts,
     steps: &mut Steps<L>,
 ) -> Result<Block, BuildFault>
     requires whole { IsWhole (length views.now) part.now }
     requires within { built ≤ room }
     requires small { room < 2 ^ 32 }
-    requires last { IsLast views.now last.old }
-    ensures last { IsLast views.now last.new }
+    requires last { AreLast views.now blocks.now lasts.old }
+    ensures last { IfOk result (λ block. (next : AnyPair) → AreLast views.now (blocks.now ++ (next, block) ∷ []) lasts.new) }
     ensures steps { steps.new ≤ steps.old + 1 }
     ensures right { IfOk result (λ block. (at : AnyPair → Option AnyPart) → at pair ≡ Some part.now → IsBlockFor (record { part = at; all = views.now }) pair block) }
     ensures room { IfOk result (λ block. built + length block ≤ room) }
     ensures wide { IfErr result (λ fault. (at : AnyPair → Option AnyPart) → at pair ≡ Some part.now → IsFaultBeside (record { part = at; all = views.now }) pair built room fault) }
 {
-    match block_of(alloc, views, pair.port, part, room - built, last, steps) {
+    match block_of(
+        alloc,
+        views,
+        pair.port,
+        part,
+        room - built,
+        blocks,
+        lasts,
+        steps,
+    ) {
         Ok(block) => Ok(block),
         Err(BuildFault::Memory) => Err(BuildFault::Memory),
         Err(BuildFault::Wide { rules }) => Err(BuildFault::Wide {
@@ -158,27 +169,28 @@ fn block_beside<L: Ledger>(
     pair: Pair,
     built: usize,
     room: usize,
-    last: &mut Option<Last>,
+    blocks: &[(Pair, Block)],
+    lasts: &mut Lasts,
     steps: &mut Steps<L>,
 ) -> Result<Block, BuildFault>
     requires part { HasPart (site_of names.now known.now fresh.now views.now) pair }
     requires rising { AreInOrder fresh.now }
     requires within { built ≤ room }
     requires small { room < 2 ^ 32 }
-    requires last { IsLast views.now last.old }
-    ensures last { IsLast views.now last.new }
+    requires last { AreLast views.now blocks.now lasts.old }
+    ensures last { IfOk result (λ block. (next : AnyPair) → AreLast views.now (blocks.now ++ (next, block) ∷ []) lasts.new) }
     ensures steps { steps.new ≤ steps.old + 1 }
     ensures right { IfOk result (IsBlockFor (site_of names.now known.now fresh.now views.now) pair) }
     ensures room { IfOk result (λ block. built + length block ≤ room) }
     ensures wide { IfErr result (IsFaultBeside (site_of names.now known.now fresh.now views.now) pair built room) }
 {
     if let Some(part) = part_of_fresh(names, fresh, pair) {
-        return block_within(alloc, views, pair, part, built, room, last, steps);
+        return block_within(alloc, views, pair, part, built, room, blocks, lasts, steps);
     }
     let Some(part) = part_at(names, known, fresh, pair)? else {
         unreachable!()
     };
-    block_within(alloc, views, pair, &part, built, room, last, steps)
+    block_within(alloc, views, pair, &part, built, room, blocks, lasts, steps)
 }
 
 /// Puts the rules of a pair last.
@@ -209,10 +221,10 @@ fn blocks_for<L: Ledger>(
 {
     let mut blocks = Vec::new(alloc);
     let mut built = 0;
-    let mut last = None;
+    let mut lasts = Lasts::new();
     for &pair in pairs {
         let block = match block_beside(
-            alloc, names, known, fresh, views, pair, built, room, &mut last, steps,
+            alloc, names, known, fresh, views, pair, built, room, &blocks, &mut lasts, steps,
         ) {
             Ok(block) => block,
             Err(fault) => return Err(fault),

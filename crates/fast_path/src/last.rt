@@ -1,22 +1,30 @@
 //! Rules that were built last. Where a tag is fresh, pairs of many ports with it mostly have the same.
 
-ghost use Rattle.std.specs.Prelude.{◌≡◌, ◌≤◌, true, length, IsTrue, IfOk, IfSome};
+ghost use Rattle.std.specs.Prelude.{◌≡◌, ◌≤◌, ◌++◌, ◌∷◌, [], List, true, length, IsTrue, IfOk, IfSome};
 ghost use Rattle.exchange_laws.specs.Whole.{IsWhole};
-ghost use Rattle.block_build.specs.Lent.{outbound_at};
+ghost use Rattle.net_types.specs.declared.rule.Pair.{Pair as AnyPair};
+ghost use Rattle.block_build.specs.Lent.{Lent, outbound_at};
 ghost use Rattle.block_build.specs.Right.{are_for_any_port};
-ghost use Rattle.fast_path.specs.Last.{IsAlike, IsLast, IsRightByViews};
+ghost use Rattle.fast_path.specs.Last.{AreLast, IsAlike, IsLast, IsRightByViews};
 
 use block_build::{Block, Views};
-use net_types::{Memory, Part, TryCopy, same_items};
+use net_types::{Memory, Pair, Part, TryCopy, same_items};
 
-/// Blocks of so many rules are kept.
+/// Blocks of so many rules are few.
 const FEW: usize = 16;
 
-/// A part, and the rules that were built for it, which are right at every port.
+/// A part, and the place of the rules that were built for it, which are right at every port.
 #[derive(Drop)]
 pub struct Last {
     part: Part,
-    block: Block,
+    place: usize,
+}
+
+/// The block of few rules that was built last, and that of many: neither hides the other.
+#[derive(Drop)]
+pub struct Lasts {
+    few: Option<Last>,
+    many: Option<Last>,
 }
 
 /// Whether two parts have the same rules: the same offers, and senders with the same rules.
@@ -31,47 +39,90 @@ fn is_alike(views: &Views<'_>, one: &Part, other: &Part) -> bool
     views.send_alike(one.sender, other.sender)
 }
 
-/// The rules of a part that are those that were built last, where there is room for them.
-pub(crate) fn built_again(
+/// The rules of a part that are those of a block that was built, where there is room for them.
+fn built_as(
     views: &Views<'_>,
     last: &Option<Last>,
+    blocks: &[(Pair, Block)],
     part: &Part,
     room: usize,
 ) -> Result<Option<Block>, Memory>
     requires whole { IsWhole (length views.now) part.now }
-    requires last { IsLast views.now last.now }
+    requires last { IsLast views.now blocks.now last.now }
     ensures right { IfOk result (λ again. IfSome again (λ block. IsRightByViews views.now part.now block)) }
     ensures room { IfOk result (λ again. IfSome again (λ block. length block ≤ room)) }
 {
     let Some(before) = last else {
         return Ok(None);
     };
-    if before.block.rules().len() > room || !is_alike(views, &before.part, part) {
+    let Some((_, block)) = blocks.get(before.place) else {
+        return Ok(None);
+    };
+    if block.rules().len() > room || !is_alike(views, &before.part, part) {
         return Ok(None);
     }
-    Ok(Some(before.block.copy()?))
+    Ok(Some(block.copy()?))
 }
 
-/// Keeps the rules of a part for the next pairs, where they are few and right at every port. It answers the rules.
-pub(crate) fn keep(
+/// The rules of a part that are those of a block that was built last, where there is room for them.
+pub(crate) fn built_again(
     views: &Views<'_>,
-    last: &mut Option<Last>,
+    lasts: &Lasts,
+    blocks: &[(Pair, Block)],
+    part: &Part,
+    room: usize,
+) -> Result<Option<Block>, Memory>
+    requires whole { IsWhole (length views.now) part.now }
+    requires last { AreLast views.now blocks.now lasts.now }
+    ensures right { IfOk result (λ again. IfSome again (λ block. IsRightByViews views.now part.now block)) }
+    ensures room { IfOk result (λ again. IfSome again (λ block. length block ≤ room)) }
+{
+    if let Some(block) = built_as(views, &lasts.few, blocks, part, room)? {
+        return Ok(Some(block));
+    }
+    built_as(views, &lasts.many, blocks, part, room)
+}
+
+impl Lasts {
+    /// Nothing was built yet.
+    pub(crate) fn new() -> Lasts
+        ensures { (all : List Lent) → AreLast all [] result }
+    {
+        Lasts {
+            few: None,
+            many: None,
+        }
+    }
+}
+
+/// Notes the rules of a part for the next pairs, where they are right at every port, as the block that comes behind these. It
+/// answers the rules, of which a copy shares the actions where they are few; long lists of actions are shared anyway.
+pub(crate) fn noted(
+    views: &Views<'_>,
+    lasts: &mut Lasts,
+    blocks: &[(Pair, Block)],
     part: &Part,
     block: Block,
 ) -> Result<Block, Memory>
     requires whole { IsWhole (length views.now) part.now }
-    requires last { IsLast views.now last.old }
+    requires last { AreLast views.now blocks.now lasts.old }
     requires right { are_for_any_port (outbound_at views.now part.now.sender) ≡ true → IsRightByViews views.now part.now block }
-    ensures last { IsLast views.now last.new }
+    ensures last { IfOk result (λ same. (pair : AnyPair) → AreLast views.now (blocks.now ++ (pair, same) ∷ []) lasts.new) }
     ensures block { IfOk result (λ same. same ≡ block) }
 {
-    if block.rules().len() > FEW || !views.sends_from_any_port(part.sender) {
+    if !views.sends_from_any_port(part.sender) {
+        return Ok(block);
+    }
+    let part = part.copy()?;
+    let last = Some(Last {
+        part,
+        place: blocks.len(),
+    });
+    if block.rules().len() > FEW {
+        lasts.many = last;
         return Ok(block);
     }
     let block = block.shared()?;
-    *last = Some(Last {
-        part: part.copy()?,
-        block: block.copy()?,
-    });
+    lasts.few = last;
     Ok(block)
 }

@@ -2,6 +2,7 @@
 use Rattle.std.proofs.Common.{ap, subst, sym, ◌∙◌}
 use Rattle.std.specs.Prelude.{IfSome}
 use Rattle.block_build.specs.Right.{IsRightFor, are_for_any_port}
+use Rattle.fast_path.proofs.LastLemmas.{lasts-more}
 use Rattle.fast_path.specs.Last.{IsRightByViews}
 use Rattle.fast_path.proofs.building.block_of.Goals as goal
 
@@ -14,8 +15,8 @@ returns-in-Some-clause-right g c = λ ps of.
     c.right_for_policies.ensures ps part c.args.port again.view c.in-Some.block whole.best
     (c.views_are_of.ensures ps all part again.view of whole.sender whole.exporters again.outbound again.inbound) (again.right c.args.port)
 
-pub keep-requires-clause-right : goal.keep-requires-clause-right
-keep-requires-clause-right g c = λ any.
+pub noted-requires-clause-right : goal.noted-requires-clause-right
+noted-requires-clause-right g c = λ any.
     let view = c.in_ok-view.ensures in
     record {
       view = c.in_ok-view.view;
@@ -32,3 +33,6 @@ returns-clause-right g c = λ ps of.
     c.right_for_policies.ensures ps part c.args.port c.in_ok-view.view c.in_ok-block-3.block whole.best
     (c.views_are_of.ensures ps c.args.views.now part c.in_ok-view.view of whole.sender whole.exporters view.outbound view.receivers)
     (subst (IsRightFor c.in_ok-view.view c.args.port part) (sym c.in_ok-block-3.ensures.block) c.in_ok-block-2.ensures.right)
+
+pub returns-in-Some-clause-last : goal.returns-in-Some-clause-last
+returns-in-Some-clause-last g c = λ next. lasts-more c.args.views.now c.args.blocks.now (next, c.in-Some.block) c.args.lasts.now c.requires.last

@@ -2,6 +2,7 @@
 use Rattle.std.proofs.Common.{◌≡◌, ◌+◌, length, ◌++◌, ◌∷◌, [], map, sym, ap, subst, ◌∙◌, refl, arith}
 use Rattle.std.specs.Prelude.{slice_index_or}
 use Rattle.net_types.proofs.MemberLemmas.{Member-at}
+use Rattle.net_types.specs.Sets.{Member}
 use Rattle.net_types.specs.declared.rule.Pair.{Pair}
 use Rattle.fast_path.proofs.BlockLemmas.{fault_for, index_same, more_right, more_rules, pairs_more}
 use Rattle.fast_path.specs.Building.{AreRightFor, site_of}
@@ -18,6 +19,17 @@ returns-in-Err-clause-wide g c =
     fault_for (site_of c.args.names.now c.args.known.now c.args.fresh.now c.args.views.now) c.args.pairs.now c.loop-pair.pair-index _ c.loop-pair-test.true (index_same c.args.pairs.now c.loop-pair.pair-index _ c.loop-pair-test.true)
     c.loop-pair.blocks.items c.loop-pair.built c.args.room c.in-Err.fault before.pairs_are before.right before.counted c.in-Err.ensures.wide
 
+pub loop-pair-init : goal.loop-pair-init
+loop-pair-init g c =
+    let none = c.new-blocks.ensures.items in record {
+      pairs_are = ap (map pair_of) none;
+      right = λ b stands. absurd (subst (Member b) none stands);
+      counted = sym (ap block_count none);
+      within = omega arith;
+      last = rw none (c.new-lasts.ensures c.args.views.now);
+      few = omega arith;
+    }
+
 pub loop-pair-preserved : goal.loop-pair-preserved
 loop-pair-preserved g c =
     let before = c.loop-pair.invariant in
@@ -30,6 +42,6 @@ loop-pair-preserved g c =
       right = subst (AreRightFor site) (sym more) (more_right site c.loop-pair.blocks.items pair c.in-Ok.block before.right c.in-Ok.ensures.right);
       counted = ap (λ n. c.loop-pair.built + n) (ap length c.rules.ensures) ∙ ap (λ n. n + length c.in-Ok.block) before.counted ∙ sym (ap block_count more ∙ more_rules c.loop-pair.blocks.items pair c.in-Ok.block);
       within = (let room = c.in-Ok.ensures.room in let rules = ap length c.rules.ensures in omega (arith, room, rules));
-      last = c.block_beside.ensures.last;
+      last = rw more (rw c.deref.ensures.value at (c.in-Ok.ensures.last pair));
       few = (let one = c.block_beside.ensures.steps in let few = before.few in omega (arith, one, few));
     }

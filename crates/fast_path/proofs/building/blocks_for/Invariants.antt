@@ -2,7 +2,7 @@
 use Rattle.std.proofs.Common.{◌≡◌, ◌≤◌, ◌+◌, map, take}
 use Rattle.fast_path.specs.Building.{AreRightFor, site_of}
 use Rattle.fast_path.specs.Committing.{block_count}
-use Rattle.fast_path.specs.Last.{IsLast}
+use Rattle.fast_path.specs.Last.{AreLast}
 use Rattle.fast_path.specs.Plans.{pair_of}
 use Rattle.fast_path.proofs.building.blocks_for.Given as goal
 
@@ -12,6 +12,6 @@ invariant-loop-pair g l = record {
   right : AreRightFor (site_of l.names l.known l.fresh l.views) l.blocks.items;
   counted : l.built ≡ block_count l.blocks.items;
   within : l.built ≤ l.room;
-  last : IsLast l.views l.last;
+  last : AreLast l.views l.blocks.items l.lasts;
   few : l.steps ≤ l.initial.steps + l.pair-index;
 }
