@@ -13,7 +13,7 @@ use Rattle.ordered_map.specs.Changes.{with_values, changed_at, changed_or_given,
 use Rattle.ordered_map.specs.Entries.{put_given}
 use Rattle.ordered_map.specs.Kept.{IsKept}
 use Rattle.ordered_map.specs.Runs.{IsPast}
-use Rattle.ordered_map.proofs.SplitLemmas.{less, past_smaller, past_tied, below_smaller, below_tied, sorted_back, left_of, here_at, right_of, beyond_of, between_of}
+use Rattle.ordered_map.proofs.SplitLemmas.{less, past_smaller, past_tied, below_smaller, below_tied, sorted_back, here_at, right_of}
 
 module _ {K V : Type 0} (R : K → K → Ordering) where
   below_values : (f : K → V → V) (x : K) (es : List (K × V)) → below_all R x (with_values f es) ≡ below_all R x es
@@ -104,42 +104,12 @@ module _ {K V : Type 0} (R : K → K → Ordering) where
   -- ---- a value that changes, or one that is given to a key without one
 
   module _ (q : K) (f : V → V) where
-    -- where no entry stands, the one that is given
-    pub given_alone : (given : Option V) → changed_or_given R q f given [] ≡ put_given R q given []
-    given_alone given = refl
-
     -- one that is given is put where there is none
     pub given_some : (v : V) (es : List (K × V)) → changed_or_given R q f (Some v) es ≡ changed_or_put R q f v es
     given_some v es = elim (find R q es) as (λ o. put_given R q (option_or (option_map f o) (Some v)) es ≡ put R q (unwrap_or (option_map f o) v) es) [ None ↦ refl | Some w ↦ refl ]
 
     module _ (o : IsTotalOrder R) (given : Option V) (l : List (K × V)) (e : K × V) (r : List (K × V)) (h : is_sorted R (l ++ e ∷ r) ≡ true) where
-      pub given_left : R q e.0 ≡ Less → changed_or_given R q f given (l ++ e ∷ r) ≡ changed_or_given R q f given l ++ e ∷ r
-      given_left low =
-          let split = left_of R o q l e r h low in
-          ap (λ s. put_given R q (option_or (option_map f s) given) (l ++ e ∷ r)) split.find_is
-          ∙ split.put_is (option_or (option_map f (find R q l)) given)
-
       pub given_here : R q e.0 ≡ Equal → changed_or_given R q f given (l ++ e ∷ r) ≡ l ++ (e.0, f e.1) ∷ r
       given_here tie =
           let split = here_at R o q l e r h tie in
           ap (λ s. put_given R q (option_or (option_map f s) given) (l ++ e ∷ r)) split.find_is ∙ split.put_is (f e.1)
-
-      pub given_right : R q e.0 ≡ Greater → changed_or_given R q f given (l ++ e ∷ r) ≡ l ++ e ∷ changed_or_given R q f given r
-      given_right more =
-          let split = right_of R o q l e r h more in
-          ap (λ s. put_given R q (option_or (option_map f s) given) (l ++ e ∷ r)) split.find_is
-          ∙ split.put_is (option_or (option_map f (find R q r)) given)
-
-    -- the same where some others stand right of the entry, and more past them
-    module _ (o : IsTotalOrder R) (given : Option V) (l : List (K × V)) (e : K × V) (m r : List (K × V)) (h : is_sorted R (l ++ e ∷ (m ++ r)) ≡ true) (more : R q e.0 ≡ Greater) where
-      pub given_beyond : IsPast R q m → changed_or_given R q f given (l ++ e ∷ (m ++ r)) ≡ l ++ e ∷ (m ++ changed_or_given R q f given r)
-      given_beyond past =
-          let split = beyond_of R o q l e m r h more past in
-          ap (λ s. put_given R q (option_or (option_map f s) given) (l ++ e ∷ (m ++ r))) split.find_is
-          ∙ split.put_is (option_or (option_map f (find R q r)) given)
-
-      pub given_between : (is_sorted R (m ++ r) ≡ true → below_all R q r ≡ true) → changed_or_given R q f given (l ++ e ∷ (m ++ r)) ≡ l ++ e ∷ (changed_or_given R q f given m ++ r)
-      given_between within =
-          let split = between_of R o q l e m r h more within in
-          ap (λ s. put_given R q (option_or (option_map f s) given) (l ++ e ∷ (m ++ r))) split.find_is
-          ∙ split.put_is (option_or (option_map f (find R q m)) given)

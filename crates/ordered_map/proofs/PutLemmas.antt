@@ -1,5 +1,5 @@
 -- The part of some entries where a key is sought, and put.
-use Rattle.std.proofs.Common.{ℕ, ◌≡◌, ◌<◌, true, false, length, length-append, arith, List, [], ◌∷◌, ◌++◌, sym, ap, ◌∙◌, refl}
+use Rattle.std.proofs.Common.{ℕ, ◌≡◌, ◌<◌, true, false, length, arith, List, [], ◌∷◌, ◌++◌, sym, ap, ◌∙◌, refl}
 use Rattle.std.proofs.lemmas.List.{append_assoc}
 use Rattle.std.proofs.lemmas.Option.{same_Some}
 use Rattle.std.specs.Prelude.{Option, None, Some, drop}
@@ -14,7 +14,8 @@ use Rattle.ordered_map.specs.Entries.{entries_of, node_entries, put_given, head_
 use Rattle.ordered_map.specs.declared.tree.Tree.{Tree}
 use Rattle.ordered_map.specs.declared.tree.Node.{Node, Full}
 use Rattle.ordered_map.specs.Runs.{IsPast}
-use Rattle.ordered_map.proofs.SplitLemmas.{find_past, given_over, find_before, given_before, left_shorter, right_shorter, sorted_front, sorted_back, left_of, here_at, right_of}
+use Rattle.ordered_map.proofs.ChangeLemmas.{given_here}
+use Rattle.ordered_map.proofs.SplitLemmas.{left_shorter, right_shorter, last_shorter, length_parts, left_of, here_at, right_of, beyond_of, between_of}
 
 -- what is left after the first
 first_and_rest : {A : Type 0} (es : List A) (e : A) → head_of es ≡ Some e → es ≡ e ∷ drop 1 es
@@ -80,7 +81,7 @@ module _ {K X : Type 0} (R : K → K → Ordering) where
       put_here tie v = let split = here_at R o q l e (m ++ r) parted tie in ap (put R q v) forked.whole ∙ split.put_is v
 
       pub given_at : (f : X → X) (given : Option X) → R q e.0 ≡ Equal → changed_or_given R q f given es ≡ l ++ (e.0, f e.1) ∷ (m ++ r)
-      given_at f given tie = ap (λ s. put_given R q (option_or (option_map f s) given) es) (find_here tie) ∙ put_here tie (f e.1)
+      given_at f given tie = ap (changed_or_given R q f given) forked.whole ∙ given_here R q f o given l e (m ++ r) parted tie
 
       pub sought_beyond : R q e.0 ≡ Greater → IsSought es (m ++ r) (λ p. l ++ e ∷ p)
       sought_beyond more =
@@ -94,24 +95,23 @@ module _ {K X : Type 0} (R : K → K → Ordering) where
 
       pub sought_among : R q e.0 ≡ Greater → below_all R q r ≡ true → IsSought es m (λ p. l ++ e ∷ (p ++ r))
       sought_among more within =
-          let beyond = sought_beyond more in
-          let smaller = beyond.smaller in
+          let split = between_of R o q l e m r parted more (λ _. within) in
+          let size = ap length forked.whole ∙ length_parts l e m r in
           record {
-            rising = sorted_front R m r beyond.rising;
-            smaller = omega (arith, length-append m r);
-            find_is = beyond.find_is ∙ find_before R q m r within;
-            put_is = λ v. beyond.put_is v ∙ ap (λ p. l ++ e ∷ p) (given_before R q m r within v);
+            rising = split.rising;
+            smaller = omega (arith, size);
+            find_is = ap (find R q) forked.whole ∙ split.find_is;
+            put_is = λ v. ap (put_given R q v) forked.whole ∙ split.put_is v;
           }
 
       pub sought_right : R q e.0 ≡ Greater → IsPast R q m → IsSought es r (λ p. l ++ e ∷ (m ++ p))
       sought_right more past =
-          let beyond = sought_beyond more in
-          let smaller = beyond.smaller in
+          let split = beyond_of R o q l e m r parted more past in
           record {
-            rising = sorted_back R m r beyond.rising;
-            smaller = omega (arith, length-append m r);
-            find_is = beyond.find_is ∙ find_past R q m r past;
-            put_is = λ v. beyond.put_is v ∙ ap (λ p. l ++ e ∷ p) (given_over R q m r past v);
+            rising = split.rising;
+            smaller = last_shorter es l e m r forked.whole;
+            find_is = ap (find R q) forked.whole ∙ split.find_is;
+            put_is = λ v. ap (put_given R q v) forked.whole ∙ split.put_is v;
           }
 
       -- a key that isn't there, and is not smaller than the entry, is greater

@@ -1,4 +1,4 @@
-use Rattle.std.proofs.Common.{◌≡◌, ◌∷◌, ◌++◌, arith, sym, ap, ◌∙◌}
+use Rattle.std.proofs.Common.{◌≡◌, ◌∷◌, ◌++◌, arith, rules, sym, ap, ◌∙◌}
 use Rattle.std.specs.Ordering.{is_lt}
 use Rattle.ordered_map.specs.Entries.{entries_of}
 use Rattle.ordered_map.proofs.SplitLemmas.{find_before, less}
@@ -6,34 +6,20 @@ use Rattle.ordered_map.proofs.PutLemmas.{halved, not_smaller, sought_left, sough
 use Rattle.ordered_map.proofs.change.put_between.Goals as goal
 use Rattle.ordered_map.proofs.change.put_between.Goals.{then-is_lt, else-is_lt}
 
-pub put_among-requires-clause-rising : goal.put_among-requires-clause-rising
-put_among-requires-clause-rising g c =
-    let forked = halved g.K.Ord.cmp c.args.others.now c.halve.new.self c.halve.new.upper c.take_first.new.self (entries_of c.args.right.now) (c.in-Some.least, c.in-Some.first) c.halve.ensures.whole c.in-Some.ensures.first c.take_first.ensures.rest c.requires.rising in
-    let sought = sought_left g.K.Ord.cmp c.args.key g.met.K.Ord.total forked (sym c.cmp.ensures ∙ less _ (sym c.is_lt.ensures ∙ c.if-is_lt.true)) in
-    sought.rising
-
-pub put_among-requires-clause-absent : goal.put_among-requires-clause-absent
-put_among-requires-clause-absent g c =
+pub put_among-requires : goal.put_among-requires
+put_among-requires g c =
     let forked = halved g.K.Ord.cmp c.args.others.now c.halve.new.self c.halve.new.upper c.take_first.new.self (entries_of c.args.right.now) (c.in-Some.least, c.in-Some.first) c.halve.ensures.whole c.in-Some.ensures.first c.take_first.ensures.rest c.requires.rising in
     let sought = sought_left g.K.Ord.cmp c.args.key g.met.K.Ord.total forked (sym c.cmp.ensures ∙ less _ (sym c.is_lt.ensures ∙ c.if-is_lt.true)) in
     let absent = find_before g.K.Ord.cmp c.args.key c.args.others.now (entries_of c.args.right.now) c.requires.within ∙ c.requires.absent in
-    sym sought.find_is ∙ absent
+    record { rising = sought.rising; absent = sym sought.find_is ∙ absent; room = search rules; given = c.requires.given }
 
-pub put_among-requires-else-is_lt-clause-rising : goal.put_among-requires-else-is_lt-clause-rising
-put_among-requires-else-is_lt-clause-rising g c =
+pub put_among-requires-else-is_lt : goal.put_among-requires-else-is_lt
+put_among-requires-else-is_lt g c =
     let forked = halved g.K.Ord.cmp c.args.others.now c.halve.new.self c.halve.new.upper c.take_first.new.self (entries_of c.args.right.now) (c.in-Some.least, c.in-Some.first) c.halve.ensures.whole c.in-Some.ensures.first c.take_first.ensures.rest c.requires.rising in
     let absent = find_before g.K.Ord.cmp c.args.key c.args.others.now (entries_of c.args.right.now) c.requires.within ∙ c.requires.absent in
     let more = not_smaller g.K.Ord.cmp c.args.key g.met.K.Ord.total forked absent (ap is_lt (sym c.cmp.ensures) ∙ sym c.is_lt.ensures ∙ c.if-is_lt.false) in
     let sought = sought_among g.K.Ord.cmp c.args.key g.met.K.Ord.total forked more c.requires.within in
-    sought.rising
-
-pub put_among-requires-else-is_lt-clause-absent : goal.put_among-requires-else-is_lt-clause-absent
-put_among-requires-else-is_lt-clause-absent g c =
-    let forked = halved g.K.Ord.cmp c.args.others.now c.halve.new.self c.halve.new.upper c.take_first.new.self (entries_of c.args.right.now) (c.in-Some.least, c.in-Some.first) c.halve.ensures.whole c.in-Some.ensures.first c.take_first.ensures.rest c.requires.rising in
-    let absent = find_before g.K.Ord.cmp c.args.key c.args.others.now (entries_of c.args.right.now) c.requires.within ∙ c.requires.absent in
-    let more = not_smaller g.K.Ord.cmp c.args.key g.met.K.Ord.total forked absent (ap is_lt (sym c.cmp.ensures) ∙ sym c.is_lt.ensures ∙ c.if-is_lt.false) in
-    let sought = sought_among g.K.Ord.cmp c.args.key g.met.K.Ord.total forked more c.requires.within in
-    sym sought.find_is ∙ absent
+    record { rising = sought.rising; absent = sym sought.find_is ∙ absent; room = search rules; given = c.requires.given }
 
 pub returns-clause-entries : goal.returns-clause-entries
 returns-clause-entries g c =
