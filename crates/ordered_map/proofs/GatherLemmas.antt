@@ -1,6 +1,6 @@
 -- Entries that are put last until there are so many.
-use Rattle.std.proofs.Common.{◌≡◌, ◌<◌, ◌≤◌, ◌+◌, ℕ, suc, zero, length, List, [], ◌∷◌, ◌++◌, ap, sym, ◌∙◌, refl, take, get_or}
-use Rattle.std.proofs.lemmas.List.{append_assoc, take_all, take_at, take_more, take-append-drop}
+use Rattle.std.proofs.Common.{◌≡◌, ℕ, suc, zero, length, List, [], ◌∷◌, ◌++◌, ap, sym, ◌∙◌, refl, take}
+use Rattle.std.proofs.lemmas.List.{append_assoc, take_at, take-append-drop}
 use Rattle.std.specs.Prelude.{drop}
 
 module _ {A : Type 0} where
@@ -23,18 +23,8 @@ module _ {A : Type 0} where
       ∙ ap (λ xs. take n ((xs ++ m) ++ r)) next
       ∙ ap (take n) (append_assoc (first ++ e ∷ []) m r ∙ append_assoc first (e ∷ []) (m ++ r) ∙ ap (λ xs. xs ++ e ∷ (m ++ r)) whole ∙ append_assoc given l (e ∷ (m ++ r)))
 
-  -- ---- one entry of a list after the other
-
-  pub one_more : (given es fs xs : List A) (i : ℕ) (x : A) → es ≡ given ++ take i xs → i < length xs → x ≡ get_or xs i x → fs ≡ es ++ x ∷ [] → fs ≡ given ++ take (i + 1) xs
-  one_more given es fs xs i x is within here next =
-      next ∙ ap (λ ys. ys ++ x ∷ []) is ∙ append_assoc given (take i xs) (x ∷ [])
-      ∙ ap (λ ys. given ++ ys) (ap (λ y. take i xs ++ y ∷ []) here ∙ sym (take_more xs i x within))
-
   -- where there are so many, the others are left out
   pub enough : (n : ℕ) (given es xs : List A) (i : ℕ) → es ≡ given ++ take i xs → length es ≡ n → es ≡ take n (given ++ xs)
   enough n given es xs i is size =
       sym (take_at es (drop i xs) n size)
       ∙ ap (take n) (ap (λ ys. ys ++ drop i xs) is ∙ append_assoc given (take i xs) (drop i xs) ∙ ap (λ ys. given ++ ys) (take-append-drop i xs))
-
-  pub all_fit : (n : ℕ) (given es xs : List A) → es ≡ given ++ xs → length es ≤ n → es ≡ take n (given ++ xs)
-  all_fit n given es xs is few = sym (take_all n es few) ∙ ap (take n) is
