@@ -10,7 +10,8 @@ use Rattle.std.specs.FinMap.Entries.{is_sorted, below_all}
 use Rattle.std.proofs.lemmas.Bool.{and_from, and_parts}
 use Rattle.std.proofs.lemmas.Option.{same_Some}
 use Rattle.ordered_map.specs.Entries.{above, head_of, left_after}
-use Rattle.ordered_map.proofs.SplitLemmas.{less, turned, above_before, below_smaller, first_or, here_at, right_of}
+use Rattle.ordered_map.proofs.PutLemmas.{IsForked}
+use Rattle.ordered_map.proofs.SplitLemmas.{less, turned, above_before, below_smaller, first_or, first_of_split, left_of, here_at, right_of}
 
 pub none_left : {A : Type 0} (xs : List A) → head_of xs ≡ None → xs ≡ []
 none_left [] e = refl
@@ -74,23 +75,35 @@ module _ {K V : Type 0} (R : K → K → Ordering) (q : K) where
         | false ↦ above_append l m
       ]
 
-  -- what stands after an entry that the key isn't smaller than
-  pub record IsAfter (l : List (K × V)) (e : K × V) (m r : List (K × V)) : Type 0 where
-    pub rising : is_sorted R (m ++ r) ≡ true
-    pub above_is : above R q (l ++ e ∷ (m ++ r)) ≡ above R q m ++ above R q r
+  module _ (o : IsTotalOrder R) {es l : List (K × V)} {e : K × V} {m r : List (K × V)} (forked : IsForked R es l e m r) where
+    parted : is_sorted R (l ++ e ∷ (m ++ r)) ≡ true
+    parted = ap (is_sorted R) (sym forked.whole) ∙ forked.rising
 
-  module _ (o : IsTotalOrder R) (l : List (K × V)) (e : K × V) (m r : List (K × V)) (h : is_sorted R (l ++ e ∷ (m ++ r)) ≡ true) where
-    pub after_entry : is_lt (R q e.0) ≡ false → IsAfter l e m r
+    pub rising_before : is_lt (R q e.0) ≡ true → is_sorted R l ≡ true
+    rising_before low = (left_of R o q l e (m ++ r) parted (less _ low)).rising
+
+    -- the entry itself is the best so far, where the key is smaller
+    pub best_before : is_lt (R q e.0) ≡ true → (best : Option (K × V)) → first_or (head_of (above R q es)) best ≡ first_or (head_of (above R q l)) (Some e)
+    best_before low best =
+        ap (λ ds. first_or (head_of ds) best) (ap (above R q) forked.whole ∙ (left_of R o q l e (m ++ r) parted (less _ low)).above_is)
+        ∙ first_of_split (above R q l) e (m ++ r) best
+
+    -- what stands after the entry, where it isn't
+    pub record IsAfter : Type 0 where
+      pub rising : is_sorted R (m ++ r) ≡ true
+      pub above_is : above R q es ≡ above R q m ++ above R q r
+
+    pub after_entry : is_lt (R q e.0) ≡ false → IsAfter
     after_entry apart = by (R q e.0) refl apart
       where
-        by : (s : Ordering) → R q e.0 ≡ s → is_lt s ≡ false → IsAfter l e m r
+        by : (s : Ordering) → R q e.0 ≡ s → is_lt s ≡ false → IsAfter
         by Less is apart = absurd (cc)
         by Equal is apart =
-            let split = here_at R o q l e (m ++ r) h is in
-            record { rising = split.rising; above_is = split.above_is ∙ above_append m r }
+            let split = here_at R o q l e (m ++ r) parted is in
+            record { rising = split.rising; above_is = ap (above R q) forked.whole ∙ split.above_is ∙ above_append m r }
         by Greater is apart =
-            let split = right_of R o q l e (m ++ r) h is in
-            record { rising = split.rising; above_is = split.above_is ∙ above_append m r }
+            let split = right_of R o q l e (m ++ r) parted is in
+            record { rising = split.rising; above_is = ap (above R q) forked.whole ∙ split.above_is ∙ above_append m r }
 
 pub first_there : {A : Type 0} (xs ys : List A) (x : A) (best : Option A) → head_of xs ≡ Some x → first_or (head_of (xs ++ ys)) best ≡ Some x
 first_there [] ys x best is = cc
