@@ -90,6 +90,9 @@ pends told m x = is_pending (present_to told x.who) (present_to m x.who) x.prefi
 pub place_for-le : (told all : Present) (greatest : Option (Pid × Prefix)) (x : Advert) → place_for told all greatest x ≤ 1
 place_for-le told all greatest x = at_most (is_above greatest x.who x.prefix && pends told all x)
 
+pub place_taken-le : (told all : Present) (x : Advert) → place_taken told all x ≤ 1
+place_taken-le told all x = at_most (pends told all x)
+
 -- a place is made where one is taken
 pub place_enough : (told before all : Present) (greatest : Option (Pid × Prefix)) (x : Advert) → IsAsBefore before all greatest → place_taken told all x ≤ place_for told before greatest x
 place_enough told before all greatest x same = by (is_above greatest x.who x.prefix) refl

@@ -120,8 +120,29 @@ fn place_for(adverts: &Adverts, greatest: Option<(Pid, Prefix)>, offer: &Advert)
     }
 }
 
-/// How many places offers may need for each participant, at most.
-fn places_for(alloc: Global, adverts: &Adverts, offers: &[Advert]) -> Result<Vec<usize>, Memory>
+/// How many offers there are for each participant, which need no more places.
+fn places_by_count(
+    alloc: Global,
+    participants: usize,
+    offers: &[Advert],
+) -> Result<Vec<usize>, Memory>
+    requires { AreTo participants offers.now }
+    ensures length { IfOk result (λ places. length places.items ≡ participants) }
+    ensures places { IfOk result (λ places. (told present : Present) (n : ℕ) → all_taken (place_taken told) present offers.now n ≤ slice_index places.items n) }
+{
+    let mut places = Vec::from_elem(alloc, 0, participants)?;
+    for offer in offers {
+        places[offer.who.0 as usize] += 1;
+    }
+    Ok(places)
+}
+
+/// How many places offers may need for each participant, at most, by what is pending now.
+fn places_by_pending(
+    alloc: Global,
+    adverts: &Adverts,
+    offers: &[Advert],
+) -> Result<Vec<usize>, Memory>
     requires { AreTo (length adverts.now.told) offers.now }
     ensures length { IfOk result (λ places. length places.items ≡ length adverts.now.told) }
     ensures places { IfOk result (λ places. (n : ℕ) → all_taken (place_taken adverts.now.told) adverts.now.present offers.now n ≤ slice_index places.items n) }
@@ -133,6 +154,21 @@ fn places_for(alloc: Global, adverts: &Adverts, offers: &[Advert]) -> Result<Vec
         greatest = greater(greatest, offer.who, offer.prefix);
     }
     Ok(places)
+}
+
+/// How many places offers may need for each participant, at most. What is pending is looked for only where there are more
+/// offers than participants: of a single prefix, a place for each costs less.
+fn places_for(alloc: Global, adverts: &Adverts, offers: &[Advert]) -> Result<Vec<usize>, Memory>
+    requires { AreTo (length adverts.now.told) offers.now }
+    ensures length { IfOk result (λ places. length places.items ≡ length adverts.now.told) }
+    ensures places { IfOk result (λ places. (n : ℕ) → all_taken (place_taken adverts.now.told) adverts.now.present offers.now n ≤ slice_index places.items n) }
+{
+    let participants = adverts.len();
+    if offers.len() <= participants {
+        places_by_count(alloc, participants, offers)
+    } else {
+        places_by_pending(alloc, adverts, offers)
+    }
 }
 
 /// An offer's participant with the tag that is offered, where there is one.

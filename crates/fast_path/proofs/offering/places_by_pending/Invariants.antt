@@ -3,7 +3,7 @@ use Rattle.std.proofs.Common.{◌≡◌, ℕ, ◌≤◌, get_or, length, take}
 use Rattle.std.specs.Vec.{vec_len}
 use Rattle.fast_path.proofs.OffersNeeded.{IsAsBefore}
 use Rattle.fast_path.specs.Offers.{all_taken, offered_all, place_taken}
-use Rattle.fast_path.proofs.offering.places_for.Given as goal
+use Rattle.fast_path.proofs.offering.places_by_pending.Given as goal
 
 abbrev pub invariant-loop-offer : goal.invariant-loop-offer
 invariant-loop-offer l = record {

@@ -5,7 +5,7 @@ use Rattle.fast_path.proofs.OffersCounted.{counted_more, few_more, number_at}
 use Rattle.fast_path.proofs.OffersNeeded.{IsAsBefore, as_before, offered_next, place_enough, place_for-le}
 use Rattle.fast_path.specs.Demands.{greater}
 use Rattle.fast_path.specs.Offers.{offered_all}
-use Rattle.fast_path.proofs.offering.places_for.Goals as goal
+use Rattle.fast_path.proofs.offering.places_by_pending.Goals as goal
 
 pub place_for-requires : goal.place_for-requires
 place_for-requires c = c.requires _ (Member-at c.args.offers.now c.loop-offer.offer-index c.offer-item.result c.offer-item.result c.loop-offer-test.true (sym c.offer-item.is))
