@@ -4,6 +4,7 @@ pub mod PortsAndTags
 pub mod GonePairs
 pub mod NewPairs
 pub mod DeadTags
+pub mod DeadPairs
 pub mod EmptiedTags
 pub mod NewlyCarried
 pub mod MoveCount

@@ -1,9 +1,12 @@
 //! The pairs that go with tags that no prefix has any more, and those whose rules are built.
 
-ghost use Rattle.std.specs.Prelude.{◌≡◌, ◌∷◌, ◌++◌, [], IfOk, OnOk, map};
+ghost use Rattle.std.specs.Prelude.{◌≡◌, ◌∷◌, ◌++◌, [], false, IfOk, OnOk, map, slice_get, unwrap_or};
+ghost use Rattle.std.specs.FinMap.{get};
+ghost use Rattle.std.specs.Option.{option_map_or};
+ghost use Rattle.events.specs.Tags.{same_tag};
 ghost use Rattle.net_types.specs.Sets.{IsRising, union_over};
 ghost use Rattle.exchange_laws.specs.Listed.{is_pair_before};
-ghost use Rattle.fast_path.specs.Pairs.{built_pairs, class_pairs, dropped_pairs, fresh_pairs, gone_pairs, is_among, pair_at, part_pairs, staying, untold, was_told};
+ghost use Rattle.fast_path.specs.Pairs.{built_pairs, dropped_pairs, fresh_pairs, gone_pairs, is_among, pair_at, part_pairs, sender_pairs, staying, untold, was_told};
 
 use crate::planned::Class;
 use advert_queue::Adverts;
@@ -33,6 +36,21 @@ pub fn push_pairs(ports: &[PortNo], tag: Tag, pairs: &mut Vec<Pair>) -> Result<(
     Ok(())
 }
 
+/// Puts the tag at the ports of the parts' senders last.
+fn push_senders(
+    names: &Registry,
+    tag: Tag,
+    parts: &[Part],
+    pairs: &mut Vec<Pair>,
+) -> Result<(), Memory>
+    ensures { OnOk result (pairs.new.items ≡ pairs.old.items ++ union_over (sender_pairs names.now tag) parts.now) }
+{
+    for part in parts {
+        push_pairs(names.ports_of(part.sender), tag, pairs)?;
+    }
+    Ok(())
+}
+
 /// Puts the tag at the ports of the parts' senders, but for those that were told it.
 fn push_gone(
     names: &Registry,
@@ -51,34 +69,52 @@ fn push_gone(
     Ok(())
 }
 
+/// The parts of the signature that was kept for a tag, if any was.
+fn parts_of(classes: &ClassMap, tag: Tag) -> &[Part]
+    ensures { result.now ≡ unwrap_or (get classes.now.kept tag) [] }
+{
+    match classes.sig_of(tag) {
+        Some(sig) => sig.items(),
+        None => &[],
+    }
+}
+
+/// Whether the tag at a place is this one.
+fn stands_at(tags: &[Tag], at: usize, tag: Tag) -> bool
+    ensures { result ≡ option_map_or (same_tag tag) (slice_get tags.now at) false }
+{
+    match tags.get(at) {
+        Some(other) => tag.0 == other.0,
+        None => false,
+    }
+}
+
 /// The pairs that go with tags that no prefix has any more, ascending by port, and then by tag: the ports of the senders
-/// in the tag's signature, but for those of senders that were told the tag. Memory is the only refusal.
+/// in the tag's signature, but for those of senders that were told the tag. Where nobody was told it, as `dead` lists in the
+/// same order, no sender is asked. Memory is the only refusal.
 pub fn gone_pairs(
     alloc: Global,
     names: &Registry,
     classes: &ClassMap,
     adverts: &Adverts,
     emptied: &[Tag],
+    dead: &[Tag],
 ) -> Result<Pairs, Memory>
+    requires { dead.now ≡ untold adverts.now.told emptied.now }
     ensures { IfOk result (λ pairs. pairs ≡ gone_pairs names.now classes.now.kept adverts.now.told emptied.now) }
 {
     let mut pairs = Vec::new(alloc);
+    let mut at = 0;
     for &tag in emptied {
-        if let Some(sig) = classes.sig_of(tag) {
-            push_gone(names, adverts, tag, sig.items(), &mut pairs)?;
+        let parts = parts_of(classes, tag);
+        if stands_at(dead, at, tag) {
+            push_senders(names, tag, parts, &mut pairs)?;
+            at += 1;
+        } else {
+            push_gone(names, adverts, tag, parts, &mut pairs)?;
         }
     }
     Ok(Items::from_vec(ascending(pairs)))
-}
-
-/// Puts the tag of a class at the ports of the senders in its signature.
-fn push_class(names: &Registry, class: &Class, pairs: &mut Vec<Pair>) -> Result<(), Memory>
-    ensures { OnOk result (pairs.new.items ≡ pairs.old.items ++ class_pairs names.now class.now) }
-{
-    for part in class.sig.items() {
-        push_pairs(names.ports_of(part.sender), class.tag, pairs)?;
-    }
-    Ok(())
 }
 
 /// The pairs of fresh tags: each at the ports of the senders in its signature.
@@ -87,7 +123,7 @@ fn fresh_pairs(alloc: Global, names: &Registry, fresh: &[Class]) -> Result<Vec<P
 {
     let mut pairs = Vec::new(alloc);
     for class in fresh {
-        push_class(names, class, &mut pairs)?;
+        push_senders(names, class.tag, class.sig.items(), &mut pairs)?;
     }
     Ok(pairs)
 }

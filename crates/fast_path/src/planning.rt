@@ -55,11 +55,11 @@ fn drafted<'a>(
         left,
     } = moves;
     let left = emptied(alloc, classes, left)?;
-    let gone = gone_pairs(alloc, names, classes, adverts, &left)?;
+    let dead = untold(alloc, adverts, &left)?;
+    let gone = gone_pairs(alloc, names, classes, adverts, &left, &dead)?;
     let drops = dropped_pairs(alloc, gone.items(), rebuild)?;
     let fresh = with_tags(alloc, groups.into_fresh(), &given, tags.items())?;
     let built = built_pairs(alloc, names, &fresh, gone.items(), rebuild)?;
-    let dead = untold(alloc, adverts, &left)?;
     let offers = offers_of(alloc, names, proposal, after.items())?;
     Ok(Draft {
         tags,

@@ -58,11 +58,11 @@ fn drafted<B: Blocks>(
     let moves = swap.moves.list();
     let tags = tag_changes(alloc, moves)?;
     let left = left_tags(alloc, classes, tags.items())?;
-    let gone = gone_pairs(alloc, names, classes, adverts, &left)?;
+    let dead = untold(alloc, adverts, &left)?;
+    let gone = gone_pairs(alloc, names, classes, adverts, &left, &dead)?;
     let changed = changed_pairs(alloc, switch, &swap.built, gone.items())?;
     let drops = dropped_pairs(alloc, gone.items(), changed.items())?;
     let adds = built_flows(alloc, &swap.built, changed.items())?;
-    let dead = untold(alloc, adverts, &left)?;
     let offers = offers_of(alloc, names, adverts, moves)?;
     Ok(End {
         tags,

@@ -21,7 +21,7 @@ use Rattle.fast_path.proofs.planning.drafted.Goals as goal
 use Rattle.net_types.proofs.TieLemmas.{pair_tie}
 
 pub with_tags-requires : goal.with_tags-requires
-with_tags-requires c = subst (IsRising is_tag_below) (sym (c.deref-3.ensures.value ∙ c.in_ok-given.ensures)) (free_rise c.args.pool.now c.len.result)
+with_tags-requires c = subst (IsRising is_tag_below) (sym (c.deref-5.ensures.value ∙ c.in_ok-given.ensures)) (free_rise c.args.pool.now c.len.result)
 
 pub built_pairs-requires : goal.built_pairs-requires
 built_pairs-requires c = subst (IsRising is_pair_before) (sym (c.items-4.ensures ∙ c.in_ok-gone.ensures)) (ordered_rises pair_cmp pairs_total pair_tie _)
@@ -40,14 +40,14 @@ returns c =
     let after = c.in_ok-after.ensures ∙ (λ i. tagged (c.of-known.ensures i) c.args.groups ((c.deref.ensures.value ∙ given) i) p.touched p.sigs) in
     let had = c.in_ok-moves.ensures.left ∙ ap (λ (k : Known). old_tags k.tag changes) c.of-known.ensures in
     let left : c.in_ok-left.left.items ≡ emptied m.tag changes = c.in_ok-left.ensures ∙ ap (emptied_of m.tag) had in
-    let gone = c.in_ok-gone.ensures ∙ ap (gone_pairs c.args.names.now m.kept told) (c.deref-2.ensures.value ∙ left) in
+    let gone = c.in_ok-gone.ensures ∙ ap (gone_pairs c.args.names.now m.kept told) (c.deref-3.ensures.value ∙ left) in
     record {
       tags = c.in_ok-moves.ensures.changes ∙ (λ i. others (c.of-known.ensures i) ((c.items.ensures ∙ after) i));
-      fresh = c.in_ok-fresh.ensures ∙ (λ i. classes_of (c.items-3.ensures i) (kept_of ((c.deref-3.ensures.value ∙ given) i) (map (λ (f : Fresh). f.sig) (c.into_fresh.ensures i))));
+      fresh = c.in_ok-fresh.ensures ∙ (λ i. classes_of (c.items-3.ensures i) (kept_of ((c.deref-5.ensures.value ∙ given) i) (map (λ (f : Fresh). f.sig) (c.into_fresh.ensures i))));
       drops = c.in_ok-drops.ensures ∙ (λ i. dropped_pairs ((c.items-2.ensures ∙ gone) i) c.args.rebuild.now);
-      built = c.in_ok-built.ensures ∙ (λ i. built_pairs c.args.names.now (c.deref-4.ensures.value i) ((c.items-4.ensures ∙ gone) i) c.args.rebuild.now);
+      built = c.in_ok-built.ensures ∙ (λ i. built_pairs c.args.names.now (c.deref-6.ensures.value i) ((c.items-4.ensures ∙ gone) i) c.args.rebuild.now);
       left = left;
-      dead = c.in_ok-dead.ensures ∙ ap (untold told) (c.deref-5.ensures.value ∙ left);
+      dead = c.in_ok-dead.ensures ∙ ap (untold told) (c.deref-2.ensures.value ∙ left);
       newly = c.newly-newly.ensures c.of-known.result c.items.result.now c.in_ok-moves.ensures.changes c.in_ok-moves.ensures.left ∙ ap (λ (k : Known). newly_tagged k.tag changes) c.of-known.ensures;
       offers = c.in_ok-offers.ensures ∙ ap (adverts_of p (declared_pids c.args.names.now)) (c.items-5.ensures ∙ after);
     }
