@@ -1,5 +1,5 @@
 -- What each participant was told and what is present for it, in order of declaration (this exchange's own rule).
-use Rattle.std.specs.Prelude.{ℕ, ◌<◌, Bool, ◌||◌, List, map, length, slice_get, slice_set, unwrap_or, Option, Some, None, take, if◌then◌else◌}
+use Rattle.std.specs.Prelude.{ℕ, ◌<◌, Bool, List, map, length, slice_get, slice_set, unwrap_or, Option, take, if◌then◌else◌}
 use Rattle.std.specs.FinMap.{FinMap, empty, get}
 use Rattle.std.specs.List.{list_any}
 use Rattle.events.specs.Pending.{with_news}
@@ -11,8 +11,8 @@ use Rattle.net_types.specs.declared.address.Tag.{Tag}
 use Rattle.net_types.specs.declared.prefix.Prefix.{Prefix}
 use Rattle.advert_queue.specs.Telling.{is_pending, pending}
 
--- What each was told, what is present for each, and for how many offers to each there is room: of prefixes at which nothing
--- is pending, and of tags that are neither told nor present.
+-- What each was told, what is present for each, for how many offers to each of prefixes at which nothing is pending there is
+-- room, and below which number the tags lie of which there is room for offers to each.
 pub record Advertised : Type 0 where
   pub told : List (FinMap prefix_cmp Entry)
   pub present : List (FinMap prefix_cmp Entry)
@@ -35,18 +35,13 @@ present_of a who = unwrap_or (slice_get a.present who.0) empty
 abbrev pub places_of : Advertised → Pid → ℕ
 places_of a who = unwrap_or (slice_get a.places who.0) 0
 
--- for how many offers to it of tags that are neither told nor present there is room
-abbrev pub new_tags_of : Advertised → Pid → ℕ
-new_tags_of a who = unwrap_or (slice_get a.tags who.0) 0
+-- below which number the tags lie of which there is room for offers to it
+abbrev pub tags_of_room : Advertised → Pid → ℕ
+tags_of_room a who = unwrap_or (slice_get a.tags who.0) 0
 
 -- how many places an offer at a prefix takes: none where something is pending there
 abbrev pub place_cost : FinMap prefix_cmp Entry → FinMap prefix_cmp Entry → Prefix → ℕ
 place_cost told present p = if is_pending told present p then 0 else 1
-
--- how many new tags an entry has: none where its tag is told or present
-abbrev pub tag_cost : FinMap prefix_cmp Entry → FinMap prefix_cmp Entry → Option Entry → ℕ
-tag_cost told present None = 0
-tag_cost told present (Some entry) = if tells told entry.tag || tells present entry.tag then 0 else 1
 
 -- what is present once it has this entry at a prefix, or none
 abbrev pub offered : Advertised → Pid → Prefix → Option Entry → List (FinMap prefix_cmp Entry)

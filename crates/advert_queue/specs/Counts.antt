@@ -1,5 +1,5 @@
 -- How many entries have each tag.
-use Rattle.std.specs.Prelude.{◌≡◌, ℕ, ◌+◌, ◌<◌, Bool, not, nat_eq, List, [], ◌∷◌, Option, Some, None, is_some, IsTrue, if◌then◌else◌}
+use Rattle.std.specs.Prelude.{◌≡◌, ℕ, ◌+◌, ◌<◌, Bool, not, nat_eq, List, [], ◌∷◌, Option, Some, None, IsTrue, if◌then◌else◌}
 use Rattle.std.specs.FinMap.{FinMap, entries}
 use Rattle.std.specs.FinMap.Entries.{find, is_sorted}
 use Rattle.events.specs.Tags.{same_tag}
@@ -79,8 +79,3 @@ pub record IsRecounted (side : Side) (cs ds : List (Tag × Uses)) (before after 
   pub used : AreUsed ds
   pub counts : (t : Tag) → counted side ds t + has_tag t before ≡ counted side cs t + has_tag t after
   pub others : (t : Tag) → counted (other side) ds t ≡ counted (other side) cs t
-
--- how many tags have numbers that had none
-abbrev pub new_places : List (Tag × Uses) → Option Tag → ℕ
-new_places cs None = 0
-new_places cs (Some t) = if is_some (find tag_cmp t cs) then 0 else 1

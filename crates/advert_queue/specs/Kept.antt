@@ -8,12 +8,14 @@ use Rattle.net_types.specs.declared.address.Tag.{Tag}
 use Rattle.net_types.specs.declared.prefix.Prefix.{Prefix}
 use Rattle.ordered_map.specs.Held.{Held}
 use Rattle.prefix_map.specs.Held as prefixes
+use Rattle.tag_table.specs.Held as table
 use Rattle.advert_queue.specs.Advertised.{Advertised}
 use Rattle.advert_queue.specs.Changes.{AreNews, changed}
 use Rattle.advert_queue.specs.Counts.{AreCounts, by_side, uses}
 use Rattle.advert_queue.specs.declared.counts.Uses.{Uses}
 
--- what a participant was told, what is present for it, and for how many offers of new prefixes and of new tags there is room
+-- what a participant was told, what is present for it, for how many offers of new prefixes there is room, and below which number
+-- the tags lie of which there is room for offers
 pub record Queued : Type 0 where
   pub told : FinMap prefix_cmp Entry
   pub present : FinMap prefix_cmp Entry
@@ -32,15 +34,14 @@ advertised_by qs =
 
 -- The news are in order and are news, the tags of what was told and of what is present are counted, and there is room to
 -- tell all that is pending and as many prefixes more.
-pub record IsTellable (told : prefixes.Held Entry) (news : Held Prefix (Option Entry)) (tags : Held Tag Uses) (more : ℕ) : Type 0 where
+pub record IsTellable (told : prefixes.Held Entry) (news : Held Prefix (Option Entry)) (tags : table.Held Uses) (more : ℕ) : Type 0 where
   pub rising : IsTrue (is_sorted prefix_cmp news.items)
   pub differ : AreNews told.map news.items
   pub counts : AreCounts tags.items (by_side (uses told.map) (uses (changed told.map news.items)))
   pub told_room : more + length news.items ≤ told.room
   pub fits : length (entries told.map) + length news.items + more + 1 < 2 ^ 64
 
--- And there is room for so many prefixes among the news, and for so many tags.
-pub record IsKept (told : prefixes.Held Entry) (news : Held Prefix (Option Entry)) (tags : Held Tag Uses) (places new_tags : ℕ) : Type 0 where
+-- And there is room for so many prefixes among the news.
+pub record IsKept (told : prefixes.Held Entry) (news : Held Prefix (Option Entry)) (tags : table.Held Uses) (places : ℕ) : Type 0 where
   pub tellable : IsTellable told news tags places
   pub news_room : places ≤ news.room
-  pub counts_room : new_tags ≤ tags.room

@@ -148,7 +148,7 @@ fn tell_first(told: &mut PrefixMap<Entry>, news: &mut News, counts: &mut Counts)
     ensures told { told.new.map ≡ changed told.old.map (take 1 news.old.items) }
     ensures news { news.new.items ≡ drop 1 news.old.items }
     ensures room { news.old.room ≤ news.new.room }
-    ensures counts_room { counts.old.room ≤ counts.new.room }
+    ensures counts_room { counts.new.room ≡ counts.old.room }
     ensures present { changed told.new.map news.new.items ≡ changed told.old.map news.old.items }
     ensures kept { (more : ℕ) → IsTellable told.old news.old counts.old more → IsTellable told.new news.new counts.new more }
 {
@@ -167,7 +167,7 @@ pub(crate) fn tell(told: &mut PrefixMap<Entry>, news: &mut News, counts: &mut Co
     ensures told { told.new.map ≡ changed told.old.map (take count news.old.items) }
     ensures news { news.new.items ≡ drop count news.old.items }
     ensures room { news.old.room ≤ news.new.room }
-    ensures counts_room { counts.old.room ≤ counts.new.room }
+    ensures counts_room { counts.new.room ≡ counts.old.room }
     ensures present { changed told.new.map news.new.items ≡ changed told.old.map news.old.items }
     ensures kept { (more : ℕ) → IsTellable told.old news.old counts.old more → IsTellable told.new news.new counts.new more }
 {

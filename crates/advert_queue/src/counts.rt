@@ -1,15 +1,16 @@
 //! How many entries have each tag.
 
-ghost use Rattle.std.specs.Prelude.{◌≡◌, ◌≤◌, ◌<◌, ◌+◌, ◌^◌, None, Some, IfOk, IfSome, IsTrue, is_some, if◌then◌else◌, map, filter};
+ghost use Rattle.std.specs.Prelude.{◌≡◌, ◌<◌, ◌+◌, ◌^◌, None, Some, IfOk, IfSome, IsTrue, is_some, map, filter};
 ghost use Rattle.std.specs.FinMap.Entries.{find, is_sorted};
 ghost use Rattle.net_types.specs.Keys.{tag_cmp};
 ghost use Rattle.net_types.specs.declared.address.Tag.{Tag as AnyTag};
-ghost use Rattle.advert_queue.specs.Counts.{AreUsed, IsRecounted, counted, entry_tag, is_told_tag, new_places, uses_in};
+ghost use Rattle.advert_queue.specs.Counts.{AreUsed, IsRecounted, counted, entry_tag, is_told_tag, uses_in};
 ghost use Rattle.advert_queue.specs.Recounted.{is_unused, one_use, recounted};
 
 use net_types::{Memory, Tag};
-use ordered_map::{Change, Lapse, OrderedMap};
+use ordered_map::{Change, Lapse};
 use std::alloc::Global;
+use tag_table::TagTable;
 
 /// Which entries are counted: those that were told, or those that are present.
 #[derive(Clone, Copy)]
@@ -34,7 +35,7 @@ impl Lapse for Uses {
 }
 
 /// The tags that are in use, and how often each is.
-pub(crate) type Counts = OrderedMap<Tag, Uses>;
+pub(crate) type Counts = TagTable<Uses>;
 
 /// One entry more with a tag, or one less.
 #[derive(Clone, Copy)]
@@ -60,7 +61,7 @@ impl Change<Uses> for Recount {
 pub(crate) fn uses_of(counts: &Counts, tag: Tag) -> Uses
     ensures { result ≡ uses_in (find tag_cmp tag counts.now.items) }
 {
-    match counts.get(&tag) {
+    match counts.get(tag) {
         Some(uses) => *uses,
         None => Uses {
             told: 0,
@@ -73,11 +74,11 @@ pub(crate) fn uses_of(counts: &Counts, tag: Tag) -> Uses
 pub(crate) fn is_used(counts: &Counts, tag: Tag) -> bool
     ensures { result ≡ is_some (find tag_cmp tag counts.now.items) }
 {
-    counts.get(&tag).is_some()
+    counts.get(tag).is_some()
 }
 
 /// One use alone.
-fn one_use(side: Side) -> Uses
+pub(crate) fn one_use(side: Side) -> Uses
     ensures { result ≡ one_use side }
 {
     match side {
@@ -92,55 +93,44 @@ fn one_use(side: Side) -> Uses
     }
 }
 
-/// Counts a use of a tag more. Only a tag that isn't in use yet takes a place of the room. It answers how many places it took.
-pub(crate) fn raise(counts: &mut Counts, side: Side, tag: Tag) -> usize
+/// Counts a use of a tag more.
+pub(crate) fn raise(counts: &mut Counts, side: Side, tag: Tag)
     requires rising { IsTrue (is_sorted tag_cmp counts.old.items) }
     requires used { AreUsed counts.old.items }
-    requires room { new_places counts.old.items (Some tag) ≤ counts.old.room }
+    requires room { find tag_cmp tag counts.old.items ≡ None → tag.0 < counts.old.room }
     requires small { counted side counts.old.items tag + 1 < 2 ^ 64 }
     ensures counts { IsRecounted side counts.old.items counts.new.items None (Some tag) }
-    ensures room { counts.old.room ≤ counts.new.room + new_places counts.old.items (Some tag) }
-    ensures places { result ≡ new_places counts.old.items (Some tag) }
+    ensures room { counts.new.room ≡ counts.old.room }
 {
-    let known = counts.len();
     counts.change_or_put(tag, &Recount::More(side), one_use(side));
-    counts.len() - known
 }
 
-/// Counts a use of a tag less. A tag that isn't in use any more gives its place back.
+/// Counts a use of a tag less.
 pub(crate) fn lower(counts: &mut Counts, side: Side, tag: Tag)
     requires used { AreUsed counts.old.items }
     requires some { 0 < counted side counts.old.items tag }
     ensures counts { IsRecounted side counts.old.items counts.new.items (Some tag) None }
-    ensures room { counts.old.room ≤ counts.new.room }
+    ensures room { counts.new.room ≡ counts.old.room }
 {
-    counts.change_or_remove(&tag, &Recount::Less(side));
+    counts.change_or_remove(tag, &Recount::Less(side));
 }
 
-/// Counts what had one tag, or none, as what has another one, or none. It answers how many places of the room it took.
-pub(crate) fn move_use(
-    counts: &mut Counts,
-    side: Side,
-    before: Option<Tag>,
-    after: Option<Tag>,
-) -> usize
+/// Counts what had one tag, or none, as what has another one, or none.
+pub(crate) fn move_use(counts: &mut Counts, side: Side, before: Option<Tag>, after: Option<Tag>)
     requires rising { IsTrue (is_sorted tag_cmp counts.old.items) }
     requires used { AreUsed counts.old.items }
     requires some { IfSome before (λ (tag : AnyTag). 0 < counted side counts.old.items tag) }
-    requires room { new_places counts.old.items after ≤ counts.old.room }
+    requires room { IfSome after (λ (tag : AnyTag). find tag_cmp tag counts.old.items ≡ None → tag.0 < counts.old.room) }
     requires small { IfSome after (λ (tag : AnyTag). counted side counts.old.items tag + 1 < 2 ^ 64) }
     ensures counts { IsRecounted side counts.old.items counts.new.items before after }
-    ensures room { counts.old.room ≤ counts.new.room + new_places counts.old.items after }
-    ensures places { result ≡ new_places counts.old.items after }
+    ensures room { counts.new.room ≡ counts.old.room }
 {
-    let places = match after {
-        None => 0,
-        Some(tag) => raise(counts, side, tag),
-    };
+    if let Some(tag) = after {
+        raise(counts, side, tag);
+    }
     if let Some(tag) = before {
         lower(counts, side, tag);
     }
-    places
 }
 
 /// The tags of entries that were told, ascending.
@@ -150,7 +140,7 @@ pub(crate) fn told_tags(alloc: Global, counts: &Counts) -> Result<Vec<Tag>, Memo
     let mut tags = Vec::with_capacity(alloc, counts.len())?;
     for (tag, uses) in counts.iter() {
         if uses.told != 0 {
-            tags.push(*tag)?;
+            tags.push(tag)?;
         }
     }
     Ok(tags)

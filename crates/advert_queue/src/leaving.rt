@@ -11,14 +11,18 @@ ghost use Rattle.advert_queue.specs.declared.counts.Side.TheVariants.{Told};
 ghost use Rattle.advert_queue.specs.Leaving.{is_gone, left, none_present};
 
 use crate::changes::News;
-use crate::counts::{Counts, Side, Uses, raise, uses_of};
+use crate::counts::{Counts, Recount, Side, Uses, one_use, uses_of};
 use events::Entry;
 use net_types::{Memory, Prefix, Tag};
+use ordered_map::OrderedMap;
 use prefix_map::PrefixMap;
 use std::alloc::Global;
 
+/// How many of some prefixes were told each tag.
+pub(crate) type Leaving = OrderedMap<Tag, Uses>;
+
 /// Counts the tag that a prefix was told, if any.
-fn count_told(counts: &mut Counts, told: &PrefixMap<Entry>, prefix: Prefix) -> Result<(), Memory>
+fn count_told(counts: &mut Leaving, told: &PrefixMap<Entry>, prefix: Prefix) -> Result<(), Memory>
     requires rising { IsTrue (is_sorted tag_cmp counts.old.items) }
     requires used { AreUsed counts.old.items }
     requires small { (tag : AnyTag) → counted Told counts.old.items tag + 1 < 2 ^ 64 }
@@ -28,7 +32,7 @@ fn count_told(counts: &mut Counts, told: &PrefixMap<Entry>, prefix: Prefix) -> R
         return Ok(());
     };
     counts.reserve(1)?;
-    raise(counts, Side::Told, entry.tag);
+    counts.change_or_put(entry.tag, &Recount::More(Side::Told), one_use(Side::Told));
     Ok(())
 }
 
@@ -38,11 +42,11 @@ pub(crate) fn leaving(
     told: &PrefixMap<Entry>,
     news: &News,
     count: usize,
-) -> Result<Counts, Memory>
+) -> Result<Leaving, Memory>
     ensures { IfOk result (λ counts. AreCounts counts.items (by_side (left told.now.map (take count news.now.items)) none_present)) }
 {
     let firsts = news.first_entries(count)?;
-    let mut counts = Counts::new(alloc);
+    let mut counts = Leaving::new(alloc);
     for (prefix, _) in firsts.as_slice() {
         count_told(&mut counts, told, **prefix)?;
     }
@@ -58,7 +62,7 @@ fn is_gone(counts: &Counts, tag: Tag, leaving: Uses) -> bool
 }
 
 /// Those of the tags that are in use nowhere else.
-pub(crate) fn gone(alloc: Global, leaving: &Counts, counts: &Counts) -> Result<Vec<Tag>, Memory>
+pub(crate) fn gone(alloc: Global, leaving: &Leaving, counts: &Counts) -> Result<Vec<Tag>, Memory>
     ensures { IfOk result (λ tags. tags.items ≡ map entry_tag (filter (is_gone counts.now.items) leaving.now.items)) }
 {
     let mut tags = Vec::new(alloc);

@@ -8,7 +8,7 @@ ghost use Rattle.events.specs.Tags.{tells};
 ghost use Rattle.net_types.specs.Routes.{longest_of};
 ghost use Rattle.net_types.specs.declared.address.Pid.{Pid as AnyPid};
 ghost use Rattle.net_types.specs.declared.prefix.Prefix.{Prefix as AnyPrefix};
-ghost use Rattle.advert_queue.specs.Advertised.{HasQueue, first_pending, is_told, new_tags_of, offered, place_cost, places_of, present_of, tag_cost, told_of};
+ghost use Rattle.advert_queue.specs.Advertised.{HasQueue, first_pending, is_told, offered, place_cost, places_of, present_of, tags_of_room, told_of};
 ghost use Rattle.advert_queue.specs.Kept.{Queued};
 ghost use Rattle.advert_queue.specs.Taken.{gone_tags, news_of, told_then};
 ghost use Rattle.advert_queue.specs.Telling.{adverts, is_pending, tags_of};
@@ -77,33 +77,32 @@ impl Adverts {
         self.sessions.len()
     }
 
-    /// Makes room for offers to a participant of so many prefixes at which nothing is pending, and of so many tags that are
-    /// neither told nor present. It takes memory only where there is less.
+    /// Makes room for offers to a participant of so many prefixes at which nothing is pending, and of each tag below this number.
+    /// It takes memory only where there is less: for the tags a table with a place for each of them.
     pub fn reserve(&mut self, who: Pid, places: usize, tags: usize) -> Result<(), Memory>
         requires declared { HasQueue self.old who }
         ensures told { self.new.told ≡ self.old.told }
         ensures present { self.new.present ≡ self.old.present }
         ensures places { OnOk result (places ≤ places_of self.new who) }
-        ensures tags { OnOk result (tags ≤ new_tags_of self.new who) }
+        ensures tags { OnOk result (tags ≤ tags_of_room self.new who) }
         ensures places_kept { (other : AnyPid) → places_of self.old other ≤ places_of self.new other }
-        ensures tags_kept { (other : AnyPid) → new_tags_of self.old other ≤ new_tags_of self.new other }
-        ensures enough { places ≤ places_of self.old who → tags ≤ new_tags_of self.old who → IsOk result }
+        ensures tags_kept { (other : AnyPid) → tags_of_room self.old other ≤ tags_of_room self.new other }
+        ensures enough { places ≤ places_of self.old who → tags ≤ tags_of_room self.old who → IsOk result }
     {
         self.sessions[who.0 as usize].reserve(places, tags)
     }
 
     /// Makes this entry present for a participant at a prefix, or none. It uses one place of the participant's room where
-    /// nothing is pending there, one of a tag where the entry's tag is neither told nor present, and takes no memory.
+    /// nothing is pending there, and takes no memory.
     pub fn offer(&mut self, who: Pid, prefix: Prefix, entry: Option<Entry>)
         requires declared { HasQueue self.old who }
         requires place { place_cost (told_of self.old who) (present_of self.old who) prefix ≤ places_of self.old who }
-        requires tag { tag_cost (told_of self.old who) (present_of self.old who) entry ≤ new_tags_of self.old who }
+        requires tag { IfSome entry (λ e. e.tag.0 < tags_of_room self.old who) }
         ensures told { self.new.told ≡ self.old.told }
         ensures present { self.new.present ≡ offered self.old who prefix entry }
         ensures places { places_of self.old who ≤ places_of self.new who + place_cost (told_of self.old who) (present_of self.old who) prefix }
-        ensures tags { new_tags_of self.old who ≤ new_tags_of self.new who + tag_cost (told_of self.old who) (present_of self.old who) entry }
+        ensures tags { self.new.tags ≡ self.old.tags }
         ensures other_places { (other : AnyPid) → ¬ other.0 ≡ who.0 → places_of self.new other ≡ places_of self.old other }
-        ensures other_tags { (other : AnyPid) → ¬ other.0 ≡ who.0 → new_tags_of self.new other ≡ new_tags_of self.old other }
     {
         self.sessions[who.0 as usize].offer(prefix, entry);
     }

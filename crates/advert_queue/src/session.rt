@@ -7,7 +7,7 @@ ghost use Rattle.events.specs.Pending.{with_news};
 ghost use Rattle.events.specs.Tags.{tells};
 ghost use Rattle.net_types.specs.Routes.{longest_of};
 ghost use Rattle.net_types.specs.declared.prefix.Prefix.{Prefix as AnyPrefix};
-ghost use Rattle.advert_queue.specs.Advertised.{first_pending, place_cost, tag_cost};
+ghost use Rattle.advert_queue.specs.Advertised.{first_pending, place_cost};
 ghost use Rattle.advert_queue.specs.Taken.{gone_tags, news_of, told_then};
 ghost use Rattle.advert_queue.specs.Telling.{adverts, is_pending, tags_of};
 
@@ -33,8 +33,6 @@ pub(crate) struct Session {
     counts: Counts,
     // for how many offers of prefixes at which nothing is pending there is room
     places: usize,
-    // for how many offers of tags that are neither told nor present there is room
-    tags: usize,
 }
 
 impl Model for Session {
@@ -47,9 +45,9 @@ impl Model for Session {
 
     ghost coded = { Prim.hlevel (codes, map.code) };
 
-    ghost view = { λ a. record { told = a.told.map; present = changed a.told.map a.news.items; places = a.places; tags = a.tags } };
+    ghost view = { λ a. record { told = a.told.map; present = changed a.told.map a.news.items; places = a.places; tags = a.counts.room } };
 
-    ghost invariant = { λ a. IsKept a.told a.news a.counts a.places a.tags };
+    ghost invariant = { λ a. IsKept a.told a.news a.counts a.places };
 }
 
 impl Session {
@@ -65,7 +63,6 @@ impl Session {
             news: News::new(alloc),
             counts: Counts::new(alloc),
             places: 0,
-            tags: 0,
         }
     }
 
@@ -91,7 +88,7 @@ impl Session {
         Ok(())
     }
 
-    /// Makes room for offers of so many tags that are neither told nor present, and changes nothing else.
+    /// Makes room for offers of each tag below this number, and changes nothing else.
     fn reserve_tags(&mut self, tags: usize) -> Result<(), Memory>
         ensures told { self.new.told ≡ self.old.told }
         ensures present { self.new.present ≡ self.old.present }
@@ -100,16 +97,12 @@ impl Session {
         ensures kept { self.old.tags ≤ self.new.tags }
         ensures enough { tags ≤ self.old.tags → IsOk result }
     {
-        if tags <= self.tags {
-            return Ok(());
-        }
         self.counts.reserve(tags)?;
-        self.tags = tags;
         Ok(())
     }
 
-    /// Makes room for offers of so many prefixes at which nothing is pending, and of so many tags that are neither told nor
-    /// present. It takes memory only where there is less.
+    /// Makes room for offers of so many prefixes at which nothing is pending, and of each tag below this number. It takes memory
+    /// only where there is less.
     pub(crate) fn reserve(&mut self, places: usize, tags: usize) -> Result<(), Memory>
         ensures told { self.new.told ≡ self.old.told }
         ensures present { self.new.present ≡ self.old.present }
@@ -123,21 +116,20 @@ impl Session {
         self.reserve_tags(tags)
     }
 
-    /// Makes this entry present at a prefix, or none. It uses a place of the room only where nothing is pending at the prefix,
-    /// and one of a tag only where the entry's tag is neither told nor present.
+    /// Makes this entry present at a prefix, or none. It uses a place of the room only where nothing is pending at the prefix.
     pub(crate) fn offer(&mut self, prefix: Prefix, entry: Option<Entry>)
         requires place { place_cost self.old.told self.old.present prefix ≤ self.old.places }
-        requires tag { tag_cost self.old.told self.old.present entry ≤ self.old.tags }
+        requires tag { IfSome entry (λ e. e.tag.0 < self.old.tags) }
         ensures told { self.new.told ≡ self.old.told }
         ensures present { self.new.present ≡ with_news self.old.present prefix entry }
         ensures places { self.old.places ≤ self.new.places + place_cost self.old.told self.old.present prefix }
-        ensures tags { self.old.tags ≡ self.new.tags + tag_cost self.old.told self.old.present entry }
+        ensures tags { self.new.tags ≡ self.old.tags }
     {
         let after = tag_of(entry.as_ref());
         let pending = self.news.len();
         let before = note(&self.told, &mut self.news, prefix, entry);
         self.places -= self.news.len().saturating_sub(pending);
-        self.tags -= move_use(&mut self.counts, Side::Present, before, after);
+        move_use(&mut self.counts, Side::Present, before, after);
     }
 
     /// Whether something is pending at a prefix.

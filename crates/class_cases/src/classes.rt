@@ -12,7 +12,7 @@ use prefix_classes::{ClassMap, Grouping, Moves, new_ones_are_few};
 use std::alloc::Global;
 use std::sync::ledger::Ledger;
 
-/// Room for so many new prefixes and tags.
+/// Room for so many new prefixes, and for each tag below a number.
 pub fn reserve(alloc: Global, classes: &mut ClassMap, text: &str) -> Result<String, Wrong> {
     let (prefixes, rest) = first_number(text)?;
     classes.reserve(prefixes as usize, number(rest)? as usize)?;
@@ -29,7 +29,7 @@ fn give_tag(
     if classes.sig_of(tag).is_some() {
         return Err(Wrong::Row);
     }
-    classes.reserve(members.len(), 1)?;
+    classes.reserve(members.len(), tag.0 as usize + 1)?;
     new_ones_are_few();
     classes.give(tag, signature, members);
     Ok(())

@@ -31,7 +31,7 @@ fn who<'t>(adverts: &Adverts, text: &'t str) -> Result<(Pid, &'t str), Wrong>
     }
 }
 
-/// Room for so many offers to a participant.
+/// Room for so many offers to a participant, and for those of each tag below the same number.
 pub fn reserve(alloc: Global, adverts: &mut Adverts, text: &str) -> Result<String, Wrong> {
     let (who, rest) = who(adverts, text)?;
     let offers = number(rest)? as usize;
@@ -72,13 +72,23 @@ fn entry(alloc: Global, text: &str) -> Result<Option<Entry>, Wrong> {
     Ok(Some(Entry { attrs, tag }))
 }
 
+/// A number above that of an entry's tag.
+fn tags_for(entry: Option<&Entry>) -> usize
+    ensures { IfSome entry (λ e. e.now.tag.0 < result) }
+{
+    match entry {
+        None => 0,
+        Some(entry) => entry.tag.0 as usize + 1,
+    }
+}
+
 /// Makes an entry present for a participant at a prefix, or none.
 pub fn offer(alloc: Global, adverts: &mut Adverts, text: &str) -> Result<String, Wrong> {
     let (who, rest) = who(adverts, text)?;
     let (word, rest) = first_word(rest);
     let entry = entry(alloc, rest)?;
     let prefix = prefix(word)?;
-    adverts.reserve(who, 1, 1)?;
+    adverts.reserve(who, 1, tags_for(entry.as_ref()))?;
     adverts.offer(who, prefix, entry);
     Ok(String::from_str(alloc, "ok")?)
 }

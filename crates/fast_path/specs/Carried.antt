@@ -8,7 +8,7 @@ use Rattle.events.specs.declared.Head.TheVariants.{Fine}
 use Rattle.events.specs.declared.Reply.{Reply}
 use Rattle.exchange_laws.specs.Editing.{IsBase, IsEdit}
 use Rattle.exchange_laws.specs.Rules.{IsDeclaredAlike}
-use Rattle.fast_path.specs.Committing.{CanCommit, kept_with, kept_without, marked_all, signed, tags_of, tags_with, with_blocks}
+use Rattle.fast_path.specs.Committing.{CanCommit, HaveTagsBelow, kept_with, kept_without, marked_all, signed, tags_of, tags_with, with_blocks}
 use Rattle.fast_path.specs.Grouping.{known_by}
 use Rattle.fast_path.specs.Offers.{AreTo, HaveRoom, all_present, offered_all}
 use Rattle.fast_path.specs.Planned.{IsPoolOf}
@@ -41,7 +41,7 @@ pub record ArePartsOf (s : State) (plan : Plan) (classes : Classes) (p : Tags) (
 -- the classes, the table and the adverts have room for all that the plan puts in and offers
 pub record HasRoomFor (plan : Plan) (classes : Classes) (switch : Installed) (adverts : Advertised) : Type 0 where
   pub prefixes : length plan.tags ≤ classes.prefixes
-  pub tags : length plan.fresh.items ≤ classes.tags
+  pub tags : HaveTagsBelow classes.tags plan.fresh.items
   pub pairs : length plan.blocks.items ≤ switch.room
   pub offers : HaveRoom adverts plan.offers.items
 

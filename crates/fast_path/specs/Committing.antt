@@ -1,5 +1,5 @@
 -- What committing a plan does to the classes, the pool and the table.
-use Rattle.std.specs.Prelude.{◌≡◌, ℕ, ◌≤◌, ◌+◌, Bool, true, false, List, [], ◌∷◌, length, map, Option, Some, None, is_some, IfSome, sum_by, if◌then◌else◌}
+use Rattle.std.specs.Prelude.{◌≡◌, ℕ, ◌≤◌, ◌<◌, ◌+◌, Bool, true, false, List, [], ◌∷◌, length, map, Option, Some, None, is_some, IfSome, sum_by, if◌then◌else◌}
 use Rattle.std.specs.FinMap.{FinMap, get, insert, remove}
 use Rattle.net_types.specs.Attributes.{same_option}
 use Rattle.net_types.specs.Keys.{pair_cmp, prefix_cmp, tag_cmp}
@@ -54,6 +54,10 @@ classes_of cs ks = map (class_of cs) ks
 -- the tags with the signatures alone
 abbrev pub signed : List Class → List Kept
 signed cs = map (λ (c : Class). let k : Kept = (c.tag, c.sig) in k) cs
+
+-- the tags have numbers below this one
+abbrev pub HaveTagsBelow : ℕ → List Class → Type 0
+HaveTagsBelow n cs = (c : Class) → Member c cs → c.tag.0 < n
 
 -- how many members there are in all
 abbrev pub member_count : List Class → ℕ
@@ -148,7 +152,7 @@ block_count bs = sum_by (λ (b : Block). length b.1) bs
 -- and for all that is offered.
 pub record CanCommit (plan : Plan) (classes : Classes) (pool : Tags) (switch : Installed) (adverts : Advertised) : Type 0 where
   pub unkept : AreUnkept (known_by plan.named classes).kept (signed plan.fresh.items)
-  pub tags_room : length plan.fresh.items ≤ classes.tags
+  pub tags_room : HaveTagsBelow classes.tags plan.fresh.items
   pub rising : AreRising (map change_of plan.tags)
   pub fresh : HaveTags (tags_of (signed plan.fresh.items)) plan.tags
   pub members : plan.fresh.items ≡ classes_of plan.tags (signed plan.fresh.items)

@@ -28,13 +28,3 @@ greater greatest who p = if is_above greatest who p then Some (who, p) else grea
 -- a place, but where something is pending at the prefix and no offer before can have changed that
 abbrev pub place_for : Present → Present → Option (Pid × Prefix) → Advert → ℕ
 place_for told all greatest o = if is_above greatest o.who o.prefix && is_pending (present_to told o.who) (present_to all o.who) o.prefix then 0 else 1
-
--- an offer's participant with the tag that is offered, where there is one
-abbrev pub tag_to : Advert → Option (Pid × Tag)
-tag_to o = option_map (λ (e : Entry). let at : Pid × Tag = (o.who, e.tag) in at) o.entry
-
--- a tag, but where it was offered to the same participant just before
-abbrev pub tag_for : Option (Pid × Tag) → Option (Pid × Tag) → ℕ
-tag_for before None = 0
-tag_for None (Some now) = 1
-tag_for (Some before) (Some now) = if nat_eq before.0.0 now.0.0 && nat_eq before.1.0 now.1.0 then 0 else 1

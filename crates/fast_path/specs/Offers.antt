@@ -1,8 +1,8 @@
 -- What becomes present of prefixes, and offering it (this exchange's own rule).
-use Rattle.std.specs.Prelude.{◌≡◌, ◌⊎◌, ℕ, ◌+◌, ◌<◌, ◌≤◌, nat_eq, not, List, [], ◌∷◌, length, map, filter, slice_get, slice_set, unwrap_or, Option, if◌then◌else◌}
+use Rattle.std.specs.Prelude.{◌≡◌, ◌⊎◌, ℕ, ◌+◌, ◌<◌, ◌≤◌, nat_eq, not, List, [], ◌∷◌, length, map, filter, slice_get, slice_set, unwrap_or, Option, IfSome, if◌then◌else◌}
 use Rattle.std.specs.FinMap.{FinMap, empty, get}
 use Rattle.std.specs.Option.{option_and_then, option_map}
-use Rattle.advert_queue.specs.Advertised.{Advertised, place_cost, tag_cost}
+use Rattle.advert_queue.specs.Advertised.{Advertised, place_cost}
 use Rattle.events.specs.Pending.{with_news}
 use Rattle.events.specs.State.{State, present}
 use Rattle.events.specs.Tags.{same_tag}
@@ -64,19 +64,19 @@ offered_all all (o ∷ os) = offered_all (offered all o) os
 abbrev pub place_taken : Present → Present → Advert → ℕ
 place_taken told all o = place_cost (present_to told o.who) (present_to all o.who) o.prefix
 
--- how many new tags it has
-abbrev pub tag_taken : Present → Present → Advert → ℕ
-tag_taken told all o = tag_cost (present_to told o.who) (present_to all o.who) o.entry
-
 -- what the offers to a participant take, each by what is present when its turn comes
 abbrev pub all_taken : (Present → Advert → ℕ) → Present → List Advert → ℕ → ℕ
 all_taken taken all [] n = 0
 all_taken taken all (o ∷ os) n = (if nat_eq o.who.0 n then taken all o else 0) + all_taken taken (offered all o) os n
 
+-- the tags that are offered have numbers below this one
+abbrev pub AreBelow : ℕ → List Advert → Type 0
+AreBelow n os = (o : Advert) → Member o os → IfSome o.entry (λ (e : Entry). e.tag.0 < n)
+
 -- each participant has room for what is offered to it
 pub record HaveRoom (a : Advertised) (os : List Advert) : Type 0 where
   pub places : (n : ℕ) → n < length a.told → all_taken (place_taken a.told) a.present os n ≤ unwrap_or (slice_get a.places n) 0
-  pub tags : (n : ℕ) → n < length a.told → all_taken (tag_taken a.told) a.present os n ≤ unwrap_or (slice_get a.tags n) 0
+  pub tags : (n : ℕ) → n < length a.told → AreBelow (unwrap_or (slice_get a.tags n) 0) os
 
 -- each is offered to one of so many participants
 abbrev pub AreTo : ℕ → List Advert → Type 0

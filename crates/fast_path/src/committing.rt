@@ -2,7 +2,7 @@
 
 ghost use Rattle.std.specs.Prelude.{◌≡◌, ◌≤◌, length, true, false, OnOk};
 ghost use Rattle.events.specs.After.{without_pairs};
-ghost use Rattle.fast_path.specs.Committing.{CanCommit, kept_with, kept_without, marked_all, signed, tags_of, tags_with, with_blocks};
+ghost use Rattle.fast_path.specs.Committing.{CanCommit, HaveTagsBelow, kept_with, kept_without, marked_all, signed, tags_of, tags_with, with_blocks};
 ghost use Rattle.fast_path.specs.Grouping.{known_by};
 ghost use Rattle.fast_path.specs.Offers.{AreTo, HaveRoom, offered_all};
 
@@ -10,7 +10,7 @@ use crate::offering::{offer_all, reserve_all};
 use crate::parts::{
     forget_all, give_all, give_members, put_all, remove_all, take_all, trim_named, untag_all,
 };
-use crate::planned::{Changes, Plan};
+use crate::planned::{Changes, Class, Plan};
 use advert_queue::Adverts;
 use block_build::Blocks;
 use net_types::Memory;
@@ -18,6 +18,17 @@ use next_hop_pool::Pool;
 use prefix_classes::ClassMap;
 use registry::Registry;
 use std::alloc::Global;
+
+/// A number above those of all fresh tags.
+fn above_all(fresh: &[Class]) -> usize
+    ensures { HaveTagsBelow result fresh.now }
+{
+    let mut most = 0;
+    for class in fresh {
+        most = most.max(class.tag.0 as usize + 1);
+    }
+    most
+}
 
 /// Makes room for what a plan puts into the classes and offers to the participants, and changes nothing else. The rules need
 /// room in the table besides, for as many new pairs as the plan has blocks.
@@ -35,10 +46,10 @@ pub fn reserve(
     ensures told { adverts.new.told ≡ adverts.old.told }
     ensures present { adverts.new.present ≡ adverts.old.present }
     ensures prefixes { OnOk result (length plan.now.tags ≤ classes.new.prefixes) }
-    ensures tags { OnOk result (length plan.now.fresh.items ≤ classes.new.tags) }
+    ensures tags { OnOk result (HaveTagsBelow classes.new.tags plan.now.fresh.items) }
     ensures offers { OnOk result (HaveRoom adverts.new plan.now.offers.items) }
 {
-    classes.reserve(plan.tags.len(), plan.fresh.len())?;
+    classes.reserve(plan.tags.len(), above_all(&plan.fresh))?;
     reserve_all(alloc, names, adverts, &plan.offers)
 }
 

@@ -2,8 +2,8 @@
 
 ghost use Rattle.std.specs.Prelude.{◌≡◌, ℕ, ◌≤◌, ◌<◌, ◌++◌, ◌∷◌, [], length, option_copied, slice_index, IfOk, OnOk};
 ghost use Rattle.advert_queue.specs.Advertised.{HasQueue};
-ghost use Rattle.fast_path.specs.Offers.{AreTo, HaveRoom, Present, advert_of, adverts_of, adverts_to, best_at, declared_pids, all_taken, entry_of, offered_all, place_taken, tag_taken};
-ghost use Rattle.fast_path.specs.Demands.{greater, is_above, place_for, tag_for, tag_to};
+ghost use Rattle.fast_path.specs.Offers.{AreTo, HaveRoom, Present, advert_of, adverts_of, adverts_to, best_at, declared_pids, AreBelow, all_taken, entry_of, offered_all, place_taken};
+ghost use Rattle.fast_path.specs.Demands.{greater, is_above, place_for};
 
 use crate::planned::Advert;
 use advert_queue::Adverts;
@@ -171,48 +171,17 @@ fn places_for(alloc: Global, adverts: &Adverts, offers: &[Advert]) -> Result<Vec
     }
 }
 
-/// An offer's participant with the tag that is offered, where there is one.
-fn tag_to(offer: &Advert) -> Option<(Pid, Tag)>
-    ensures { result ≡ tag_to offer.now }
+/// A number above those of all tags that are offered.
+fn above_all(offers: &[Advert]) -> usize
+    ensures { AreBelow result offers.now }
 {
-    match &offer.entry {
-        None => None,
-        Some(entry) => Some((offer.who, entry.tag)),
-    }
-}
-
-/// How many new tags an offer may have: none where the same tag was offered to the same participant just before, so that it is
-/// present.
-fn tag_for(before: Option<(Pid, Tag)>, now: Option<(Pid, Tag)>) -> usize
-    ensures { result ≡ tag_for before now }
-{
-    match (before, now) {
-        (_, None) => 0,
-        (None, Some(_)) => 1,
-        (Some((other, before)), Some((who, tag))) => {
-            if other.0 == who.0 && before.0 == tag.0 {
-                0
-            } else {
-                1
-            }
+    let mut most = 0;
+    for offer in offers {
+        if let Some(entry) = &offer.entry {
+            most = most.max(entry.tag.0 as usize + 1);
         }
     }
-}
-
-/// How many new tags offers may have for each participant, at most.
-fn tags_for(alloc: Global, participants: usize, offers: &[Advert]) -> Result<Vec<usize>, Memory>
-    requires { AreTo participants offers.now }
-    ensures length { IfOk result (λ tags. length tags.items ≡ participants) }
-    ensures tags { IfOk result (λ tags. (told present : Present) → length present ≡ participants → (n : ℕ) → all_taken (tag_taken told) present offers.now n ≤ slice_index tags.items n) }
-{
-    let mut tags = Vec::from_elem(alloc, 0, participants)?;
-    let mut before = None;
-    for offer in offers {
-        let now = tag_to(offer);
-        tags[offer.who.0 as usize] += tag_for(before, now);
-        before = now;
-    }
-    Ok(tags)
+    most
 }
 
 /// Makes room for offers to those that are declared, and changes nothing else.
@@ -229,10 +198,10 @@ pub fn reserve_all(
     ensures room { OnOk result (HaveRoom adverts.new offers.now) }
 {
     let places = places_for(alloc, adverts, offers)?;
-    let tags = tags_for(alloc, adverts.len(), offers)?;
+    let tags = above_all(offers);
     for number in 0..names.participants().len() as u32 {
         let at = number as usize;
-        adverts.reserve(Pid(number), places[at], tags[at])?;
+        adverts.reserve(Pid(number), places[at], tags)?;
     }
     Ok(())
 }

@@ -3,7 +3,7 @@
 ghost use Rattle.std.specs.Prelude.{◌≡◌, ◌≤◌, ◌+◌, length, true, false};
 ghost use Rattle.events.specs.After.{without_pairs};
 ghost use Rattle.block_build.specs.Installed.{rule_count};
-ghost use Rattle.fast_path.specs.Committing.{AreFree, AreTaken, AreUnkept, AreUnused, block_count, given_all, kept_with, kept_without, marked_all, member_count, signed, tags_of, untagged, untagged_one, with_blocks};
+ghost use Rattle.fast_path.specs.Committing.{AreFree, AreTaken, AreUnkept, AreUnused, HaveTagsBelow, block_count, given_all, kept_with, kept_without, marked_all, member_count, signed, tags_of, untagged, untagged_one, with_blocks};
 ghost use Rattle.fast_path.specs.Grouping.{known_by};
 
 use crate::planned::Class;
@@ -28,7 +28,7 @@ pub fn trim_named(classes: &mut ClassMap, named: Option<(Pid, Pids)>)
 /// Keeps each fresh tag with its signature, and gives it to its members.
 pub fn give_members(classes: &mut ClassMap, fresh: Vec<Class>)
     requires new { AreUnkept classes.old.kept (signed fresh.items) }
-    requires tags { length fresh.items ≤ classes.old.tags }
+    requires tags { HaveTagsBelow classes.old.tags fresh.items }
     requires prefixes { member_count fresh.items ≤ classes.old.prefixes }
     ensures tag { classes.new.tag ≡ given_all classes.old.tag fresh.items }
     ensures kept { classes.new.kept ≡ kept_with classes.old.kept (signed fresh.items) }

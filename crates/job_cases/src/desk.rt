@@ -50,7 +50,7 @@ fn give_tag(classes: &mut ClassMap, tag: Tag, sig: Sig, members: &[Prefix]) -> R
     if classes.sig_of(tag).is_some() {
         return Err(Wrong::Row);
     }
-    classes.reserve(members.len(), 1)?;
+    classes.reserve(members.len(), tag.0 as usize + 1)?;
     new_ones_are_few();
     classes.give(tag, sig, members);
     Ok(())

@@ -14,18 +14,18 @@ use crate::moves::{Moves, moves_by};
 use crate::next::{all_used, first_used};
 use crate::trimming::trim_all;
 use net_types::{Memory, Pid, Prefix, Sig, Tag};
-use ordered_map::OrderedMap;
 use prefix_map::PrefixMap;
 use std::alloc::Global;
 use std::marker::Model;
+use tag_table::TagTable;
 
 /// The tag of each prefix that has one, and the signature of each tag that is kept. The prefixes of a tag are its
-/// members. Beside this there is room for a number of new prefixes and of new tags.
+/// members. Beside this there is room for a number of new prefixes, and for each tag below a number.
 #[derive(Drop)]
 pub struct ClassMap {
     alloc: Global,
     tags: PrefixMap<Tag>,
-    kept: OrderedMap<Tag, Kept>,
+    kept: TagTable<Kept>,
 }
 
 impl Model for ClassMap {
@@ -52,11 +52,12 @@ impl ClassMap {
         ClassMap {
             alloc,
             tags: PrefixMap::new(alloc),
-            kept: OrderedMap::new(alloc),
+            kept: TagTable::new(alloc),
         }
     }
 
-    /// Makes room for so many new prefixes and tags. It takes memory only where there is less.
+    /// Makes room for so many new prefixes, and for each tag below a number. It takes memory only where there is less: for the
+    /// tags a table with a place for each of them.
     pub fn reserve(&mut self, prefixes: usize, tags: usize) -> Result<(), Memory>
         ensures tag { self.new.tag ≡ self.old.tag }
         ensures kept { self.new.kept ≡ self.old.kept }
@@ -83,7 +84,7 @@ impl ClassMap {
     pub fn sig_of(&self, tag: Tag) -> Option<&Sig>
         ensures { option_copied result ≡ map.get self.now.kept tag }
     {
-        match self.kept.get(&tag) {
+        match self.kept.get(tag) {
             Some(kept) => Some(&kept.sig),
             None => None,
         }
@@ -93,7 +94,7 @@ impl ClassMap {
     pub fn members(&self, tag: Tag) -> usize
         ensures { result ≡ members self.now.tag tag }
     {
-        match self.kept.get(&tag) {
+        match self.kept.get(tag) {
             Some(kept) => kept.members,
             None => 0,
         }
@@ -109,7 +110,7 @@ impl ClassMap {
         first_used(&self.kept, after)
     }
 
-    /// The tags that have members, ascending: all in one walk over the kept tags. Memory is the only refusal.
+    /// The tags that have members, ascending: all in one walk over the table of tags. Memory is the only refusal.
     pub fn used_tags(&self) -> Result<Vec<Tag>, Memory>
         ensures { IfOk result (λ tags. AreUsedTags self.now.tag tags.items) }
     {
@@ -134,11 +135,11 @@ impl ClassMap {
     /// there twice takes the room of one. Nothing else gives prefixes a tag. It takes no memory.
     pub fn give(&mut self, tag: Tag, sig: Sig, members: &[Prefix])
         requires new { map.get self.old.kept tag ≡ None }
-        requires tags { 0 < self.old.tags }
+        requires tags { tag.0 < self.old.tags }
         requires prefixes { new_ones self.old.tag members.now ≤ self.old.prefixes }
         ensures tag { self.new.tag ≡ given tag members.now self.old.tag }
         ensures kept { self.new.kept ≡ map.insert self.old.kept tag sig }
-        ensures tags { self.old.tags ≤ self.new.tags + 1 }
+        ensures tags { self.new.tags ≡ self.old.tags }
         ensures prefixes { self.old.prefixes ≤ self.new.prefixes + new_ones self.old.tag members.now }
     {
         self.keep(tag, sig);
@@ -160,25 +161,24 @@ impl ClassMap {
         }
     }
 
-    /// Forgets a tag without members, where it is kept. There is room for no fewer new tags than before.
+    /// Forgets a tag without members, where it is kept.
     pub fn forget(&mut self, tag: Tag)
         requires { members self.old.tag tag ≡ 0 }
         ensures tag { self.new.tag ≡ self.old.tag }
         ensures kept { self.new.kept ≡ map.remove self.old.kept tag }
         ensures prefixes { self.new.prefixes ≡ self.old.prefixes }
-        ensures tags { self.old.tags ≤ self.new.tags }
+        ensures tags { self.new.tags ≡ self.old.tags }
     {
-        self.kept.remove(&tag);
+        self.kept.remove(tag);
     }
 
-    /// Forgets tags without members, where they are kept: where they rise, in one walk. There is room for no fewer new tags
-    /// than before.
+    /// Forgets tags without members, where they are kept.
     pub fn forget_each(&mut self, tags: &[Tag])
         requires { HaveNoMembers self.old.tag tags.now }
         ensures tag { self.new.tag ≡ self.old.tag }
         ensures kept { self.new.kept ≡ forgotten self.old.kept tags.now }
         ensures prefixes { self.new.prefixes ≡ self.old.prefixes }
-        ensures tags { self.old.tags ≤ self.new.tags }
+        ensures tags { self.new.tags ≡ self.old.tags }
     {
         self.kept.remove_each(tags);
     }
@@ -223,7 +223,7 @@ impl ClassMap {
         requires { 0 < members self.now.tag tag }
         ensures { Some result.now ≡ map.get self.now.kept tag }
     {
-        match self.kept.get(&tag) {
+        match self.kept.get(tag) {
             Some(kept) => &kept.sig,
             None => unreachable!(),
         }
@@ -232,10 +232,10 @@ impl ClassMap {
     // Keeps a tag that no prefix has, with its signature.
     fn keep(&mut self, tag: Tag, sig: Sig)
         requires new { map.get self.old.kept tag ≡ None }
-        requires room { 0 < self.old.tags }
+        requires room { tag.0 < self.old.tags }
         ensures tag { self.new.tag ≡ self.old.tag }
         ensures kept { self.new.kept ≡ map.insert self.old.kept tag sig }
-        ensures tags { self.old.tags ≤ self.new.tags + 1 }
+        ensures tags { self.new.tags ≡ self.old.tags }
         ensures prefixes { self.new.prefixes ≡ self.old.prefixes }
     {
         self.kept.put(tag, Kept { sig, members: 0 });

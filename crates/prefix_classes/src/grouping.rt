@@ -14,6 +14,7 @@ use ordered_map::OrderedMap;
 use std::alloc::Global;
 use std::marker::Model;
 use std::sync::ledger::Ledger;
+use tag_table::TagTable;
 
 /// Signatures, each with the least of its tags.
 pub(crate) type Firsts = OrderedMap<SharedSig, Tag>;
@@ -22,7 +23,7 @@ pub(crate) type Firsts = OrderedMap<SharedSig, Tag>;
 #[derive(Drop)]
 pub struct Grouping {
     alloc: Global,
-    tags: OrderedMap<Tag, SharedSig>,
+    tags: TagTable<SharedSig>,
     /// The signature that was placed last, which the next tag often has too.
     last: Option<SharedSig>,
 }
@@ -51,7 +52,7 @@ impl Grouping {
     {
         Grouping {
             alloc,
-            tags: OrderedMap::new(alloc),
+            tags: TagTable::new(alloc),
             last: None,
         }
     }
@@ -60,7 +61,7 @@ impl Grouping {
     pub fn has(&self, tag: Tag) -> bool
         ensures { result ≡ is_some (map.get self.now tag) }
     {
-        self.tags.get(&tag).is_some()
+        self.tags.get(tag).is_some()
     }
 
     /// How many tags are placed.
@@ -93,7 +94,7 @@ impl Grouping {
     pub fn take_out(&mut self, tag: Tag)
         ensures { self.new ≡ map.remove self.old tag }
     {
-        self.tags.remove(&tag);
+        self.tags.remove(tag);
     }
 
     /// The least tag of each signature.
@@ -109,7 +110,7 @@ impl Grouping {
         requires firsts { AreFirsts (map.entries self.now) firsts.now.items }
         ensures { IsLeastBeside self.now tag result }
     {
-        match self.tags.get(&tag) {
+        match self.tags.get(tag) {
             Some(sig) => first_of(firsts, sig),
             None => unreachable!(),
         }
@@ -135,20 +136,20 @@ impl Grouping {
         ensures placed { OnOk result (self.new ≡ map.insert self.old tag sig) }
         ensures unchanged { OnErr result (self.new ≡ self.old) }
     {
-        self.tags.reserve(1)?;
+        self.tags.reserve(tag.0 as usize + 1)?;
         self.tags.put(tag, sig);
         Ok(())
     }
 }
 
 /// The first of the tags of each signature.
-fn firsts_of(alloc: Global, tags: &OrderedMap<Tag, SharedSig>) -> Result<Firsts, Memory>
+fn firsts_of(alloc: Global, tags: &TagTable<SharedSig>) -> Result<Firsts, Memory>
     ensures { IfOk result (λ firsts. AreFirsts tags.now.items firsts.items) }
 {
     let mut firsts = Firsts::new(alloc);
     for (tag, sig) in tags.iter() {
         if firsts.get(sig).is_none() {
-            firsts.insert(sig.share()?, *tag)?;
+            firsts.insert(sig.share()?, tag)?;
         }
     }
     Ok(firsts)

@@ -8,7 +8,8 @@ ghost use Rattle.prefix_classes.specs.Counts.{counted, IsRecounted};
 ghost use Rattle.prefix_classes.specs.Recounted.{recounted};
 
 use net_types::{Sig, Tag};
-use ordered_map::{Change, OrderedMap};
+use ordered_map::Change;
+use tag_table::TagTable;
 
 #[derive(Drop)]
 pub(crate) struct Kept {
@@ -35,28 +36,28 @@ impl Change<Kept> for Recount {
 }
 
 /// Counts one member more.
-pub(crate) fn raise(kept: &mut OrderedMap<Tag, Kept>, tag: Tag)
+pub(crate) fn raise(kept: &mut TagTable<Kept>, tag: Tag)
     requires rising { IsTrue (is_sorted tag_cmp kept.old.items) }
     requires there { IsTrue (is_some (find tag_cmp tag kept.old.items)) }
     requires small { counted kept.old.items tag + 1 < 2 ^ 64 }
     ensures counts { IsRecounted kept.old.items kept.new.items None (Some tag) }
     ensures room { kept.new.room ≡ kept.old.room }
 {
-    kept.change(&tag, &Recount::More);
+    kept.change(tag, &Recount::More);
 }
 
 /// Counts one member less.
-pub(crate) fn lower(kept: &mut OrderedMap<Tag, Kept>, tag: Tag)
+pub(crate) fn lower(kept: &mut TagTable<Kept>, tag: Tag)
     requires rising { IsTrue (is_sorted tag_cmp kept.old.items) }
     requires some { 0 < counted kept.old.items tag }
     ensures counts { IsRecounted kept.old.items kept.new.items (Some tag) None }
     ensures room { kept.new.room ≡ kept.old.room }
 {
-    kept.change(&tag, &Recount::Less);
+    kept.change(tag, &Recount::Less);
 }
 
 /// Counts a member of one tag as one of another, or of the same.
-pub(crate) fn move_member(kept: &mut OrderedMap<Tag, Kept>, from: Tag, to: Tag)
+pub(crate) fn move_member(kept: &mut TagTable<Kept>, from: Tag, to: Tag)
     requires rising { IsTrue (is_sorted tag_cmp kept.old.items) }
     requires some { 0 < counted kept.old.items from }
     requires there { IsTrue (is_some (find tag_cmp to kept.old.items)) }

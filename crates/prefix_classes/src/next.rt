@@ -6,40 +6,39 @@ ghost use Rattle.prefix_classes.specs.Counts.{has_members, is_above, tag_of, use
 
 use crate::members::Kept;
 use net_types::{Memory, Tag};
-use ordered_map::{Iter, OrderedMap};
 use std::alloc::Global;
+use tag_table::{Iter, TagTable};
 
 /// The first tag with members, of all or of the greater ones.
-pub(crate) fn first_used(kept: &OrderedMap<Tag, Kept>, after: Option<Tag>) -> Option<Tag>
+pub(crate) fn first_used(kept: &TagTable<Kept>, after: Option<Tag>) -> Option<Tag>
     ensures { result ≡ option_map tag_of (find has_members (filter (is_above after) kept.now.items)) }
 {
     match after {
         None => first_with_members(kept.iter()),
-        Some(tag) => first_with_members(kept.iter_after(&tag)),
+        Some(tag) => first_with_members(kept.iter_after(tag)),
     }
 }
 
 /// The tag of the first entry with members.
-fn first_with_members(entries: Iter<'_, Tag, Kept>) -> Option<Tag>
+fn first_with_members(entries: Iter<'_, Kept>) -> Option<Tag>
     ensures { result ≡ option_map tag_of (find has_members entries.entry) }
 {
     for (tag, kept) in entries {
         if kept.members > 0 {
-            return Some(*tag);
+            return Some(tag);
         }
     }
     None
 }
 
 /// The tags with members, in their order.
-pub(crate) fn all_used(alloc: Global, kept: &OrderedMap<Tag, Kept>) -> Result<Vec<Tag>, Memory>
+pub(crate) fn all_used(alloc: Global, kept: &TagTable<Kept>) -> Result<Vec<Tag>, Memory>
     ensures { IfOk result (λ tags. tags.items ≡ used_in kept.now.items) }
 {
-    let entries = kept.first_entries(kept.len())?;
-    let mut tags = Vec::new(alloc);
-    for (tag, held) in entries.as_slice() {
+    let mut tags = Vec::with_capacity(alloc, kept.len())?;
+    for (tag, held) in kept.iter() {
         if held.members > 0 {
-            tags.push(**tag)?;
+            tags.push(tag)?;
         }
     }
     Ok(tags)

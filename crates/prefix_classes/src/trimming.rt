@@ -8,9 +8,10 @@ ghost use Rattle.prefix_classes.specs.Trimmed.{trimmed_entry, trimmed_kept};
 
 use crate::members::Kept;
 use net_types::{Items, Part, Pid, Sig, Tag};
-use ordered_map::{Change, OrderedMap};
+use ordered_map::Change;
 use std::alloc::Global;
 use std::mem;
+use tag_table::TagTable;
 
 fn is_named(named: &[Pid], who: Pid) -> bool
     ensures { result ≡ list_any (λ (other : AnyPid). nat_eq other.0 who.0) named.now }
@@ -69,7 +70,7 @@ impl<'a> Change<Kept> for Trim<'a> {
 }
 
 /// Takes the sender's offers that don't count out of each signature.
-pub(crate) fn trim_all(alloc: Global, kept: &mut OrderedMap<Tag, Kept>, who: Pid, named: &[Pid])
+pub(crate) fn trim_all(alloc: Global, kept: &mut TagTable<Kept>, who: Pid, named: &[Pid])
     ensures items { kept.new.items ≡ map (trimmed_entry who named.now) kept.old.items }
     ensures room { kept.new.room ≡ kept.old.room }
 {

@@ -19,7 +19,7 @@ fn give(
     if classes.sig_of(tag).is_some() {
         return Ok(false);
     }
-    classes.reserve(members.len(), 1)?;
+    classes.reserve(members.len(), tag.0 as usize + 1)?;
     new_ones_are_few();
     classes.give(tag, Sig::new(alloc), members);
     Ok(true)
