@@ -1,6 +1,6 @@
 //! What participants are told.
 
-ghost use Rattle.std.specs.Prelude.{◌≡◌, ◌<◌, IfOk};
+ghost use Rattle.std.specs.Prelude.{◌≡◌, ◌<◌, IfOk, IfSome};
 ghost use Rattle.advert_queue.specs.Advertised.{HasQueue};
 
 use crate::words::{first_number, first_word, number, prefix, push_prefix};
