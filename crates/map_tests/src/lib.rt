@@ -11,3 +11,5 @@ mod large;
 mod leaving;
 #[cfg(test)]
 mod prefixes;
+#[cfg(test)]
+mod table;
