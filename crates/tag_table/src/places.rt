@@ -75,11 +75,40 @@ pub(crate) fn change_at<V, C: Change<V>>(places: &mut Vec<Option<V>>, place: usi
 pub(crate) fn change_all<V, C: Change<V>>(places: &mut Vec<Option<V>>, change: &C)
     ensures { places.new.items ≡ map (option_map (C.changed change.now)) places.old.items }
 {
-    let mut place = 0;
-    while place < places.len() {
+    for place in 0..places.len() {
         change_at(places, place, change);
-        place += 1;
     }
+}
+
+/// Changes a value, and gives this one where there is none: that is answered.
+fn change_or_give<V: Drop, C: Change<V>>(held: &mut Option<V>, change: &C, value: V) -> bool
+    ensures value { held.new ≡ Some (unwrap_or (option_map (C.changed change.now) held.old) value) }
+    ensures given { result ≡ not (is_some held.old) }
+{
+    match held {
+        Some(known) => {
+            change.change(known);
+            false
+        }
+        None => {
+            *held = Some(value);
+            true
+        }
+    }
+}
+
+/// Changes the value of a place, and gives it this one where it has none: that is answered.
+pub(crate) fn change_or_put_at<V: Drop, C: Change<V>>(
+    places: &mut Vec<Option<V>>,
+    place: usize,
+    change: &C,
+    value: V,
+) -> bool
+    requires { place < length places.old.items }
+    ensures items { places.new.items ≡ slice_set places.old.items place (Some (unwrap_or (option_map (C.changed change.now) (value_in places.old.items place)) value)) }
+    ensures given { result ≡ not (is_some (value_in places.old.items place)) }
+{
+    change_or_give(&mut places[place], change, value)
 }
 
 /// Changes a value, where there is one, and lets it go where it has lapsed then: that is answered.
@@ -131,17 +160,17 @@ pub(crate) fn first_from<V>(places: &[Option<V>], number: u32) -> Option<First<'
     ensures few { IfSome result (λ r. r.number + 1 + length r.rest.now ≡ number + length places.now) }
     ensures none { IfNone result (entries_from number places.now ≡ []) }
 {
-    let mut number = number;
+    let mut place = number;
     let mut left = places;
     while let [held, rest @ ..] = left {
         if let Some(value) = held {
             return Some(First {
-                number,
+                number: place,
                 value,
                 rest,
             });
         }
-        number += 1;
+        place += 1;
         left = rest;
     }
     None

@@ -8,7 +8,9 @@ ghost use Rattle.ordered_map.specs.Lapsed.{changed_or_without};
 ghost use Rattle.ordered_map.specs.Entries.{without, without_each, above};
 
 use crate::iter::Iter;
-use crate::places::{change_all, change_at, change_or_take_at, fill, put_at, take_at, value_at};
+use crate::places::{
+    change_all, change_at, change_or_put_at, change_or_take_at, fill, put_at, take_at, value_at,
+};
 use net_types::Tag;
 use ordered_map::{Change, Lapse};
 use std::alloc::{AllocError, Global};
@@ -146,10 +148,8 @@ impl<V: Drop> TagTable<V> {
         ensures rising { IsTrue (is_sorted tag_cmp self.new.items) }
         ensures room { self.new.room ≡ self.old.room }
     {
-        if self.get(tag).is_some() {
-            self.change(tag, change);
-        } else {
-            self.put(tag, value);
+        if change_or_put_at(&mut self.places, tag.0 as usize, change, value) {
+            self.count += 1;
         }
     }
 
@@ -173,6 +173,7 @@ impl<V: Drop> TagTable<V> {
         ensures rising { IsTrue (is_sorted tag_cmp self.new.items) }
         ensures room { self.new.room ≡ self.old.room }
     {
+        let _ = &self.places;
         for tag in tags {
             self.remove(*tag);
         }
