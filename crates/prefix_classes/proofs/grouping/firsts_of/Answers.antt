@@ -13,16 +13,16 @@ loop-tag-init c = none_found c.args.tags.now.items _ _ (c.into_iter-tag-iterator
 
 pub loop-tag-preserved-in_ok-insert : goal.loop-tag-preserved-in_ok-insert
 loop-tag-preserved-in_ok-insert c =
-    let e : Tag × List Part = (c.in-Some.tag.now, c.in-Some.sig.now) in
+    let e : Tag × List Part = (c.in-Some.tag, c.in-Some.sig.now) in
     let so_far : AreFirstsSoFar c.args.tags.now.items (e ∷ c.next.new.self) c.loop-tag.firsts.items = subst (λ l. AreFirstsSoFar c.args.tags.now.items l c.loop-tag.firsts.items) c.in-Some.ensures.steps c.loop-tag.invariant in
     let missing : is_some (find sig_cmp c.in-Some.sig.now c.loop-tag.firsts.items) ≡ false = sym (ap is_some c.get.ensures) ∙ is_some-copied c.get.result ∙ c.is_none.ensures ∙ ap not c.if-is_none.true in
     subst (AreFirstsSoFar c.args.tags.now.items c.next.new.self)
-    (sym (c.in_ok-insert.ensures.items ∙ ap (λ s. put sig_cmp s c.in-Some.tag.now c.loop-tag.firsts.items) c.in_ok-share.ensures))
+    (sym (c.in_ok-insert.ensures.items ∙ ap (λ s. put sig_cmp s c.in-Some.tag c.loop-tag.firsts.items) c.in_ok-share.ensures))
     (found_now c.args.tags.now.items e c.next.new.self c.loop-tag.firsts.items so_far missing)
 
 pub loop-tag-preserved : goal.loop-tag-preserved
 loop-tag-preserved c =
-    let e : Tag × List Part = (c.in-Some.tag.now, c.in-Some.sig.now) in
+    let e : Tag × List Part = (c.in-Some.tag, c.in-Some.sig.now) in
     let so_far : AreFirstsSoFar c.args.tags.now.items (e ∷ c.next.new.self) c.loop-tag.firsts.items = subst (λ l. AreFirstsSoFar c.args.tags.now.items l c.loop-tag.firsts.items) c.in-Some.ensures.steps c.loop-tag.invariant in
     let found : is_some (find sig_cmp c.in-Some.sig.now c.loop-tag.firsts.items) ≡ true = sym (ap is_some c.get.ensures) ∙ is_some-copied c.get.result ∙ c.is_none.ensures ∙ ap not c.if-is_none.false in
     found_before c.args.tags.now.items e c.next.new.self c.loop-tag.firsts.items so_far found

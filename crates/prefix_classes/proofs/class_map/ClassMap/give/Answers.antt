@@ -19,5 +19,5 @@ loop-prefix-preserved c =
       c.loop-prefix.invariant.0 ∙ it.0,
       c.put.ensures.kept ∙ c.loop-prefix.invariant.1,
       (let before = c.loop-prefix.invariant.2 in let after = c.put.ensures.prefixes in omega (arith, before, after, it.1)),
-      (let before = c.loop-prefix.invariant.3 in let after = c.put.ensures.tags in omega (arith, before, after)),
+      c.put.ensures.tags ∙ c.loop-prefix.invariant.3,
     )

@@ -8,4 +8,4 @@ invariant-loop-prefix l =
     (given l.tag l.members l.fn.self.tag ≡ given l.tag (drop l.prefix-index l.members) l.self.tag)
     × (l.self.kept ≡ insert l.fn.self.kept l.tag l.fn.sig)
     × (l.fn.self.prefixes + new_ones l.self.tag (drop l.prefix-index l.members) ≤ l.self.prefixes + new_ones l.fn.self.tag l.members)
-    × (l.fn.self.tags ≤ l.self.tags + 1)
+    × (l.self.tags ≡ l.fn.self.tags)
