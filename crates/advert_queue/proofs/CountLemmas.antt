@@ -25,7 +25,7 @@ use Rattle.ordered_map.specs.Entries.{without}
 use Rattle.ordered_map.specs.Lapsed.{changed_or_without, lasting, with_value}
 use Rattle.advert_queue.proofs.RisingEntries.{without_first}
 use Rattle.advert_queue.specs.Changes.{Change, changed, tag_in}
-use Rattle.advert_queue.specs.Counts.{AreCounts, AreUsed, IsRecounted, by_side, counted, has_tag, is_tag, is_tag_of, new_places, number, other, total, uses, uses_in}
+use Rattle.advert_queue.specs.Counts.{AreCounts, AreUsed, IsRecounted, by_side, counted, has_tag, is_tag, is_tag_of, number, other, total, uses, uses_in}
 use Rattle.advert_queue.specs.Recounted.{is_unused, one_use, recounted}
 use Rattle.advert_queue.specs.declared.counts.Recount.TheVariants.{More, Less}
 use Rattle.advert_queue.specs.declared.counts.Side.{Side}
@@ -310,12 +310,12 @@ once_less_used side (Some u) v is = by (recounted (Less side) u) (is_unused (rec
 
 module _ (side : Side) (tag : Tag) (cs ds : List (Tag × Uses)) (used : AreUsed cs) where
   -- a tag, whether it has numbers or none
-  pub raised : is_sorted tag_cmp ds ≡ true → counted side cs tag + 1 < 2 ^ 64 → ds ≡ changed_or_put tag_cmp tag (recounted (More side)) (one_use side) cs → IsRecounted side cs ds None (Some tag)
-  raised rising small is =
+  pub raised : is_sorted tag_cmp ds ≡ true → counted side cs tag + 1 < 2 ^ 64 → (one : Uses) → one ≡ one_use side → ds ≡ changed_or_put tag_cmp tag (recounted (More side)) one cs → IsRecounted side cs ds None (Some tag)
+  raised rising small one once is =
       let more = once_more_number side (find tag_cmp tag cs) small in
       let itself = is_tag-itself tag in
       moved side tag (Some (once_more side (find tag_cmp tag cs))) cs ds None (Some tag) rising used
-      (now_put tag _ cs ds is)
+      (now_put tag _ cs ds (is ∙ ap (λ u. changed_or_put tag_cmp tag (recounted (More side)) u cs) once))
       (λ v e. is_used_number side _ v e (omega (arith, more)))
       (omega (arith, more, itself)) (once_more_other side (find tag_cmp tag cs))
       (λ v apart. sym (is_tag-apart v tag apart))
@@ -343,17 +343,6 @@ kept_found side cs tag some = by (find tag_cmp tag cs) refl
     by : (o : Option Uses) → find tag_cmp tag cs ≡ o → is_some o ≡ true
     by None is = absurd (kept_some side cs tag some is)
     by (Some u) is = refl
-
--- the places that a tag takes
-pub new_places-le : (cs : List (Tag × Uses)) (o : Option Tag) → new_places cs o ≤ 1
-new_places-le cs None = omega arith
-new_places-le cs (Some t) = elim (is_some (find tag_cmp t cs)) as (λ b. cond b 0 1 ≤ 1) [ true ↦ omega arith | false ↦ omega arith ]
-
-pub no_place : (cs : List (Tag × Uses)) (t : Tag) → is_some (find tag_cmp t cs) ≡ true → new_places cs (Some t) ≡ 0
-no_place cs t there = ap (λ b. let n : ℕ = cond b 0 1 in n) there
-
-pub one_place : (cs : List (Tag × Uses)) (t : Tag) → find tag_cmp t cs ≡ None → new_places cs (Some t) ≡ 1
-one_place cs t none = ap (λ o. let n : ℕ = cond (is_some o) 0 1 in n) none
 
 -- first a use more, and then one less
 pub both_steps : (side : Side) (cs ds es : List (Tag × Uses)) (before after : Option Tag) → IsRecounted side cs ds None after → IsRecounted side ds es before None → IsRecounted side cs es before after

@@ -1,6 +1,6 @@
 -- What the participants are seen as where one of them changes.
 use Rattle.std.proofs.Common.{◌≡◌, ℕ, zero, suc, ◌≤◌, ◌<◌, List, [], ◌∷◌, map, length, get_or, set, sym, ap, ◌∙◌, refl, arith}
-use Rattle.std.specs.Prelude.{Option, slice_get, slice_set, unwrap_or}
+use Rattle.std.specs.Prelude.{slice_get, slice_set, unwrap_or}
 use Rattle.std.specs.FinMap.{FinMap, empty}
 use Rattle.std.specs.Option.{option_map}
 use Rattle.std.proofs.lemmas.List.{length-map, map-set}
@@ -10,7 +10,7 @@ use Rattle.events.specs.declared.Entry.{Entry}
 use Rattle.net_types.specs.Keys.{prefix_cmp}
 use Rattle.net_types.specs.declared.address.Pid.{Pid}
 use Rattle.net_types.specs.declared.prefix.Prefix.{Prefix}
-use Rattle.advert_queue.specs.Advertised.{Advertised, HasQueue, new_tags_of, place_cost, places_of, present_of, tag_cost, told_of}
+use Rattle.advert_queue.specs.Advertised.{Advertised, HasQueue, place_cost, places_of, present_of, tags_of_room, told_of}
 use Rattle.advert_queue.specs.Kept.{Queued, advertised_by}
 
 -- what is seen at a place is what the record there is seen as
@@ -54,14 +54,11 @@ module _ (qs : List Queued) (who : Pid) (x : Queued) (within : who.0 < length qs
   pub places_here : places_of (advertised_by qs) who ≡ x.places
   places_here = seen_at (λ (q : Queued). q.places) qs who.0 x 0 within ∙ ap (λ (q : Queued). q.places) (sym is)
 
-  pub tags_here : new_tags_of (advertised_by qs) who ≡ x.tags
+  pub tags_here : tags_of_room (advertised_by qs) who ≡ x.tags
   tags_here = seen_at (λ (q : Queued). q.tags) qs who.0 x 0 within ∙ ap (λ (q : Queued). q.tags) (sym is)
 
   pub place_cost_here : (p : Prefix) → place_cost (told_of (advertised_by qs) who) (present_of (advertised_by qs) who) p ≡ place_cost x.told x.present p
   place_cost_here p = λ i. place_cost (told_here i) (present_here i) p
-
-  pub tag_cost_here : (entry : Option Entry) → tag_cost (told_of (advertised_by qs) who) (present_of (advertised_by qs) who) entry ≡ tag_cost x.told x.present entry
-  tag_cost_here entry = λ i. tag_cost (told_here i) (present_here i) entry
 
   module _ (y : Queued) where
     abbrev then : Advertised
@@ -88,17 +85,14 @@ module _ (qs : List Queued) (who : Pid) (x : Queued) (within : who.0 < length qs
     pub places_then : places_of then who ≡ y.places
     places_then = seen_here (λ (q : Queued). q.places) qs who.0 y 0 within
 
-    pub tags_then : new_tags_of then who ≡ y.tags
+    pub tags_then : tags_of_room then who ≡ y.tags
     tags_then = seen_here (λ (q : Queued). q.tags) qs who.0 y 0 within
 
     pub places_other : (other : Pid) → ¬ other.0 ≡ who.0 → places_of then other ≡ places_of (advertised_by qs) other
     places_other other apart = ap (λ o. unwrap_or o 0) (seen_elsewhere (λ (q : Queued). q.places) qs who.0 other.0 y apart)
 
-    pub tags_other : (other : Pid) → ¬ other.0 ≡ who.0 → new_tags_of then other ≡ new_tags_of (advertised_by qs) other
-    tags_other other apart = ap (λ o. unwrap_or o 0) (seen_elsewhere (λ (q : Queued). q.tags) qs who.0 other.0 y apart)
-
     pub places_grows : x.places ≤ y.places → (other : Pid) → places_of (advertised_by qs) other ≤ places_of then other
     places_grows more other = rooms_grow (λ (q : Queued). q.places) qs who.0 other.0 x y (let same = ap (λ (q : Queued). q.places) is in omega (arith, more, same))
 
-    pub tags_grows : x.tags ≤ y.tags → (other : Pid) → new_tags_of (advertised_by qs) other ≤ new_tags_of then other
+    pub tags_grows : x.tags ≤ y.tags → (other : Pid) → tags_of_room (advertised_by qs) other ≤ tags_of_room then other
     tags_grows more other = rooms_grow (λ (q : Queued). q.tags) qs who.0 other.0 x y (let same = ap (λ (q : Queued). q.tags) is in omega (arith, more, same))

@@ -9,17 +9,18 @@ use Rattle.events.specs.declared.Entry.{Entry}
 use Rattle.net_types.proofs.OrderLemmas.{prefixes_total}
 use Rattle.net_types.proofs.TieLemmas.{ties_itself}
 use Rattle.net_types.proofs.ValueLemmas.{no_entries}
-use Rattle.net_types.specs.Keys.{prefix_cmp}
+use Rattle.net_types.specs.Keys.{prefix_cmp, tag_cmp}
 use Rattle.net_types.specs.declared.address.Tag.{Tag}
 use Rattle.net_types.specs.declared.prefix.Prefix.{Prefix}
 use Rattle.ordered_map.specs.Held.{Held}
 use Rattle.prefix_map.specs.Held as prefixes
+use Rattle.tag_table.specs.Held as table
 use Rattle.advert_queue.proofs.ChangedMaps.{Told, get_change, news_left}
-use Rattle.advert_queue.proofs.CountLemmas.{found_either, is_tag-itself, kept_found, length_changed, length_with, no_place, none_counted, still_right, uses-le, uses_one, uses_with}
+use Rattle.advert_queue.proofs.CountLemmas.{is_tag-itself, kept_some, length_changed, length_with, none_counted, still_right, uses-le, uses_one, uses_with}
 use Rattle.advert_queue.proofs.TakenLemmas.{found_differs}
-use Rattle.advert_queue.specs.Advertised.{place_cost, tag_cost}
+use Rattle.advert_queue.specs.Advertised.{place_cost}
 use Rattle.advert_queue.specs.Changes.{AreNews, Change, changed, tag_in}
-use Rattle.advert_queue.specs.Counts.{AreCounts, IsRecounted, by_side, counted, has_tag, is_tag, new_places, uses}
+use Rattle.advert_queue.specs.Counts.{IsRecounted, by_side, counted, has_tag, is_tag, uses}
 use Rattle.advert_queue.specs.declared.counts.Side.{Side}
 use Rattle.advert_queue.specs.declared.counts.Side.TheVariants as sides
 use Rattle.advert_queue.specs.declared.counts.Side.TheVariants.{Present}
@@ -27,7 +28,7 @@ use Rattle.advert_queue.specs.declared.counts.Uses.{Uses}
 use Rattle.advert_queue.specs.Kept.{IsKept, IsTellable}
 
 abbrev pub Tags : Type 0
-Tags = Held Tag Uses
+Tags = table.Held Uses
 
 abbrev pub News : Type 0
 News = Held Prefix (Option Entry)
@@ -42,10 +43,10 @@ in_use side cs m k (Some t) right is =
     let number = right t in
     omega (arith, one, here, itself, number)
 
--- it takes no place
-pub no_places : (side : Side) (cs : List (Tag × Uses)) (after : Option Tag) → IfSome after (λ (tag : Tag). 0 < counted side cs tag) → new_places cs after ≡ 0
-no_places side cs None some = refl
-no_places side cs (Some t) some = no_place cs t (kept_found side cs t some)
+-- it needs no room
+pub no_room : (side : Side) (cs : List (Tag × Uses)) (room : ℕ) (after : Option Tag) → IfSome after (λ (tag : Tag). 0 < counted side cs tag) → IfSome after (λ (tag : Tag). find tag_cmp tag cs ≡ None → tag.0 < room)
+no_room side cs room None some = tt
+no_room side cs room (Some t) some = λ none. absurd (kept_some side cs t some none)
 
 -- one use more of a tag can be counted
 pub can_rise : (side : Side) (cs : List (Tag × Uses)) (m : Told) (after : Option Tag) → ((t : Tag) → counted side cs t ≡ uses m t) → length (entries m) + 1 < 2 ^ 64 → IfSome after (λ (tag : Tag). counted side cs tag + 1 < 2 ^ 64)
@@ -65,24 +66,24 @@ place_found told cs p sorted news = ap (λ b. let n : ℕ = cond b 0 1 in n) (sy
 pub place_none : (told : Told) (cs : List Change) (p : Prefix) → is_sorted prefix_cmp cs ≡ true → AreNews told cs → find prefix_cmp p cs ≡ None → place_cost told (changed told cs) p ≡ 1
 place_none told cs p sorted news none = place_found told cs p sorted news ∙ ap (λ o. let n : ℕ = cond (is_some o) 0 1 in n) none
 
--- a place of a tag where the tag has no numbers
-pub tag_found : (ts : List (Tag × Uses)) (told present : Told) (entry : Option Entry) (tag : Option Tag) → AreCounts ts (by_side (uses told) (uses present)) → tag ≡ tag_in entry → new_places ts tag ≡ tag_cost told present entry
-tag_found ts told present entry tag right is = ap (new_places ts) is ∙ by entry
+-- the room of its tag
+pub tag_room : (cs : List (Tag × Uses)) (room : ℕ) (entry : Option Entry) (tag : Option Tag) → tag ≡ tag_in entry → IfSome entry (λ (e : Entry). e.tag.0 < room) → IfSome tag (λ (t : Tag). find tag_cmp t cs ≡ None → t.0 < room)
+tag_room cs room entry tag is below = subst (λ o. IfSome o (λ (t : Tag). find tag_cmp t cs ≡ None → t.0 < room)) (sym is) (by entry below)
   where
-    by : (entry : Option Entry) → new_places ts (tag_in entry) ≡ tag_cost told present entry
-    by None = refl
-    by (Some e) = ap (λ b. let n : ℕ = cond b 0 1 in n) (found_either ts told present e.tag right)
+    by : (entry : Option Entry) → IfSome entry (λ (e : Entry). e.tag.0 < room) → IfSome (tag_in entry) (λ (t : Tag). find tag_cmp t cs ≡ None → t.0 < room)
+    by None below = tt
+    by (Some e) below = λ none. below
 
 -- ---- an offer
 
-module _ (told : prefixes.Held Entry) (news later : News) (counts then : Tags) (places tags places_left tags_left : ℕ) (k : Prefix) (entry : Option Entry) (before after : Option Tag) where
-  pub offered_kept : IsKept told news counts places tags → places ≡ places_left + (length later.items - length news.items) → tags ≡ tags_left + new_places counts.items after
+module _ (told : prefixes.Held Entry) (news later : News) (counts then : Tags) (places places_left : ℕ) (k : Prefix) (entry : Option Entry) (before after : Option Tag) where
+  pub offered_kept : IsKept told news counts places → places ≡ places_left + (length later.items - length news.items)
       → is_sorted prefix_cmp later.items ≡ true → AreNews told.map later.items → changed told.map later.items ≡ with_news (changed told.map news.items) k entry
       → news.room ≤ later.room + (length later.items - length news.items)
       → before ≡ tag_in (get (changed told.map news.items) k) → after ≡ tag_in entry
-      → IsRecounted Present counts.items then.items before after → counts.room ≤ then.room + new_places counts.items after
-      → IsKept told later then places_left tags_left
-  offered_kept kept places_less tags_less rising differ present news_room was is step counts_room = record {
+      → IsRecounted Present counts.items then.items before after
+      → IsKept told later then places_left
+  offered_kept kept places_less rising differ present news_room was is step = record {
     tellable = record {
       rising = rising;
       differ = differ;
@@ -94,7 +95,6 @@ module _ (told : prefixes.Held Entry) (news later : News) (counts then : Tags) (
       fits = (let old = kept.tellable.fits in omega (arith, old, places_less));
     };
     news_room = (let old = kept.news_room in omega (arith, old, news_room, places_less));
-    counts_room = (let old = kept.counts_room in omega (arith, old, counts_room, tags_less));
   }
 
 -- ---- the first is told
@@ -140,17 +140,16 @@ none_more told news counts more kept = record {
 
 -- ---- some are told
 
-pub taken_kept : (told then : prefixes.Held Entry) (news later : News) (counts later_counts : Tags) (places tags : ℕ) → IsKept told news counts places tags
-    → IsTellable then later later_counts places → news.room ≤ later.room → counts.room ≤ later_counts.room → IsKept then later later_counts places tags
-taken_kept told then news later counts later_counts places tags kept tellable news_room counts_room = record {
+pub taken_kept : (told then : prefixes.Held Entry) (news later : News) (counts later_counts : Tags) (places : ℕ) → IsKept told news counts places
+    → IsTellable then later later_counts places → news.room ≤ later.room → IsKept then later later_counts places
+taken_kept told then news later counts later_counts places kept tellable news_room = record {
   tellable = tellable;
   news_room = (let old = kept.news_room in omega (arith, old, news_room));
-  counts_room = (let old = kept.counts_room in omega (arith, old, counts_room));
 }
 
 -- ---- the beginning
 
-pub none_kept : (told : prefixes.Held Entry) (news : News) (counts : Tags) → told.map ≡ empty → news.items ≡ [] → counts.items ≡ [] → IsKept told news counts 0 0
+pub none_kept : (told : prefixes.Held Entry) (news : News) (counts : Tags) → told.map ≡ empty → news.items ≡ [] → counts.items ≡ [] → IsKept told news counts 0
 none_kept told news counts nothing no_news none =
     let few : length news.items ≡ 0 = ap length no_news in
     let short : length (entries told.map) ≡ 0 = ap (λ (m : Told). length (entries m)) nothing ∙ ap length (no_entries Prefix Entry prefix_cmp) in
@@ -164,5 +163,4 @@ none_kept told news counts nothing no_news none =
         fits = omega (arith, few, short);
       };
       news_room = omega arith;
-      counts_room = omega arith;
     }

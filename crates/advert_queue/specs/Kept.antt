@@ -4,7 +4,6 @@ use Rattle.std.specs.FinMap.{FinMap, entries}
 use Rattle.std.specs.FinMap.Entries.{is_sorted}
 use Rattle.events.specs.declared.Entry.{Entry}
 use Rattle.net_types.specs.Keys.{prefix_cmp}
-use Rattle.net_types.specs.declared.address.Tag.{Tag}
 use Rattle.net_types.specs.declared.prefix.Prefix.{Prefix}
 use Rattle.ordered_map.specs.Held.{Held}
 use Rattle.prefix_map.specs.Held as prefixes

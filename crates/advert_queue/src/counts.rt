@@ -95,7 +95,6 @@ pub(crate) fn one_use(side: Side) -> Uses
 
 /// Counts a use of a tag more.
 pub(crate) fn raise(counts: &mut Counts, side: Side, tag: Tag)
-    requires rising { IsTrue (is_sorted tag_cmp counts.old.items) }
     requires used { AreUsed counts.old.items }
     requires room { find tag_cmp tag counts.old.items ≡ None → tag.0 < counts.old.room }
     requires small { counted side counts.old.items tag + 1 < 2 ^ 64 }

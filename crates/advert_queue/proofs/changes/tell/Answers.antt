@@ -22,7 +22,7 @@ loop-done-preserved c = record {
       ∙ ap (changed c.args.told.now.map) (front_take c.loop-done._done c.args.news.now.items);
   news = c.tell_first.ensures.news ∙ ap (drop 1) c.loop-done.invariant.news ∙ front_drop c.loop-done._done c.args.news.now.items;
   room = (let a = c.tell_first.ensures.room in let b = c.loop-done.invariant.room in omega (arith, a, b));
-  counts_room = (let a = c.tell_first.ensures.counts_room in let b = c.loop-done.invariant.counts_room in omega (arith, a, b));
+  counts_room = c.tell_first.ensures.counts_room ∙ c.loop-done.invariant.counts_room;
   present = c.tell_first.ensures.present ∙ c.loop-done.invariant.present;
   kept = λ more kept. c.tell_first.ensures.kept more (c.loop-done.invariant.kept more kept);
 }

@@ -1,7 +1,7 @@
 use Rattle.std.proofs.Common.{ap, ◌∙◌, arith}
 use Rattle.std.proofs.lemmas.Result.{on_ok_weaker}
 use Rattle.advert_queue.proofs.PlacesOf.{declared, places_grows, places_then, present_same, tags_grows, tags_then, told_same}
-use Rattle.advert_queue.specs.Advertised.{Advertised, new_tags_of, places_of}
+use Rattle.advert_queue.specs.Advertised.{Advertised, places_of, tags_of_room}
 use Rattle.advert_queue.proofs.participants.Adverts.reserve.Goals as goal
 
 pub returns-clause-told : goal.returns-clause-told
@@ -43,5 +43,5 @@ returns-clause-tags_kept c =
     let within = declared qs c.args.self.now c.args.who c.self.view_is c.requires.declared in
     λ other.
     let grows = tags_grows qs c.args.who c.index_mut.result.now within (c.index_mut.ensures.value) c.reserve.new.self c.reserve.ensures.tags_kept other in
-    let same = ap (λ (a : Advertised). new_tags_of a other) c.self.view_is in
+    let same = ap (λ (a : Advertised). tags_of_room a other) c.self.view_is in
     omega (arith, grows, same)

@@ -1,6 +1,8 @@
-use Rattle.std.proofs.Common.{◌-◌, ap, ◌∙◌, arith}
-use Rattle.advert_queue.proofs.SessionLemmas.{can_rise, few_present, in_use, offered_kept, place_found, place_none, tag_found}
-use Rattle.advert_queue.specs.Advertised.{place_cost, tag_cost}
+use Rattle.std.proofs.Common.{◌<◌, ◌-◌, sym, ap, subst, ◌∙◌, arith}
+use Rattle.std.specs.Prelude.{IfSome}
+use Rattle.events.specs.declared.Entry.{Entry}
+use Rattle.advert_queue.proofs.SessionLemmas.{can_rise, few_present, in_use, offered_kept, place_found, place_none, tag_room}
+use Rattle.advert_queue.specs.Advertised.{place_cost}
 use Rattle.advert_queue.specs.Changes.{changed, tag_in}
 use Rattle.advert_queue.specs.Kept.{Queued}
 use Rattle.advert_queue.specs.declared.counts.Side.TheVariants.{Present}
@@ -22,14 +24,12 @@ pub move_use-requires : goal.move_use-requires
 move_use-requires c =
     let a = c.self.inside in
     let kept = c.self.invariant.tellable in
-    let tags = ap (λ (q : Queued). q.tags) c.self.view_is in
-    let cost = ap (λ (q : Queued). tag_cost q.told q.present c.args.entry) c.self.view_is in
-    let new = tag_found a.counts.items a.told.map (changed a.told.map a.news.items) c.args.entry c.tag_of-after.result kept.counts (c.tag_of-after.ensures ∙ ap tag_in c.as_ref.ensures.value) in
+    let below = subst (λ (q : Queued). IfSome c.args.entry (λ (e : Entry). e.tag.0 < q.tags)) (sym c.self.view_is) c.requires.tag in
     record {
       rising = kept.counts.rising;
       used = kept.counts.used;
       some = in_use Present a.counts.items (changed a.told.map a.news.items) c.args.prefix c.note-before.result (kept.counts.counts Present) c.note-before.ensures.before;
-      room = omega (arith, tags, cost, new, c.requires.tag, c.self.invariant.counts_room);
+      room = tag_room a.counts.items a.counts.room c.args.entry c.tag_of-after.result (c.tag_of-after.ensures ∙ ap tag_in c.as_ref.ensures.value) below;
       small = can_rise Present a.counts.items (changed a.told.map a.news.items) c.tag_of-after.result (kept.counts.counts Present) (few_present a.told.map a.news.items a.places kept.fits);
     }
 
@@ -42,29 +42,17 @@ overflow_sub-self c =
     let found = place_found a.told.map a.news.items c.args.prefix kept.rising kept.differ in
     omega (arith, places, cost, found, c.requires.place, c.note-before.ensures.few, c.saturating_sub.ensures, c.len.ensures, c.len-pending.ensures)
 
-pub overflow_sub-self-2 : goal.overflow_sub-self-2
-overflow_sub-self-2 c =
-    let a = c.self.inside in
-    let tags = ap (λ (q : Queued). q.tags) c.self.view_is in
-    let cost = ap (λ (q : Queued). tag_cost q.told q.present c.args.entry) c.self.view_is in
-    let new = tag_found a.counts.items a.told.map (changed a.told.map a.news.items) c.args.entry c.tag_of-after.result c.self.invariant.tellable.counts (c.tag_of-after.ensures ∙ ap tag_in c.as_ref.ensures.value) in
-    omega (arith, tags, cost, new, c.requires.tag, c.move_use.ensures.places)
-
 pub invariant_of-self : goal.invariant_of-self
 invariant_of-self c =
     let a = c.self.inside in
     let kept = c.self.invariant.tellable in
     let places = ap (λ (q : Queued). q.places) c.self.view_is in
-    let tags = ap (λ (q : Queued). q.tags) c.self.view_is in
-    let place_cost_is = ap (λ (q : Queued). place_cost q.told q.present c.args.prefix) c.self.view_is in
-    let tag_cost_is = ap (λ (q : Queued). tag_cost q.told q.present c.args.entry) c.self.view_is in
+    let cost = ap (λ (q : Queued). place_cost q.told q.present c.args.prefix) c.self.view_is in
     let found = place_found a.told.map a.news.items c.args.prefix kept.rising kept.differ in
-    let tag_is = c.tag_of-after.ensures ∙ ap tag_in c.as_ref.ensures.value in
-    let new = tag_found a.counts.items a.told.map (changed a.told.map a.news.items) c.args.entry c.tag_of-after.result kept.counts tag_is in
-    offered_kept a.told a.news c.note-before.new.news a.counts c.move_use.new.counts a.places a.tags (a.places - c.saturating_sub.result) (a.tags - c.move_use.result) c.args.prefix c.args.entry _ _ c.self.invariant
-    (omega (arith, places, place_cost_is, found, c.requires.place, c.note-before.ensures.few, c.saturating_sub.ensures, c.len.ensures, c.len-pending.ensures))
-    (omega (arith, tags, tag_cost_is, new, c.requires.tag, c.move_use.ensures.places))
-    c.note-before.ensures.rising c.note-before.ensures.differ c.note-before.ensures.present c.note-before.ensures.room c.note-before.ensures.before tag_is c.move_use.ensures.counts c.move_use.ensures.room
+    offered_kept a.told a.news c.note-before.new.news a.counts c.move_use.new.counts a.places (a.places - c.saturating_sub.result) c.args.prefix c.args.entry _ _ c.self.invariant
+    (omega (arith, places, cost, found, c.requires.place, c.note-before.ensures.few, c.saturating_sub.ensures, c.len.ensures, c.len-pending.ensures))
+    c.note-before.ensures.rising c.note-before.ensures.differ c.note-before.ensures.present c.note-before.ensures.room c.note-before.ensures.before
+    (c.tag_of-after.ensures ∙ ap tag_in c.as_ref.ensures.value) c.move_use.ensures.counts
 
 pub returns-clause-places : goal.returns-clause-places
 returns-clause-places c =
@@ -76,9 +64,4 @@ returns-clause-places c =
     omega (arith, places, cost, found, c.note-before.ensures.few, c.saturating_sub.ensures, c.len.ensures, c.len-pending.ensures)
 
 pub returns-clause-tags : goal.returns-clause-tags
-returns-clause-tags c =
-    let a = c.self.inside in
-    let tags = ap (λ (q : Queued). q.tags) c.self.view_is in
-    let cost = ap (λ (q : Queued). tag_cost q.told q.present c.args.entry) c.self.view_is in
-    let new = tag_found a.counts.items a.told.map (changed a.told.map a.news.items) c.args.entry c.tag_of-after.result c.self.invariant.tellable.counts (c.tag_of-after.ensures ∙ ap tag_in c.as_ref.ensures.value) in
-    omega (arith, tags, cost, new, c.requires.tag, c.move_use.ensures.places)
+returns-clause-tags c = c.move_use.ensures.room ∙ ap (λ (q : Queued). q.tags) c.self.view_is

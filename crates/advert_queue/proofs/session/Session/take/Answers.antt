@@ -19,7 +19,7 @@ pub invariant_of-self : goal.invariant_of-self
 invariant_of-self c =
     let a = c.self.inside in
     let all = c.tell.ensures in
-    taken_kept a.told c.tell.new.told a.news c.tell.new.news a.counts c.tell.new.counts a.places a.tags c.self.invariant (all.kept a.places c.self.invariant.tellable) all.room all.counts_room
+    taken_kept a.told c.tell.new.told a.news c.tell.new.news a.counts c.tell.new.counts a.places c.self.invariant (all.kept a.places c.self.invariant.tellable) all.room
 
 pub returns-clause-told : goal.returns-clause-told
 returns-clause-told c =
