@@ -1,5 +1,5 @@
 -- The entries of places are sorted, and what is found of a tag and becomes of its value is so at the place of its number.
-use Rattle.std.proofs.Common.{◌≡◌, ℕ, zero, suc, ◌+◌, ◌<◌, ◌≤◌, ◌^◌, ◌-◌, drop, take, length-drop, Bool, true, false, cond, not, ◌&&◌, List, [], ◌∷◌, ◌++◌, length, map, add-one, sym, ap, ◌∙◌, refl, arith}
+use Rattle.std.proofs.Common.{◌≡◌, ℕ, zero, suc, ◌+◌, ◌<◌, ◌≤◌, ◌^◌, ◌-◌, drop, drop-cons, get_or, take, length-drop, Bool, true, false, cond, not, ◌&&◌, List, [], ◌∷◌, ◌++◌, length, map, add-one, sym, ap, subst, ◌∙◌, refl, arith}
 use Rattle.std.specs.Prelude.{Option, Some, None, is_some, slice_set, unwrap_or}
 use Rattle.std.specs.Cmp.{nat_cmp_is}
 use Rattle.std.specs.Option.{option_map}
@@ -11,8 +11,9 @@ use Rattle.std.proofs.lemmas.List.{length-set, length-map}
 use Rattle.net_types.specs.declared.address.Tag.{Tag}
 use Rattle.net_types.specs.Keys.{tag_cmp}
 use Rattle.ordered_map.specs.Changes.{changed_all, changed_at, changed_or_put}
-use Rattle.ordered_map.specs.Entries.{above, without}
+use Rattle.ordered_map.specs.Entries.{above, without, without_each}
 use Rattle.ordered_map.specs.Lapsed.{with_value, lasting, lapsing}
+use Rattle.tag_table.specs.Held.{Held}
 use Rattle.tag_table.specs.Entries.{tag_of, entries_from, entries_of, value_in, IsTable}
 
 -- ---- how a tag lies to one of a number
@@ -168,6 +169,13 @@ module _ {V : Type 0} where
   pub changed_in : (q : Tag) (f : V → V) (ps : List (Option V)) → entries_of (slice_set ps q.0 (option_map f (value_in ps q.0))) ≡ changed_at tag_cmp q f (entries_of ps)
   changed_in q f ps = sym (changed_set q f 0 q.0 ps (omega arith))
 
+  -- the next one of several tags taken out
+  pub without_next : (qs : List Tag) (i : ℕ) (d : Tag) (ps rs : List (Option V)) → i < length qs → rs ≡ slice_set ps (get_or qs i d).0 None → without_each tag_cmp (drop (i + 1) qs) (entries_of rs) ≡ without_each tag_cmp (drop i qs) (entries_of ps)
+  without_next qs i d ps rs h is =
+      ap (λ m. without_each tag_cmp (drop m qs) (entries_of rs)) (add-one i)
+      ∙ ap (without_each tag_cmp (drop (suc i) qs)) (ap entries_of is ∙ without_at (get_or qs i d) ps)
+      ∙ ap (λ ts. without_each tag_cmp ts (entries_of ps)) (sym (drop-cons qs i d h))
+
   pub above_at : (q : Tag) (ps : List (Option V)) → above tag_cmp q (entries_of ps) ≡ entries_from (q.0 + 1) (drop (q.0 + 1) ps)
   above_at q ps = above_drop q 0 q.0 ps (omega arith) ∙ ap (λ m. entries_from (q.0 + 1) (drop m ps)) (sym (add-one q.0))
 
@@ -220,11 +228,11 @@ module _ {V : Type 0} where
   counted_few ps count table = let few = few_entries 0 ps in omega (arith, few, table.counted, table.few)
 
   -- a new tag has room, and one that is there has a place
-  pub has_place : (q : Tag) (ps : List (Option V)) → (find tag_cmp q (entries_of ps) ≡ None → q.0 < length ps) → q.0 < length ps
-  has_place q ps room = by (value_in ps q.0) refl
+  pub has_place : (q : Tag) (ps : List (Option V)) (s : Held V) → ◌≡◌ {A = Held V} (record { items = entries_of ps; room = length ps }) s → (find tag_cmp q s.items ≡ None → q.0 < s.room) → q.0 < length ps
+  has_place q ps s view_is room = by (value_in ps q.0) refl
     where
       by : (o : Option V) → value_in ps q.0 ≡ o → q.0 < length ps
-      by None is = room (found_at q ps ∙ is)
+      by None is = subst (λ (s : Held V). find tag_cmp q s.items ≡ None → q.0 < s.room) (sym view_is) room (found_at q ps ∙ is)
       by (Some v) is = within ps q.0 (ap is_some is)
 
   pub table_put : (i : ℕ) (v : V) (ps qs : List (Option V)) (count left : ℕ) → IsTable ps count → qs ≡ slice_set ps i (Some v) → i < length ps → left + one (value_in ps i) ≡ count + 1 → IsTable qs left

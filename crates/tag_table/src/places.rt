@@ -3,8 +3,9 @@
 ghost use Rattle.std.specs.Prelude.{◌≡◌, ◌≤◌, ◌<◌, ◌+◌, ◌^◌, ◌∷◌, [], None, Some, IsOk, IfSome, IfNone, OnOk, OnErr, option_copied, option_map, is_some, not, length, map, slice_set, unwrap_or};
 ghost use Rattle.std.specs.Vec.{vec_len};
 ghost use Rattle.ordered_map.specs.Lapsed.{lapsing, lasting};
-ghost use Rattle.tag_table.specs.Entries.{entries_from, entries_of, tag_of, value_in};
+ghost use Rattle.tag_table.specs.Entries.{IsTable, entries_from, entries_of, tag_of, value_in};
 
+use net_types::Tag;
 use ordered_map::{Change, Lapse};
 use std::alloc::AllocError;
 
@@ -41,7 +42,7 @@ pub(crate) fn put_at<V>(places: &mut Vec<Option<V>>, place: usize, value: V) -> 
 }
 
 /// Takes the value of a place out.
-pub(crate) fn take_at<V>(places: &mut Vec<Option<V>>, place: usize) -> Option<V>
+fn take_at<V>(places: &mut Vec<Option<V>>, place: usize) -> Option<V>
     ensures value { result ≡ value_in places.old.items place }
     ensures items { places.new.items ≡ slice_set places.old.items place None }
 {
@@ -50,6 +51,20 @@ pub(crate) fn take_at<V>(places: &mut Vec<Option<V>>, place: usize) -> Option<V>
     } else {
         None
     }
+}
+
+/// Takes the value of a tag out, and counts it off.
+pub(crate) fn take_counted<V>(places: &mut Vec<Option<V>>, count: &mut usize, tag: Tag) -> Option<V>
+    requires table { IsTable places.old.items count.old }
+    ensures value { result ≡ value_in places.old.items tag.0 }
+    ensures items { places.new.items ≡ slice_set places.old.items tag.0 None }
+    ensures table { IsTable places.new.items count.new }
+{
+    let before = take_at(places, tag.0 as usize);
+    if before.is_some() {
+        *count -= 1;
+    }
+    before
 }
 
 /// Changes a value, where there is one.

@@ -9,7 +9,8 @@ ghost use Rattle.ordered_map.specs.Entries.{without, without_each, above};
 
 use crate::iter::Iter;
 use crate::places::{
-    change_all, change_at, change_or_put_at, change_or_take_at, fill, put_at, take_at, value_at,
+    change_all, change_at, change_or_put_at, change_or_take_at, fill, put_at, take_counted,
+    value_at,
 };
 use net_types::Tag;
 use ordered_map::{Change, Lapse};
@@ -160,11 +161,7 @@ impl<V: Drop> TagTable<V> {
         ensures rising { IsTrue (is_sorted tag_cmp self.new.items) }
         ensures room { self.new.room ≡ self.old.room }
     {
-        let before = take_at(&mut self.places, tag.0 as usize);
-        if before.is_some() {
-            self.count -= 1;
-        }
-        before
+        take_counted(&mut self.places, &mut self.count, tag)
     }
 
     /// Takes these tags out.
@@ -173,9 +170,8 @@ impl<V: Drop> TagTable<V> {
         ensures rising { IsTrue (is_sorted tag_cmp self.new.items) }
         ensures room { self.new.room ≡ self.old.room }
     {
-        let _ = &self.places;
         for tag in tags {
-            self.remove(*tag);
+            take_counted(&mut self.places, &mut self.count, *tag);
         }
     }
 }
