@@ -71,7 +71,6 @@ fn are_same(table: &TagTable<u32>, map: &OrderedMap<Tag, u32>, tag: Tag) -> bool
 fn a_table_answers_as_a_map(rt: HostRuntime) -> Result<(), Fail> {
     let mut table: TagTable<u32> = TagTable::new(rt.alloc());
     let mut map: OrderedMap<Tag, u32> = OrderedMap::new(rt.alloc());
-    table.reserve(200)?;
     let mut seed = 20201;
     for round in 0..3000u32 {
         seed = next(seed);
@@ -80,6 +79,7 @@ fn a_table_answers_as_a_map(rt: HostRuntime) -> Result<(), Fail> {
             0 => assert!(rt; table.remove(tag) == map.remove(&tag), "round {round}"),
             1 => {
                 map.reserve(1)?;
+                table.reserve(200)?;
                 table.change_or_put(tag, &Add(3), round);
                 map.change_or_put(tag, &Add(3), round);
             }
@@ -113,7 +113,7 @@ fn a_table_answers_as_a_map(rt: HostRuntime) -> Result<(), Fail> {
 fn the_values_of_tags_lapse(rt: HostRuntime) -> Result<(), Fail> {
     let mut table: TagTable<Left> = TagTable::new(rt.alloc());
     for (number, times) in [(50, 1), (20, 2), (40, 1), (10, 3), (30, 1)] {
-        table.reserve(51)?;
+        table.reserve(number as usize + 1)?;
         table.put(Tag(number), Left { times });
     }
     for number in [40, 20, 25, 10, 40, 50, 99] {
@@ -128,8 +128,8 @@ fn the_values_of_tags_lapse(rt: HostRuntime) -> Result<(), Fail> {
 #[test]
 fn a_loop_walks_over_a_table(rt: HostRuntime) -> Result<(), Fail> {
     let mut table: TagTable<u32> = TagTable::new(rt.alloc());
-    table.reserve(6)?;
     for number in [5, 0, 2] {
+        table.reserve(number as usize + 1)?;
         table.put(Tag(number), 1);
     }
     let mut seen = Vec::new(rt.alloc());

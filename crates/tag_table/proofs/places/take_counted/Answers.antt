@@ -6,8 +6,9 @@ use Rattle.tag_table.proofs.places.take_counted.Goals as goal
 
 pub overflow_sub-count : goal.overflow_sub-count
 overflow_sub-count g c =
-    counted_one c.args.tag.0 c.args.places.now.items c.args.count.now c.requires.table
-    (ap is_some (sym c.take_at-before.ensures.value) ∙ sym c.is_some.ensures ∙ c.if-is_some.true)
+    let counted = counted_one c.args.tag.0 c.args.places.now.items c.args.count.now c.requires.table
+    (ap is_some (sym c.take_at-before.ensures.value) ∙ sym c.is_some.ensures ∙ c.if-is_some.true) in
+    omega (arith, counted)
 
 pub returns-then-is_some-clause-table : goal.returns-then-is_some-clause-table
 returns-then-is_some-clause-table g c =
