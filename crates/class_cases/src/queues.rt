@@ -1,6 +1,6 @@
 //! What participants are told.
 
-ghost use Rattle.std.specs.Prelude.{◌≡◌, ◌<◌, IfOk, IfSome};
+ghost use Rattle.std.specs.Prelude.{◌≡◌, ◌<◌, IfOk, IfSome, option_copied};
 ghost use Rattle.advert_queue.specs.Advertised.{HasQueue};
 
 use crate::words::{first_number, first_word, number, prefix, push_prefix};
@@ -74,7 +74,7 @@ fn entry(alloc: Global, text: &str) -> Result<Option<Entry>, Wrong> {
 
 /// A number above that of an entry's tag.
 fn tags_for(entry: Option<&Entry>) -> usize
-    ensures { IfSome entry (λ e. e.now.tag.0 < result) }
+    ensures { IfSome (option_copied entry.entry) (λ e. e.tag.0 < result) }
 {
     match entry {
         None => 0,
