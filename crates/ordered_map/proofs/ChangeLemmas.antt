@@ -13,7 +13,7 @@ use Rattle.ordered_map.specs.Changes.{with_values, changed_at, changed_or_given,
 use Rattle.ordered_map.specs.Entries.{put_given}
 use Rattle.ordered_map.specs.Kept.{IsKept}
 use Rattle.ordered_map.specs.Runs.{IsPast}
-use Rattle.ordered_map.proofs.SplitLemmas.{less, past_smaller, past_tied, below_smaller, below_tied, sorted_back, here_at, right_of}
+use Rattle.ordered_map.proofs.SplitLemmas.{less, past_smaller, past_tied, below_smaller, below_tied, sorted_back, here_at}
 
 module _ {K V : Type 0} (R : K → K → Ordering) where
   below_values : (f : K → V → V) (x : K) (es : List (K × V)) → below_all R x (with_values f es) ≡ below_all R x es
@@ -87,19 +87,6 @@ module _ {K V : Type 0} (R : K → K → Ordering) where
       changed_right more =
           map-append one l (e ∷ r)
           ∙ (λ i. past_stay l (past_smaller R o q l e r h more) i ++ (e.0, cond (is_eq (more i)) (f e.1) e.1) ∷ map one r)
-
-    -- the same where some others stand right of the entry, and more past them
-    module _ (o : IsTotalOrder R) (l : List (K × V)) (e : K × V) (m r : List (K × V)) (h : is_sorted R (l ++ e ∷ (m ++ r)) ≡ true) (more : R q e.0 ≡ Greater) where
-      pub changed_beyond : IsPast R q m → changed_at R q f (l ++ e ∷ (m ++ r)) ≡ l ++ e ∷ (m ++ changed_at R q f r)
-      changed_beyond past =
-          changed_right o l e (m ++ r) h more
-          ∙ ap (λ es. l ++ e ∷ es) (map-append one m r ∙ ap (λ es. es ++ map one r) (past_stay m past))
-
-      pub changed_between : (is_sorted R (m ++ r) ≡ true → below_all R q r ≡ true) → changed_at R q f (l ++ e ∷ (m ++ r)) ≡ l ++ e ∷ (changed_at R q f m ++ r)
-      changed_between within =
-          let below = within (right_of R o q l e (m ++ r) h more).rising in
-          changed_right o l e (m ++ r) h more
-          ∙ ap (λ es. l ++ e ∷ es) (map-append one m r ∙ ap (λ es. map one m ++ es) (below_stay r below))
 
   -- ---- a value that changes, or one that is given to a key without one
 

@@ -2,10 +2,12 @@
 use Rattle.std.proofs.Common.{◌≡◌, ◌<◌, ◌≤◌, ◌-◌, ◌+◌, ℕ, zero, suc, length, length-append, arith, List, [], ◌∷◌, ◌++◌, ap, sym, subst, ◌∙◌, refl, drop, take, get_or}
 use Rattle.std.specs.declared.cmp.Ordering.{Ordering}
 use Rattle.std.specs.declared.cmp.Ordering.TheVariants.{Less, Equal, Greater}
-use Rattle.std.proofs.lemmas.List.{append_assoc}
+use Rattle.std.proofs.Math.Seq.{drop-cons}
+use Rattle.std.proofs.lemmas.List.{append_assoc, get_or_default, length-take-le, take-append-drop, take_more}
 use Rattle.std.proofs.lemmas.Option.{same_Some}
 use Rattle.std.specs.Prelude.{slice_index_or, slice_set, Option, Some}
-use Rattle.ordered_map.specs.Runs.{IsPast, IsFirst, IsChanged, IsExchanged}
+use Rattle.ordered_map.specs.Puts.{IsChangedOrPut, IsPut}
+use Rattle.ordered_map.specs.Runs.{IsPast, IsFirst, IsLess, IsChanged, IsExchanged}
 use Rattle.std.proofs.lemmas.List.{append-nil}
 use Rattle.std.specs.Prelude.{insert, remove, slice_get, None, Bool, true, false, is_some, IfNone, IfSome, OnSome}
 use Rattle.std.specs.Cmp.{IsTotalOrder}
@@ -19,8 +21,7 @@ use Rattle.ordered_map.specs.Changes.{changed_all, changed_at, changed_or_given}
 use Rattle.ordered_map.specs.Lapsed.{changed_or_without, lasting, with_value}
 use Rattle.ordered_map.proofs.LapseLemmas.{lapsed_here, lasting_here}
 use Rattle.ordered_map.proofs.ChangeLemmas.{changed_here, changed_left, given_here, past_stay}
-use Rattle.ordered_map.proofs.PartLemmas.{all_after}
-use Rattle.ordered_map.proofs.SplitLemmas.{IsHere, above_before, above_past, below_smaller, below_tied, past_smaller, sorted_back, find_past, here_at, left_of, put_past, without_past}
+use Rattle.ordered_map.proofs.SplitLemmas.{IsHere, above_before, above_past, below_smaller, below_tied, past_smaller, past_tied, sorted_back, find_past, here_at, left_of, put_past, without_past}
 
 -- ---- what stands at a place
 
@@ -46,36 +47,47 @@ module _ {K V : Type 0} (es : List (K × V)) (place : ℕ) (x : K × V) (is : x 
   )
 
 module _ {K V : Type 0} (R : K → K → Ordering) (q : K) where
-  -- the key is past the entries before these
-  pub record IsPassed (es rest : List (K × V)) : Type 0 where
-    pub before : List (K × V)
-    pub whole : es ≡ before ++ rest
-    pub past : IsPast R q before
-
   pub past_one : (l : List (K × V)) (e : K × V) → IsPast R q l → R q e.0 ≡ Greater → IsPast R q (l ++ e ∷ [])
   past_one [] e p more = (more, tt)
   past_one (d ∷ l) e p more = (p.0, past_one l e p.1 more)
 
-  module _ (es : List (K × V)) where
-    pub passed_one : (rest : List (K × V)) (x : K × V) → IsPassed es rest → 1 ≤ length rest → x ≡ get_or rest 0 x → R q x.0 ≡ Greater → IsPassed es (take (length rest - 1) (drop 1 rest))
-    passed_one [] x passed some is more = absurd (omega (arith, some))
-    passed_one (e ∷ rest) x passed some is more = subst (IsPassed es) (sym (all_after (e ∷ rest) 1)) (record {
-      before = passed.before ++ e ∷ [];
-      whole = passed.whole ∙ sym (append_assoc passed.before (e ∷ []) rest);
-      past = past_one passed.before e passed.past (ap (λ y. R q y.0) (sym is) ∙ more);
-    })
+  -- ---- an entry at a place
 
-    pub first_at : (rest : List (K × V)) (x : K × V) (order : Ordering) → IsPassed es rest → 1 ≤ length rest → x ≡ get_or rest 0 x → R q x.0 ≡ order → IsFirst R q es (length es - length rest) order
-    first_at [] x order passed some is here = absurd (omega (arith, some))
-    first_at (e ∷ rest) x order passed some is here = record {
-      before = passed.before;
-      entry = e;
-      after = rest;
-      whole = passed.whole;
-      size = let size = ap length passed.whole ∙ length-append passed.before (e ∷ rest) in omega (arith, size);
-      past = passed.past;
-      here = ap (λ y. R q y.0) (sym is) ∙ here;
+  module _ (es : List (K × V)) (place : ℕ) (x : K × V) (within : place < length es) (is : x ≡ get_or es place x) where
+    whole : es ≡ take place es ++ x ∷ drop (suc place) es
+    whole = sym (take-append-drop place es) ∙ ap (λ ds. take place es ++ ds) (drop-cons es place x within ∙ ap (λ y. y ∷ drop (suc place) es) (sym is))
+
+    first_at : (order : Ordering) → IsPast R q (take place es) → R q x.0 ≡ order → IsFirst R q es place order
+    first_at order past here = record {
+      before = take place es;
+      entry = x;
+      after = drop (suc place) es;
+      whole = whole;
+      size = sym (length-take-le place es (omega (arith, within)));
+      past = past;
+      here = here;
     }
+
+    pub less_at : R q x.0 ≡ Less → IsLess R q es place
+    less_at low = λ e. ap (λ y. R q y.0) (get_or_default es place e x within ∙ sym is) ∙ low
+
+    module _ (o : IsTotalOrder R) (rising : is_sorted R es ≡ true) where
+      parted : is_sorted R (take place es ++ x ∷ drop (suc place) es) ≡ true
+      parted = ap (is_sorted R) (sym whole) ∙ rising
+
+      pub tied_at : R q x.0 ≡ Equal → IsFirst R q es place Equal
+      tied_at tie = first_at Equal (past_tied R o q (take place es) x (drop (suc place) es) parted tie) tie
+
+      pub past_through : R q x.0 ≡ Greater → IsPast R q (take (place + 1) es)
+      past_through more =
+          subst (IsPast R q) (sym (take_more es place x within ∙ ap (λ y. take place es ++ y ∷ []) (sym is)))
+          (past_one (take place es) x (past_smaller R o q (take place es) x (drop (suc place) es) parted more) more)
+
+  -- the first that is greater
+  pub free_at : (es : List (K × V)) (place : ℕ) → place < length es → IsPast R q (take place es) → IsLess R q es place → IsFirst R q es place Less
+  free_at [] place within past low = absurd (omega (arith, within))
+  free_at (e ∷ es) place within past low =
+      first_at (e ∷ es) place (get_or (e ∷ es) place e) within (get_or_default (e ∷ es) place e (get_or (e ∷ es) place e) within) Less past (low e)
 
 pub inserted : {A : Type 0} (l m : List A) (x : A) → insert (l ++ m) (length l) x ≡ l ++ x ∷ m
 inserted [] m x = refl
@@ -246,27 +258,23 @@ module _ {K V : Type 0} (R : K → K → Ordering) (q : K) (es : List (K × V)) 
         ap (changed_or_given R q f given) first.whole
         ∙ given_here R q f o given first.before first.entry first.after (ap (is_sorted R) (sym first.whole) ∙ rising) first.here
 
-  module _ (gap : IsGap R q es place) where
-    pub gap_value : (r : Option K) (back : Option V) → IfNone r (back ≡ None) → IfNone r (back ≡ find R q es)
-    gap_value None back used = used ∙ sym gap.find_is
-    gap_value (Some k) back used = tt
+  -- a new one, or one that finds no room
+  module _ (gap : IsGap R q es place) (r : Option K) (given back : Option V) (fs : List (K × V)) (some : is_some given ≡ true) (used : IfNone r (back ≡ None)) (entries : IfNone r (IfSome given (λ v. fs ≡ insert es place (q, v)))) (key : IfSome r (λ k. k ≡ q)) (kept : OnSome r (fs ≡ es)) (same : OnSome r (back ≡ given)) where
+    pub gap_put : IsPut R q given es r back fs
+    gap_put = by r given some used entries key kept same
+      where
+        by : (r : Option K) (given : Option V) → is_some given ≡ true → IfNone r (back ≡ None) → IfNone r (IfSome given (λ v. fs ≡ insert es place (q, v))) → IfSome r (λ k. k ≡ q) → OnSome r (fs ≡ es) → OnSome r (back ≡ given) → IsPut R q given es r back fs
+        by None None some used entries key kept same = absurd (cc)
+        by None (Some v) some used entries key kept same = (used ∙ sym gap.find_is, entries ∙ sym (gap.put_is v))
+        by (Some k) given some used entries key kept same = (key, same, kept, gap.find_is)
 
-    pub gap_put : (r : Option K) (given : Option V) (fs : List (K × V)) → is_some given ≡ true → IfNone r (IfSome given (λ v. fs ≡ insert es place (q, v))) → IfNone r (fs ≡ put_given R q given es)
-    gap_put None None fs some is = cc
-    gap_put None (Some v) fs some is = is ∙ sym (gap.put_is v)
-    gap_put (Some k) given fs some is = tt
-
-    pub gap_absent : (r : Option K) → OnSome r (find R q es ≡ None)
-    gap_absent None = tt
-    gap_absent (Some k) = gap.find_is
-
-    pub gap_used : (r : Option K) (back : Option V) → IfNone r (back ≡ None) → IfNone r (is_some back ≡ is_some (find R q es))
-    gap_used None back used = ap is_some (used ∙ sym gap.find_is)
-    gap_used (Some k) back used = tt
-
-    pub gap_given : (r : Option K) (f : V → V) (given : Option V) (fs : List (K × V)) → is_some given ≡ true → IfNone r (IfSome given (λ v. fs ≡ insert es place (q, v))) → IfNone r (fs ≡ changed_or_given R q f given es)
-    gap_given None f given fs some is = gap_put None given fs some is ∙ sym (ap (λ s. put_given R q (option_or (option_map f s) given) es) gap.find_is)
-    gap_given (Some k) f given fs some is = tt
+    pub gap_given : (f : V → V) → IsChangedOrPut R q f given es r back fs
+    gap_given f = by r given some used entries key kept same
+      where
+        by : (r : Option K) (given : Option V) → is_some given ≡ true → IfNone r (back ≡ None) → IfNone r (IfSome given (λ v. fs ≡ insert es place (q, v))) → IfSome r (λ k. k ≡ q) → OnSome r (fs ≡ es) → OnSome r (back ≡ given) → IsChangedOrPut R q f given es r back fs
+        by None None some used entries key kept same = absurd (cc)
+        by None (Some v) some used entries key kept same = (ap is_some (used ∙ sym gap.find_is), entries ∙ sym (gap.put_is v) ∙ sym (ap (λ s. put_given R q (option_or (option_map f s) (Some v)) es) gap.find_is))
+        by (Some k) given some used entries key kept same = (key, same, kept, gap.find_is)
 
 -- ---- values that change one after another
 

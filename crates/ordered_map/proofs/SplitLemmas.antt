@@ -7,7 +7,7 @@ use Rattle.std.specs.declared.cmp.Ordering.{Ordering}
 use Rattle.std.specs.declared.cmp.Ordering.TheVariants.{Less, Equal, Greater}
 use Rattle.std.specs.FinMap.Entries.{find, put, is_sorted, below_all, by_order}
 use Rattle.std.proofs.lemmas.Bool.{and_from, and_parts}
-use Rattle.ordered_map.specs.Entries.{without, above, put_given, head_of}
+use Rattle.ordered_map.specs.Entries.{without, above, first_or, put_given, head_of}
 use Rattle.ordered_map.specs.Runs.{IsPast}
 
 pub less : (r : Ordering) → is_lt r ≡ true → r ≡ Less
@@ -216,9 +216,6 @@ pub right_shorter : {A : Type 0} (es l : List A) (e : A) (r : List A) → es ≡
 right_shorter es l e r whole = let size = ap length whole ∙ length-append l (e ∷ r) in omega (arith, size)
 
 -- ---- the first of some entries, and else the best one before them
-abbrev pub first_or : {A : Type 0} → Option A → Option A → Option A
-first_or None best = best
-first_or (Some x) best = Some x
 
 pub first_of_split : {A : Type 0} (l : List A) (e : A) (r : List A) (best : Option A) → first_or (head_of (l ++ e ∷ r)) best ≡ first_or (head_of l) (Some e)
 first_of_split [] e r best = refl

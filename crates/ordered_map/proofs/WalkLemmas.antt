@@ -9,9 +9,9 @@ use Rattle.std.specs.declared.cmp.Ordering.TheVariants.{Less, Equal, Greater}
 use Rattle.std.specs.FinMap.Entries.{is_sorted, below_all}
 use Rattle.std.proofs.lemmas.Bool.{and_from, and_parts}
 use Rattle.std.proofs.lemmas.Option.{same_Some}
-use Rattle.ordered_map.specs.Entries.{above, head_of, left_after}
+use Rattle.ordered_map.specs.Entries.{above, first_or, head_of, left_after}
 use Rattle.ordered_map.proofs.PutLemmas.{IsForked}
-use Rattle.ordered_map.proofs.SplitLemmas.{less, turned, above_before, below_smaller, first_or, first_of_split, left_of, here_at, right_of}
+use Rattle.ordered_map.proofs.SplitLemmas.{less, turned, above_before, below_smaller, first_of_split, left_of, here_at, right_of}
 
 pub none_left : {A : Type 0} (xs : List A) → head_of xs ≡ None → xs ≡ []
 none_left [] e = refl
@@ -67,14 +67,6 @@ module _ {K V : Type 0} (R : K → K → Ordering) (o : IsTotalOrder R) where
 -- ---- past the entries of a box, from left to right
 
 module _ {K V : Type 0} (R : K → K → Ordering) (q : K) where
-  above_append : (l m : List (K × V)) → above R q (l ++ m) ≡ above R q l ++ above R q m
-  above_append [] m = refl
-  above_append (e ∷ l) m =
-      elim (is_lt (R q e.0)) as (λ b. cond b (e ∷ above R q (l ++ m)) (above R q (l ++ m)) ≡ cond b (e ∷ above R q l) (above R q l) ++ above R q m) [
-        | true ↦ ap (λ es. e ∷ es) (above_append l m)
-        | false ↦ above_append l m
-      ]
-
   module _ (o : IsTotalOrder R) {es l : List (K × V)} {e : K × V} {m r : List (K × V)} (forked : IsForked R es l e m r) where
     parted : is_sorted R (l ++ e ∷ (m ++ r)) ≡ true
     parted = ap (is_sorted R) (sym forked.whole) ∙ forked.rising
@@ -91,7 +83,7 @@ module _ {K V : Type 0} (R : K → K → Ordering) (q : K) where
     -- what stands after the entry, where it isn't
     pub record IsAfter : Type 0 where
       pub rising : is_sorted R (m ++ r) ≡ true
-      pub above_is : above R q es ≡ above R q m ++ above R q r
+      pub above_is : above R q es ≡ above R q (m ++ r)
 
     pub after_entry : is_lt (R q e.0) ≡ false → IsAfter
     after_entry apart = by (R q e.0) refl apart
@@ -100,14 +92,7 @@ module _ {K V : Type 0} (R : K → K → Ordering) (q : K) where
         by Less is apart = absurd (cc)
         by Equal is apart =
             let split = here_at R o q l e (m ++ r) parted is in
-            record { rising = split.rising; above_is = ap (above R q) forked.whole ∙ split.above_is ∙ above_append m r }
+            record { rising = split.rising; above_is = ap (above R q) forked.whole ∙ split.above_is }
         by Greater is apart =
             let split = right_of R o q l e (m ++ r) parted is in
-            record { rising = split.rising; above_is = ap (above R q) forked.whole ∙ split.above_is ∙ above_append m r }
-
-pub first_there : {A : Type 0} (xs ys : List A) (x : A) (best : Option A) → head_of xs ≡ Some x → first_or (head_of (xs ++ ys)) best ≡ Some x
-first_there [] ys x best is = cc
-first_there (d ∷ xs) ys x best is = is
-
-pub first_beyond : {A : Type 0} (xs ys : List A) → head_of xs ≡ None → xs ++ ys ≡ ys
-first_beyond xs ys is = ap (λ zs. zs ++ ys) (none_left xs is)
+            record { rising = split.rising; above_is = ap (above R q) forked.whole ∙ split.above_is }

@@ -49,6 +49,11 @@ abbrev pub head_of : {A : Type 0} → List A → Option A
 head_of [] = None
 head_of (x ∷ xs) = Some x
 
+-- an element, or else the best one so far
+abbrev pub first_or : {A : Type 0} → Option A → Option A → Option A
+first_or None best = best
+first_or (Some x) best = Some x
+
 -- ---- the least entry of a tree's root, and the others
 abbrev pub value_here : {K V : Type 0} → Node K V → Option V
 value_here Blank = None

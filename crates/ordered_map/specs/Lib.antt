@@ -4,5 +4,6 @@ pub mod Kept
 pub mod Changes
 pub mod Lapsed
 pub mod Parted
+pub mod Puts
 pub mod Runs
 pub mod Weights

@@ -1,5 +1,6 @@
 -- Where a key stands among entries, or belongs.
-use Rattle.std.specs.Prelude.{◌≡◌, ℕ, ◌≤◌, Option, Some, List, [], ◌∷◌, ◌++◌, length}
+use Rattle.std.specs.Prelude.{◌≡◌, ℕ, ◌≤◌, Option, None, Some, List, [], ◌∷◌, ◌++◌, length, slice_index_or}
+use Rattle.std.specs.Borrow.{Bor}
 use Rattle.std.specs.declared.cmp.Ordering.{Ordering}
 use Rattle.std.specs.declared.cmp.Ordering.TheVariants.{Less, Equal, Greater}
 use Rattle.ordered_map.specs.declared.run.Place.{Place}
@@ -20,11 +21,20 @@ pub record IsFirst {K V : Type 0} (R : K → K → Ordering) (q : K) (es : List 
   pub past : IsPast R q before
   pub here : R q entry.0 ≡ order
 
+-- a key is less than the entry at a place
+abbrev pub IsLess : {K V : Type 0} → (K → K → Ordering) → K → List (K × V) → ℕ → Type 0
+IsLess {K} {V} R q es place = (e : K × V) → R q (slice_index_or es place e).0 ≡ Less
+
 -- the key itself there, a greater one, or none
 abbrev pub IsPlaced : {K V : Type 0} → (K → K → Ordering) → K → List (K × V) → Place → Type 0
 IsPlaced R q es (Held place) = IsFirst R q es place Equal
 IsPlaced R q es (Free place) = IsFirst R q es place Less
 IsPlaced R q es Beyond = IsPast R q es
+
+-- the entries of a run, where there is one
+abbrev pub run_entries : {K V : Type 0} → Option (Bor (List (K × V))) → List (K × V)
+run_entries None = []
+run_entries (Some run) = run.now
 
 -- so many entries at most, which fit
 pub record IsRun (size capacity : ℕ) : Type 0 where

@@ -7,6 +7,7 @@ mod iter;
 mod keys;
 mod leaving;
 mod map;
+mod put;
 mod run;
 mod spare;
 mod tree;

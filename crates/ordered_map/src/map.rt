@@ -9,10 +9,11 @@ ghost use Rattle.ordered_map.specs.Lapsed.{changed_or_without};
 ghost use Rattle.ordered_map.specs.Entries.{without, without_each, above, head_of};
 ghost use Rattle.ordered_map.specs.Weights.{weigh};
 
-use crate::change::{change_or_put_in, change_or_take, put_in, take_from, take_least};
+use crate::change::{change_or_take, take_from, take_least};
 use crate::iter::Iter;
 use crate::keys::rise;
 use crate::leaving::{Tally, Untold, take_each, take_in_turn};
+use crate::put::{change_or_put_in, put_in};
 use crate::spare::{Spare, fill};
 use crate::tree::{Tree, first, gather, next_after, value_of};
 use crate::values::{Change, Lapse, change_all, change_at};

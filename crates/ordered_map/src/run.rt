@@ -8,8 +8,9 @@ ghost use Rattle.std.specs.FinMap.Entries.{find, is_sorted, below_all};
 ghost use Rattle.ordered_map.specs.Changes.{changed_all, changed_at, changed_or_given};
 ghost use Rattle.ordered_map.specs.Lapsed.{changed_or_without, lapsing};
 ghost use Rattle.ordered_map.specs.Entries.{above, head_of, put_given, without};
+ghost use Rattle.ordered_map.specs.Puts.{IsChangedOrPut, IsPut};
 ghost use Rattle.std.specs.Vec.{vec_len, vec_capacity};
-ghost use Rattle.ordered_map.specs.Runs.{IsPast, IsPlaced, IsChanged, IsExchanged};
+ghost use Rattle.ordered_map.specs.Runs.{IsPast, IsLess, IsPlaced, IsChanged, IsExchanged};
 
 use crate::values::{Change, Lapse, exchange};
 use std::alloc::{AllocError, Global};
@@ -51,19 +52,41 @@ pub(crate) enum Place {
     Beyond,
 }
 
-/// Where a key stands among entries, or belongs.
+/// Where a key stands among entries, or belongs: after them all in one comparison, since keys often rise, and else by halves.
 fn place_of<K: Ord, V>(entries: &[(K, V)], key: &K) -> Place
+    requires rising { IsTrue (is_sorted K.cmp entries.now) }
+    requires few { length entries.now ≤ 15 }
     ensures { IsPlaced K.cmp key.now entries.now result }
 {
-    let mut rest = entries;
-    while let [first, others @ ..] = rest {
-        match key.cmp(&first.0) {
-            Ordering::Less => return Place::Free(entries.len() - rest.len()),
-            Ordering::Equal => return Place::Held(entries.len() - rest.len()),
-            Ordering::Greater => rest = others,
+    let [lesser @ .., last] = entries else {
+        return Place::Beyond;
+    };
+    match key.cmp(&last.0) {
+        Ordering::Less => place_before(entries, lesser.len(), key),
+        Ordering::Equal => Place::Held(lesser.len()),
+        Ordering::Greater => Place::Beyond,
+    }
+}
+
+// Where a key stands among entries, or belongs, before a greater one.
+fn place_before<K: Ord, V>(entries: &[(K, V)], greater: usize, key: &K) -> Place
+    requires rising { IsTrue (is_sorted K.cmp entries.now) }
+    requires few { length entries.now ≤ 15 }
+    requires within { greater < length entries.now }
+    requires less { IsLess K.cmp key.now entries.now greater }
+    ensures { IsPlaced K.cmp key.now entries.now result }
+{
+    let mut from = 0;
+    let mut to = greater;
+    while from < to {
+        let middle = (from + to) / 2;
+        match key.cmp(&entries[middle].0) {
+            Ordering::Less => to = middle,
+            Ordering::Equal => return Place::Held(middle),
+            Ordering::Greater => from = middle + 1,
         }
     }
-    Place::Beyond
+    Place::Free(to)
 }
 
 impl<K, V> Run<K, V> {
@@ -131,7 +154,7 @@ impl<K: Drop, V: Drop> Run<K, V> {
 
     /// Moves the upper half of its entries to a run without any.
     pub(crate) fn halve(&mut self, upper: &mut Run<K, V>)
-        requires full { 1 < length self.old }
+        requires some { 0 < length self.old }
         requires none { upper.old ≡ [] }
         ensures whole { self.new ++ upper.new ≡ self.old }
         ensures fewer { length self.new < 15 }
@@ -174,6 +197,7 @@ impl<K, V> Run<K, V> {
 impl<K: Ord, V> Run<K, V> {
     // Where a key stands, or belongs.
     fn place(&self, key: &K) -> Place
+        requires { IsTrue (is_sorted K.cmp self.now) }
         ensures placed { IsPlaced K.cmp key.now self.now result }
         ensures few { length self.now ≤ 15 }
     {
@@ -184,6 +208,7 @@ impl<K: Ord, V> Run<K, V> {
     pub(crate) fn is_below(&self, key: &K) -> bool
         requires rising { IsTrue (is_sorted K.cmp self.now) }
         ensures past { OnTrue result (IsPast K.cmp key.now self.now) }
+        ensures some { OnFalse result (0 < length self.now) }
         ensures within { OnFalse result ((right : List (K × V)) → IsTrue (is_sorted K.cmp (self.now ++ right)) → IsTrue (below_all K.cmp key.now right)) }
     {
         match self.entries.last() {
@@ -209,9 +234,6 @@ impl<K: Ord, V> Run<K, V> {
         requires rising { IsTrue (is_sorted K.cmp self.now) }
         ensures { option_map deref_pair result ≡ head_of (above K.cmp key.now self.now) }
     {
-        if self.is_below(key) {
-            return None;
-        }
         match self.place(key) {
             Place::Held(place) => self.entry_at(place + 1),
             Place::Free(place) => self.entry_at(place),
@@ -237,12 +259,7 @@ impl<K: Ord + Drop, V: Drop> Run<K, V> {
     pub(crate) fn put(&mut self, key: K, value: &mut Option<V>) -> Option<K>
         requires rising { IsTrue (is_sorted K.cmp self.old) }
         requires given { IsTrue (is_some value.old) }
-        ensures value { IfNone result (value.new ≡ find K.cmp key self.old) }
-        ensures entries { IfNone result (self.new ≡ put_given K.cmp key value.old self.old) }
-        ensures key { IfSome result (λ k. k ≡ key) }
-        ensures kept { OnSome result (self.new ≡ self.old) }
-        ensures same { OnSome result (value.new ≡ value.old) }
-        ensures absent { OnSome result (find K.cmp key self.old ≡ None) }
+        ensures put { IsPut K.cmp key value.old self.old result value.new self.new }
         ensures full { OnSome result (length self.old ≡ 15) }
     {
         match self.place(&key) {
@@ -268,13 +285,7 @@ impl<K: Ord + Drop, V: Drop> Run<K, V> {
     ) -> Option<K>
         requires rising { IsTrue (is_sorted K.cmp self.old) }
         requires given { IsTrue (is_some value.old) }
-        ensures used { IfNone result (is_some value.new ≡ is_some (find K.cmp key self.old)) }
-        ensures entries { IfNone result (self.new ≡ changed_or_given K.cmp key (C.changed change.now) value.old self.old) }
-        ensures key { IfSome result (λ k. k ≡ key) }
-        ensures kept { OnSome result (self.new ≡ self.old) }
-        ensures same { OnSome result (value.new ≡ value.old) }
-        ensures absent { OnSome result (find K.cmp key self.old ≡ None) }
-        ensures full { OnSome result (length self.old ≡ 15) }
+        ensures { IsChangedOrPut K.cmp key (C.changed change.now) value.old self.old result value.new self.new }
     {
         match self.place(&key) {
             Place::Held(place) => {

@@ -6,7 +6,8 @@ ghost use Rattle.std.specs.Vec.{vec_len};
 ghost use Rattle.std.specs.Option.{option_map};
 ghost use Rattle.std.specs.Map.Iter.{deref_pair};
 ghost use Rattle.std.specs.FinMap.Entries.{find, is_sorted};
-ghost use Rattle.ordered_map.specs.Entries.{entries_of, above, head_of};
+ghost use Rattle.ordered_map.specs.Entries.{entries_of, above, first_or, head_of};
+ghost use Rattle.ordered_map.specs.Runs.{run_entries};
 
 use crate::run::Run;
 use std::alloc::AllocError;
@@ -51,10 +52,11 @@ pub(crate) fn value_of<'a, K: Ord, V>(tree: &'a Tree<K, V>, key: &K) -> Option<&
     requires rising { IsTrue (is_sorted K.cmp (entries_of tree.now)) }
     ensures { option_copied result ≡ find K.cmp key.now (entries_of tree.now) }
 {
+    let mut run = None;
     let mut here = tree;
     while let Tree::Fork(node) = here {
         match &**node {
-            Node::Blank => return None,
+            Node::Blank => return value_in(run, key),
             Node::Full {
                 height: _,
                 key: held,
@@ -66,15 +68,24 @@ pub(crate) fn value_of<'a, K: Ord, V>(tree: &'a Tree<K, V>, key: &K) -> Option<&
                 Ordering::Less => here = left,
                 Ordering::Equal => return Some(value),
                 Ordering::Greater => {
-                    if !others.is_below(key) {
-                        return others.get(key);
-                    }
+                    run = Some(others);
                     here = right;
                 }
             },
         }
     }
-    None
+    value_in(run, key)
+}
+
+// The value of a key in a run, where there is one.
+fn value_in<'a, K: Ord, V>(run: Option<&'a Run<K, V>>, key: &K) -> Option<&'a V>
+    requires { IsTrue (is_sorted K.cmp (run_entries run)) }
+    ensures { option_copied result ≡ find K.cmp key.now (run_entries run.entry) }
+{
+    match run {
+        Some(run) => run.get(key),
+        None => None,
+    }
 }
 
 /// The entry with the least key.
@@ -108,10 +119,11 @@ pub(crate) fn next_after<'a, K: Ord, V>(tree: &'a Tree<K, V>, key: &K) -> Option
     ensures { option_map deref_pair result ≡ head_of (above K.cmp key.now (entries_of tree.now)) }
 {
     let mut best = None;
+    let mut run = None;
     let mut here = tree;
     while let Tree::Fork(node) = here {
         match &**node {
-            Node::Blank => return best,
+            Node::Blank => return next_in(run, key, best),
             Node::Full {
                 height: _,
                 key: held,
@@ -124,15 +136,31 @@ pub(crate) fn next_after<'a, K: Ord, V>(tree: &'a Tree<K, V>, key: &K) -> Option
                     best = Some((held, value));
                     here = left;
                 } else {
-                    if let Some(next) = others.next_after(key) {
-                        return Some(next);
-                    }
+                    run = Some(others);
                     here = right;
                 }
             }
         }
     }
-    best
+    next_in(run, key, best)
+}
+
+// The entry with the least key above a key in a run, where there is one, and else the best one after that.
+fn next_in<'a, K: Ord, V>(
+    run: Option<&'a Run<K, V>>,
+    key: &K,
+    best: Option<(&'a K, &'a V)>,
+) -> Option<(&'a K, &'a V)>
+    requires { IsTrue (is_sorted K.cmp (run_entries run)) }
+    ensures { option_map deref_pair result ≡ first_or (head_of (above K.cmp key.now (run_entries run.entry))) (option_map deref_pair best.entry) }
+{
+    match run {
+        Some(run) => match run.next_after(key) {
+            Some(next) => Some(next),
+            None => best,
+        },
+        None => best,
+    }
 }
 
 /// Puts the entries of a tree last, in the order of their keys, until there are so many.

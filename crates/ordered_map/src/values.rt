@@ -1,10 +1,11 @@
 //! Values that change where they stand.
 
-ghost use Rattle.std.specs.Prelude.{◌≡◌, Bool, Some, IsTrue, is_some};
+ghost use Rattle.std.specs.Prelude.{◌≡◌, ◌++◌, Bool, Some, IsTrue, is_some};
 ghost use Rattle.std.specs.FinMap.Entries.{is_sorted};
 ghost use Rattle.ordered_map.specs.Changes.{changed_all, changed_at};
 ghost use Rattle.ordered_map.specs.Entries.{entries_of};
 
+use crate::run::Run;
 use crate::tree::{Node, Tree};
 use std::cmp::Ordering;
 use std::mem;
@@ -60,13 +61,37 @@ pub(crate) fn change_at<K: Ord, V, C: Change<V>>(tree: &mut Tree<K, V>, key: &K,
             } => match key.cmp(held) {
                 Ordering::Less => change_at(left, key, change),
                 Ordering::Equal => change.change(value),
-                Ordering::Greater => {
-                    if others.is_below(key) {
-                        change_at(right, key, change);
-                    } else {
-                        others.change_at(key, change);
-                    }
-                }
+                Ordering::Greater => change_beside(others, right, key, change),
+            },
+        },
+    }
+}
+
+// Changes the value of a key, where it has one, in a run or in the tree right of it.
+fn change_beside<K: Ord, V, C: Change<V>>(
+    run: &mut Run<K, V>,
+    tree: &mut Tree<K, V>,
+    key: &K,
+    change: &C,
+)
+    requires rising { IsTrue (is_sorted K.cmp (run.old ++ entries_of tree.old)) }
+    ensures { run.new ++ entries_of tree.new ≡ changed_at K.cmp key.now (C.changed change.now) (run.old ++ entries_of tree.old) }
+{
+    match tree {
+        Tree::Empty => run.change_at(key, change),
+        Tree::Fork(node) => match &mut **node {
+            Node::Blank => run.change_at(key, change),
+            Node::Full {
+                height: _,
+                key: held,
+                left,
+                right,
+                value,
+                others,
+            } => match key.cmp(held) {
+                Ordering::Less => change_beside(run, left, key, change),
+                Ordering::Equal => change.change(value),
+                Ordering::Greater => change_beside(others, right, key, change),
             },
         },
     }

@@ -21,7 +21,7 @@ pub put_first-requires : goal.put_first-requires
 put_first-requires g c =
     let whole = sym (length-append c.loop-self.self-inside.entries.items c.loop-self.upper) ∙ ap length (c.loop-self.invariant.0 ∙ sym c.self.view_is) in
     let few = c.self.invariant.few in
-    let full = c.requires.full in
+    let full = c.requires.some in
     let same = ap length c.self.view_is in
     let all = c.len-half.ensures ∙ c.self.inside.entries.ok.0 in
     let half = c.loop-self.invariant.1 in
@@ -51,7 +51,7 @@ returns-clause-whole g c = c.loop-self.invariant.0
 pub returns-clause-some : goal.returns-clause-some
 returns-clause-some g c =
     let whole = sym (length-append c.loop-self.self-inside.entries.items c.loop-self.upper) ∙ ap length (c.loop-self.invariant.0 ∙ sym c.self.view_is) in
-    let full = c.requires.full in
+    let full = c.requires.some in
     let same = ap length c.self.view_is in
     let all = c.len-half.ensures ∙ c.self.inside.entries.ok.0 in
     let size = c.len.ensures ∙ c.loop-self.self-inside.entries.ok.0 in
@@ -62,7 +62,7 @@ pub returns-clause-room : goal.returns-clause-room
 returns-clause-room g c =
     let whole = sym (length-append c.loop-self.self-inside.entries.items c.loop-self.upper) ∙ ap length (c.loop-self.invariant.0 ∙ sym c.self.view_is) in
     let few = c.self.invariant.few in
-    let full = c.requires.full in
+    let full = c.requires.some in
     let same = ap length c.self.view_is in
     let all = c.len-half.ensures ∙ c.self.inside.entries.ok.0 in
     let half = c.loop-self.invariant.1 in

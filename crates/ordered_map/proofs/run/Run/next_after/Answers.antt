@@ -1,12 +1,8 @@
 -- The entry behind the key, or at the gap.
 use Rattle.std.proofs.Common.{sym, ap, ◌∙◌, arith, ◌+◌}
-use Rattle.std.proofs.lemmas.Bool.{OnTrue_at}
 use Rattle.ordered_map.specs.Entries.{head_of}
 use Rattle.ordered_map.proofs.RunLemmas.{after_here, gap_at, head_at, held_above, is_within, none_above}
 use Rattle.ordered_map.proofs.run.Run.next_after.Goals as goal
-
-pub returns-then-is_below : goal.returns-then-is_below
-returns-then-is_below g c = sym (ap head_of (none_above g.K.Ord.cmp c.args.key.now c.args.self.now (OnTrue_at c.if-is_below.true c.is_below.ensures.past)))
 
 pub overflow_add-place : goal.overflow_add-place
 overflow_add-place g c =
