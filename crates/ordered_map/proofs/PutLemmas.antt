@@ -14,7 +14,6 @@ use Rattle.ordered_map.specs.Entries.{entries_of, node_entries, put_given, head_
 use Rattle.ordered_map.specs.declared.tree.Tree.{Tree}
 use Rattle.ordered_map.specs.declared.tree.Node.{Node, Full}
 use Rattle.ordered_map.specs.Puts.{HasNoRoom, IsChangedOrPut, IsPut}
-use Rattle.ordered_map.specs.Runs.{IsPast}
 use Rattle.ordered_map.proofs.ChangeLemmas.{changed_here, changed_left, changed_right, given_here}
 use Rattle.ordered_map.proofs.SplitLemmas.{left_shorter, right_shorter, length_parts, left_of, here_at, right_of, between_of}
 

@@ -68,9 +68,6 @@ module _ {K V : Type 0} (R : K → K → Ordering) (q : K) where
       here = here;
     }
 
-    pub less_at : R q x.0 ≡ Less → IsLess R q es place
-    less_at low = λ e. ap (λ y. R q y.0) (get_or_default es place e x within ∙ sym is) ∙ low
-
     module _ (o : IsTotalOrder R) (rising : is_sorted R es ≡ true) where
       parted : is_sorted R (take place es ++ x ∷ drop (suc place) es) ≡ true
       parted = ap (is_sorted R) (sym whole) ∙ rising

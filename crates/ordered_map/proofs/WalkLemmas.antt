@@ -13,10 +13,6 @@ use Rattle.ordered_map.specs.Entries.{above, first_or, head_of, left_after}
 use Rattle.ordered_map.proofs.PutLemmas.{IsForked}
 use Rattle.ordered_map.proofs.SplitLemmas.{less, turned, above_before, below_smaller, first_of_split, left_of, here_at, right_of}
 
-pub none_left : {A : Type 0} (xs : List A) → head_of xs ≡ None → xs ≡ []
-none_left [] e = refl
-none_left (x ∷ xs) e = cc
-
 not_below_itself : (r : Ordering) → r ≡ ordering_reverse r → is_lt r ≡ false
 not_below_itself Less e = cc
 not_below_itself Equal e = refl

@@ -30,9 +30,9 @@ pub(crate) fn put_in<K: Ord + Drop, V: Drop>(
     ensures entries { entries_of tree.new ≡ put_given K.cmp key value.old (entries_of tree.old) }
     ensures room { vec_len spare.old ≤ vec_len spare.new + (if is_some value.new then 0 else 1) }
 {
-    let mut left = None;
-    put_within(tree, key, value, &mut left);
-    if let Some(key) = left {
+    let mut back = None;
+    put_within(tree, key, value, &mut back);
+    if let Some(key) = back {
         put_box(tree, spare, key, value);
     }
 }
@@ -53,9 +53,9 @@ pub(crate) fn change_or_put_in<K: Ord + Drop, V: Drop, C: Change<V>>(
     ensures entries { entries_of tree.new ≡ changed_or_given K.cmp key (C.changed change.now) value.old (entries_of tree.old) }
     ensures room { vec_len spare.old ≤ vec_len spare.new + (if is_some value.new then 0 else 1) }
 {
-    let mut left = None;
-    change_or_put_within(tree, key, change, value, &mut left);
-    if let Some(key) = left {
+    let mut back = None;
+    change_or_put_within(tree, key, change, value, &mut back);
+    if let Some(key) = back {
         put_box(tree, spare, key, value);
     }
 }

@@ -1,8 +1,8 @@
-use Rattle.std.proofs.Common.{◌≡◌, ◌∷◌, ◌++◌, sym, ap, subst, ◌∙◌, rules, IsTrue}
+use Rattle.std.proofs.Common.{◌∷◌, ◌++◌, sym, ap, subst, ◌∙◌, rules, IsTrue}
 use Rattle.std.proofs.lemmas.List.{append_assoc}
 use Rattle.std.specs.Prelude.{is_some}
 use Rattle.std.specs.FinMap.Entries.{is_sorted}
-use Rattle.ordered_map.specs.Entries.{entries_of, node_entries, put_given}
+use Rattle.ordered_map.specs.Entries.{entries_of, node_entries}
 use Rattle.ordered_map.specs.Puts.{IsChangedOrPut}
 use Rattle.ordered_map.proofs.PutLemmas.{all_of, changed_alone, changed_sought, find_here, forked_beside, given_at, sought_beyond, sought_left}
 use Rattle.ordered_map.proofs.put.+change_or_put_beside.Goals as goal

@@ -1,7 +1,7 @@
-use Rattle.std.proofs.Common.{◌≡◌, ◌∷◌, ◌++◌, sym, ap, ◌∙◌, rules, arith, IsTrue}
+use Rattle.std.proofs.Common.{◌∷◌, ◌++◌, sym, ap, ◌∙◌, rules, arith, IsTrue}
 use Rattle.std.specs.Prelude.{is_some}
 use Rattle.std.specs.FinMap.Entries.{find, is_sorted}
-use Rattle.ordered_map.specs.Entries.{entries_of, put_given}
+use Rattle.ordered_map.specs.Entries.{entries_of}
 use Rattle.ordered_map.proofs.PutLemmas.{changed_sought, find_here, forked_at, given_at, given_new, sought_beyond, sought_left}
 use Rattle.ordered_map.proofs.put.+change_or_put_within.Goals as goal
 

@@ -1,4 +1,4 @@
-use Rattle.std.proofs.Common.{◌≡◌, ◌∷◌, ◌++◌, sym, ap, ◌∙◌, rules, arith, IsTrue}
+use Rattle.std.proofs.Common.{◌++◌, sym, ap, ◌∙◌, rules, arith, IsTrue}
 use Rattle.std.specs.FinMap.Entries.{find, is_sorted}
 use Rattle.ordered_map.specs.Entries.{entries_of, put_given}
 use Rattle.ordered_map.proofs.PutLemmas.{find_here, forked_at, put_here, put_sought, sought_beyond, sought_left}

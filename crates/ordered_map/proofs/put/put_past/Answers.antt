@@ -1,8 +1,7 @@
 use Rattle.std.proofs.Common.{◌≡◌, ◌∷◌, ◌++◌, [], rules, refl, sym, ap, ◌∙◌}
-use Rattle.std.proofs.lemmas.Bool.{OnFalse_at, OnTrue_at}
 use Rattle.std.proofs.lemmas.List.{append-nil}
 use Rattle.std.specs.Ordering.{is_lt}
-use Rattle.ordered_map.specs.Entries.{entries_of, node_entries, put_given}
+use Rattle.ordered_map.specs.Entries.{node_entries, put_given}
 use Rattle.ordered_map.proofs.SplitLemmas.{given_over, less}
 use Rattle.ordered_map.proofs.PutLemmas.{halved, not_smaller, sought_among, sought_left}
 use Rattle.ordered_map.proofs.put.put_past.Goals as goal

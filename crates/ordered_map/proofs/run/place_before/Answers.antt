@@ -1,5 +1,5 @@
 -- The half where the key can't stand is left out.
-use Rattle.std.proofs.Common.{◌≡◌, ◌<◌, ◌≤◌, ◌+◌, ◌/◌, length, take, ap, sym, subst, ◌∙◌, arith}
+use Rattle.std.proofs.Common.{◌≡◌, ◌<◌, ◌+◌, ◌/◌, take, ap, sym, subst, ◌∙◌, arith}
 use Rattle.ordered_map.specs.Runs.{IsPast}
 use Rattle.ordered_map.proofs.RunLemmas.{free_at, past_through, tied_at}
 use Rattle.ordered_map.proofs.run.place_before.Goals as goal

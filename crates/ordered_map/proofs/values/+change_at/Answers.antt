@@ -1,6 +1,5 @@
-use Rattle.std.proofs.Common.{◌≡◌, ◌∷◌, ◌++◌, sym, ap, ◌∙◌, rules, IsTrue}
+use Rattle.std.proofs.Common.{◌∷◌, ◌++◌, sym, ap, ◌∙◌, rules, IsTrue}
 use Rattle.std.specs.FinMap.Entries.{is_sorted}
-use Rattle.ordered_map.specs.Changes.{changed_at}
 use Rattle.ordered_map.specs.Entries.{entries_of}
 use Rattle.ordered_map.proofs.PutLemmas.{changed_after, changed_before, changed_there, forked_at, sought_beyond, sought_left}
 use Rattle.ordered_map.proofs.values.+change_at.Goals as goal
