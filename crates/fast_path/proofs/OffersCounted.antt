@@ -1,16 +1,17 @@
 -- Steps of the loops over offers, and what offers take of a participant's room.
-use Rattle.std.proofs.Common.{◌≡◌, ℕ, zero, suc, ◌+◌, ◌-◌, ◌<◌, ◌≤◌, Bool, true, false, cond, eqb, List, [], ◌∷◌, ◌++◌, drop, length, map, get_or, set, take, append_assoc, append-nil, eq-eqb, get_or-set_same, get_or-set_other, sym, ap, subst, ◌∙◌, refl, arith}
-use Rattle.std.specs.Prelude.{slice_get, unwrap_or}
+use Rattle.std.proofs.Common.{◌≡◌, ℕ, zero, suc, ◌+◌, ◌-◌, ◌<◌, ◌≤◌, Bool, true, false, cond, eqb, List, [], ◌∷◌, ◌++◌, drop, length, map, get_or, set, take, append_assoc, append-nil, eq-eqb, get_or-set_same, get_or-set_other, sym, ap, subst, ◌∙◌, refl, arith, inl, inr}
+use Rattle.std.specs.Prelude.{Option, Some, None, IfSome, slice_get, unwrap_or}
 use Rattle.std.proofs.lemmas.Bool.{eqb-true}
 use Rattle.std.proofs.lemmas.List.{take_more}
-use Rattle.advert_queue.specs.Advertised.{Advertised, new_tags_of, places_of}
+use Rattle.advert_queue.specs.Advertised.{Advertised, places_of, tags_of_room}
+use Rattle.events.specs.declared.Entry.{Entry}
 use Rattle.events.specs.declared.TagChange.{TagChange}
 use Rattle.net_types.specs.Routes.{numbers}
 use Rattle.net_types.specs.Sets.{union_over}
 use Rattle.net_types.specs.declared.address.Pid.{Pid}
-use Rattle.fast_path.proofs.Loops.{rest_is}
+use Rattle.fast_path.proofs.Loops.{each_next, rest_is}
 use Rattle.fast_path.proofs.OfferedPresent.{pid_at}
-use Rattle.fast_path.specs.Offers.{HaveRoom, Present, advert_of, adverts_to, all_taken, best_at, offered, offered_all, place_taken, tag_taken}
+use Rattle.fast_path.specs.Offers.{AreBelow, HaveRoom, Present, advert_of, adverts_to, all_taken, best_at, offered, offered_all, place_taken}
 use Rattle.fast_path.specs.declared.planned.Advert.{Advert}
 use Rattle.route_server.specs.Proposed.{Proposed}
 
@@ -77,23 +78,19 @@ module _ (a : Advertised) (o : Advert) (os : List Advert) (have : HaveRoom a (o 
   pub place_first : o.who.0 < length a.told → place_taken a.told a.present o ≤ places_of a o.who
   place_first known = number_first (place_taken a.told) a.present a.places (length a.told) o os known have.places
 
-  pub tag_first : o.who.0 < length a.told → tag_taken a.told a.present o ≤ new_tags_of a o.who
-  tag_first known = number_first (tag_taken a.told) a.present a.tags (length a.told) o os known have.tags
+  pub tag_first : o.who.0 < length a.told → IfSome o.entry (λ (e : Entry). e.tag.0 < tags_of_room a o.who)
+  tag_first known = have.tags o.who.0 known o (inl refl)
 
   -- there is room for the others once it is offered
   pub room_left : (b : Advertised) → b.told ≡ a.told → b.present ≡ offered a.present o
-      → places_of a o.who ≤ places_of b o.who + place_taken a.told a.present o → new_tags_of a o.who ≤ new_tags_of b o.who + tag_taken a.told a.present o
-      → ((other : Pid) → ¬ other.0 ≡ o.who.0 → places_of b other ≡ places_of a other) → ((other : Pid) → ¬ other.0 ≡ o.who.0 → new_tags_of b other ≡ new_tags_of a other)
+      → places_of a o.who ≤ places_of b o.who + place_taken a.told a.present o → ((other : Pid) → ¬ other.0 ≡ o.who.0 → places_of b other ≡ places_of a other) → b.tags ≡ a.tags
       → HaveRoom b os
-  room_left b told present place tag places tags = record {
+  room_left b told present place places tags = record {
     places = λ n within. (
         let most = number_left (place_taken a.told) a.present a.places b.places (length a.told) o os have.places place places n (subst (λ ts. n < length ts) told within) in
         let same : all_taken (place_taken b.told) b.present os n ≡ all_taken (place_taken a.told) (offered a.present o) os n = λ i. all_taken (place_taken (told i)) (present i) os n in
         omega (arith, most, same));
-    tags = λ n within. (
-        let most = number_left (tag_taken a.told) a.present a.tags b.tags (length a.told) o os have.tags tag tags n (subst (λ ts. n < length ts) told within) in
-        let same : all_taken (tag_taken b.told) b.present os n ≡ all_taken (tag_taken a.told) (offered a.present o) os n = λ i. all_taken (tag_taken (told i)) (present i) os n in
-        omega (arith, most, same));
+    tags = λ n within. subst (λ ts. AreBelow (unwrap_or (slice_get ts n) 0) os) (sym tags) (λ x m. have.tags n (subst (λ ts. n < length ts) told within) x (inr m));
   }
 
 -- ---- numbers of what is needed
@@ -150,14 +147,12 @@ few_more counts i k v c before known value one n = by (eqb k n) refl
         omega (arith, now, few)
 
 -- there is room for what one participant more needs
-pub room_more : (need : ℕ → ℕ) (counts room left : List ℕ) (k v : ℕ) → ((n : ℕ) → need n ≤ get_or counts n 0) → k < length counts → v ≡ get_or counts k v → ((n : ℕ) → n < k → need n ≤ unwrap_or (slice_get room n) 0)
-    → ((other : Pid) → unwrap_or (slice_get room other.0) 0 ≤ unwrap_or (slice_get left other.0) 0) → v ≤ unwrap_or (slice_get left k) 0 → (n : ℕ) → n < k + 1 → need n ≤ unwrap_or (slice_get left n) 0
-room_more need counts room left k v are within value before kept here n below = by (eqb n k) refl
+pub room_more : (need : ℕ → ℕ) (room left : List ℕ) (k : ℕ) → ((n : ℕ) → n < k → need n ≤ unwrap_or (slice_get room n) 0)
+    → ((other : Pid) → unwrap_or (slice_get room other.0) 0 ≤ unwrap_or (slice_get left other.0) 0) → need k ≤ unwrap_or (slice_get left k) 0 → (n : ℕ) → n < k + 1 → need n ≤ unwrap_or (slice_get left n) 0
+room_more need room left k before kept here n below = by (eqb n k) refl
   where
     by : (b : Bool) → eqb n k ≡ b → need n ≤ unwrap_or (slice_get left n) 0
-    by true at =
-        subst (λ j. need j ≤ unwrap_or (slice_get left j) 0) (sym (eqb-true n k at))
-        (let same = number_at counts k v within value in let most = are k in omega (arith, here, same, most))
+    by true at = subst (λ j. need j ≤ unwrap_or (slice_get left j) 0) (sym (eqb-true n k at)) here
     by false apart =
         let less : n < k = ne_less (λ same. absurd (cc (eq-eqb n k same, apart))) in
         let was = before n less in
@@ -166,3 +161,21 @@ room_more need counts room left k v are within value before kept here n below = 
       where
         ne_less : (n ≡ k → ⊥) → n < k
         ne_less differ = omega (arith, differ)
+
+-- so where as much is needed as is counted
+pub counted_room : (need : ℕ → ℕ) (counts room left : List ℕ) (k v : ℕ) → ((n : ℕ) → need n ≤ get_or counts n 0) → k < length counts → v ≡ get_or counts k v → ((n : ℕ) → n < k → need n ≤ unwrap_or (slice_get room n) 0)
+    → ((other : Pid) → unwrap_or (slice_get room other.0) 0 ≤ unwrap_or (slice_get left other.0) 0) → v ≤ unwrap_or (slice_get left k) 0 → (n : ℕ) → n < k + 1 → need n ≤ unwrap_or (slice_get left n) 0
+counted_room need counts room left k v are within value before kept here =
+    room_more need room left k before kept (let same = number_at counts k v within value in let most = are k in omega (arith, here, same, most))
+
+-- tags below a number are below a greater one
+pub still_below : (os : List Advert) (m n : ℕ) → m ≤ n → AreBelow m os → AreBelow n os
+still_below os m n more below o stands = by o.entry (below o stands)
+  where
+    by : (e : Option Entry) → IfSome e (λ (e : Entry). e.tag.0 < m) → IfSome e (λ (e : Entry). e.tag.0 < n)
+    by None none = tt
+    by (Some e) less = omega (arith, less, more)
+
+-- a number above the tags of the offers so far, and of the next one
+pub below_next : (os : List Advert) (i : ℕ) (x : Advert) (m n : ℕ) → i < length os → x ≡ get_or os i x → AreBelow m (take i os) → m ≤ n → IfSome x.entry (λ (e : Entry). e.tag.0 < n) → AreBelow n (take (i + 1) os)
+below_next os i x m n within is before more here = each_next (λ (o : Advert). IfSome o.entry (λ (e : Entry). e.tag.0 < n)) os i x within is (still_below (take i os) m n more before) here

@@ -1,31 +1,24 @@
 -- What is reserved for an offer before any is made is no less than it takes when its turn comes.
-use Rattle.std.proofs.Common.{◌≡◌, ℕ, ◌+◌, ◌<◌, ◌≤◌, Bool, true, false, cond, ◌&&◌, ◌||◌, eqb, get_or, List, [], ◌∷◌, ◌++◌, length, not, take, eq-eqb, sym, ap, ◌∙◌, refl, arith}
-use Rattle.std.specs.Prelude.{Option, Some, None, IfSome}
+use Rattle.std.proofs.Common.{◌≡◌, ℕ, ◌+◌, ◌<◌, ◌≤◌, Bool, true, false, cond, ◌&&◌, eqb, get_or, List, [], ◌∷◌, ◌++◌, length, not, take, eq-eqb, sym, ap, ◌∙◌, refl, arith}
+use Rattle.std.specs.Prelude.{Option, Some, None}
 use Rattle.std.specs.Cmp.{IsTotalOrder, nat_cmp_total}
 use Rattle.std.specs.FinMap.{get}
-use Rattle.std.specs.Option.{option_map}
 use Rattle.std.specs.Ordering.{eq_by_cmp, is_lt}
-use Rattle.std.proofs.lemmas.Bool.{and_parts, eqb-true}
 use Rattle.std.proofs.lemmas.Cmp.{on_total, then_total}
-use Rattle.advert_queue.specs.Advertised.{tag_cost}
 use Rattle.advert_queue.specs.Telling.{is_pending}
 use Rattle.events.proofs.NewsLemmas.{get-with_news}
 use Rattle.events.specs.Pending.{same_entry}
-use Rattle.events.specs.Tags.{same_tag, tells}
-use Rattle.events.specs.declared.Entry.{Entry}
 use Rattle.exchange_laws.proofs.Lists.{clash}
 use Rattle.fast_path.proofs.OfferedPresent.{offered_here, offered_other, pid_is}
 use Rattle.fast_path.proofs.OffersCounted.{take_next}
-use Rattle.fast_path.specs.Demands.{greater, is_above, offer_cmp, place_for, tag_for, tag_to}
-use Rattle.fast_path.specs.Offers.{Present, offered, offered_all, place_taken, present_to, tag_taken}
+use Rattle.fast_path.specs.Demands.{greater, is_above, offer_cmp, place_for}
+use Rattle.fast_path.specs.Offers.{Present, offered, offered_all, place_taken, present_to}
 use Rattle.fast_path.specs.declared.planned.Advert.{Advert}
 use Rattle.net_types.proofs.OrderLemmas.{prefix_tie, prefixes_total}
 use Rattle.net_types.proofs.TieLemmas.{less, tie_Equal, ties_itself}
-use Rattle.net_types.proofs.ValueLemmas.{any_value}
 use Rattle.net_types.specs.Attributes.{same_option}
 use Rattle.net_types.specs.Keys.{prefix_cmp}
 use Rattle.net_types.specs.declared.address.Pid.{Pid}
-use Rattle.net_types.specs.declared.address.Tag.{Tag}
 use Rattle.net_types.specs.declared.prefix.Prefix.{Prefix}
 
 at_most : (b : Bool) → cond b 0 1 ≤ 1
@@ -106,51 +99,3 @@ place_enough told before all greatest x same = by (is_above greatest x.who x.pre
         let made : place_for told before greatest x ≡ 1 = ap (λ b. let n : ℕ = cond (b && pends told before x) 0 1 in n) down in
         let few = at_most (pends told all x) in
         omega (arith, made, few)
-
--- ---- tags that were offered just before
-
--- it is present
-abbrev pub IsThere : Present → Option (Pid × Tag) → Type 0
-IsThere all before = IfSome before (λ (b : Pid × Tag). tells (present_to all b.0) b.1 ≡ true)
-
-pub now_there : (all : Present) (x : Advert) → x.who.0 < length all → IsThere (offered all x) (tag_to x)
-now_there all x within = by x.entry refl
-  where
-    by : (o : Option Entry) → x.entry ≡ o → IfSome (option_map (λ (e : Entry). let at : Pid × Tag = (x.who, e.tag) in at) o) (λ (b : Pid × Tag). tells (present_to (offered all x) b.0) b.1 ≡ true)
-    by None is = tt
-    by (Some e) is =
-        any_value prefix_cmp prefixes_total (λ (y : Entry). same_tag y.tag e.tag) (present_to (offered all x) x.who) x.prefix e
-        (ap (λ m. get m x.prefix) (offered_here all x within)
-        ∙ get-with_news (present_to all x.who) x.prefix x.entry x.prefix
-        ∙ ap (λ b. cond b x.entry (get (present_to all x.who) x.prefix)) (ties_itself prefixes_total x.prefix)
-        ∙ is)
-        (eq-eqb e.tag.0 e.tag.0 refl)
-
-pub tag_for-le : (before now : Option (Pid × Tag)) → tag_for before now ≤ 1
-tag_for-le before None = omega arith
-tag_for-le None (Some now) = omega arith
-tag_for-le (Some before) (Some now) = at_most (eqb before.0.0 now.0.0 && eqb before.1.0 now.1.0)
-
--- room for a tag is made where it is taken
-pub tag_enough : (told all : Present) (before : Option (Pid × Tag)) (x : Advert) → IsThere all before → tag_taken told all x ≤ tag_for before (tag_to x)
-tag_enough told all before x there = by x.entry before there
-  where
-    present_too : (a b : Bool) → b ≡ true → cond (a || b) 0 1 ≤ 0
-    present_too true b is = omega arith
-    present_too false b is = let none = ap (λ c. let n : ℕ = cond c 0 1 in n) is in omega (arith, none)
-
-    same_one : (b : Pid × Tag) (e : Entry) (answer : Bool) → (eqb b.0.0 x.who.0 && eqb b.1.0 e.tag.0) ≡ answer → tells (present_to all b.0) b.1 ≡ true
-        → tag_cost (present_to told x.who) (present_to all x.who) (Some e) ≤ cond answer 0 1
-    same_one b e true is there =
-        let parts = and_parts (eqb b.0.0 x.who.0) (eqb b.1.0 e.tag.0) is in
-        let to : b.0 ≡ x.who = pid_is b.0 x.who parts.0 in
-        let tag : b.1 ≡ e.tag = ap (λ n. let t : Tag = record { 0 = n } in t) (eqb-true b.1.0 e.tag.0 parts.1) in
-        let none = present_too (tells (present_to told x.who) e.tag) (tells (present_to all x.who) e.tag) ((λ i. tells (present_to all (sym to i)) (sym tag i)) ∙ there) in
-        none
-    same_one b e false is there = at_most (tells (present_to told x.who) e.tag || tells (present_to all x.who) e.tag)
-
-    by : (o : Option Entry) (before : Option (Pid × Tag)) → IsThere all before
-        → tag_cost (present_to told x.who) (present_to all x.who) o ≤ tag_for before (option_map (λ (e : Entry). let at : Pid × Tag = (x.who, e.tag) in at) o)
-    by None before there = omega arith
-    by (Some e) None there = at_most (tells (present_to told x.who) e.tag || tells (present_to all x.who) e.tag)
-    by (Some e) (Some b) there = same_one b e _ refl there

@@ -34,5 +34,5 @@ loop-offer-preserved c =
       rest = ap (λ all. offered_all all later) c.offer.ensures.present ∙ ap (offered_all c.loop-offer.adverts.present) (sym c.in-Some.ensures.steps.0) ∙ c.loop-offer.invariant.rest;
       known = subst (λ all. AreTo (length all) later) (sym c.offer.ensures.told) (λ o m. known o (inr m));
       room = room_left c.loop-offer.adverts c.in-Some.offer later (subst (HaveRoom c.loop-offer.adverts) c.in-Some.ensures.steps.0 c.loop-offer.invariant.room) c.offer.new.self
-          c.offer.ensures.told c.offer.ensures.present c.offer.ensures.places c.offer.ensures.tags c.offer.ensures.other_places c.offer.ensures.other_tags;
+          c.offer.ensures.told c.offer.ensures.present c.offer.ensures.places c.offer.ensures.other_places c.offer.ensures.tags;
     }
