@@ -1,15 +1,12 @@
 -- How much room is made for an offer, before any is made: never less than it takes when its turn comes.
-use Rattle.std.specs.Prelude.{ℕ, Bool, true, ◌&&◌, nat_eq, Option, Some, None, if◌then◌else◌}
+use Rattle.std.specs.Prelude.{ℕ, Bool, true, ◌&&◌, Option, Some, None, if◌then◌else◌}
 use Rattle.std.specs.Ordering.{is_lt, nat_cmp, ordering_then}
-use Rattle.std.specs.Option.{option_map}
 use Rattle.std.specs.declared.cmp.Ordering.{Ordering}
 use Rattle.advert_queue.specs.Telling.{is_pending}
-use Rattle.events.specs.declared.Entry.{Entry}
 use Rattle.fast_path.specs.Offers.{Present, present_to}
 use Rattle.fast_path.specs.declared.planned.Advert.{Advert}
 use Rattle.net_types.specs.Keys.{prefix_cmp}
 use Rattle.net_types.specs.declared.address.Pid.{Pid}
-use Rattle.net_types.specs.declared.address.Tag.{Tag}
 use Rattle.net_types.specs.declared.prefix.Prefix.{Prefix}
 
 -- by participant, and then by prefix

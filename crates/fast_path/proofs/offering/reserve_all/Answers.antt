@@ -1,6 +1,6 @@
 use Rattle.std.proofs.Common.{◌≡◌, ◌<◌, length, ap, subst, ◌∙◌, sym}
 use Rattle.fast_path.specs.Offers.{all_taken, place_taken}
-use Rattle.fast_path.proofs.OffersCounted.{counted_room, room_more, still_below}
+use Rattle.fast_path.proofs.OffersCounted.{counted_room, room_more}
 use Rattle.fast_path.proofs.offering.reserve_all.Goals as goal
 
 pub loop-number-preserved : goal.loop-number-preserved
