@@ -87,10 +87,11 @@ fn a_table_answers_as_a_map(rt: HostRuntime) -> Result<(), Fail> {
                 table.change(tag, &Add(7));
                 map.change(&tag, &Add(7));
             }
-            _ => assert!(rt;
-                table.put(tag, round) == map.insert(tag, round)?,
-                "round {round}"
-            ),
+            _ => {
+                table.reserve(200)?;
+                let before = table.put(tag, round);
+                assert!(rt; before == map.insert(tag, round)?, "round {round}");
+            }
         }
         assert!(rt;
             table.get(tag).copied() == map.get(&tag).copied(),
