@@ -90,6 +90,14 @@ impl Grouping {
         self.put(tag, sig)
     }
 
+    /// Makes room for placing a tag, and changes nothing else.
+    pub fn reserve(&mut self, tag: Tag) -> Result<(), Memory>
+        ensures { self.new ≡ self.old }
+    {
+        self.tags.reserve(tag.0 as usize + 1)?;
+        Ok(())
+    }
+
     /// Takes a tag out, where it is placed. It takes no memory.
     pub fn take_out(&mut self, tag: Tag)
         ensures { self.new ≡ map.remove self.old tag }

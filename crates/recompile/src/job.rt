@@ -10,7 +10,9 @@ ghost use Rattle.recompile.specs.Setting.{setting};
 ghost use Rattle.recompile.specs.Units.{NeedsFewer};
 ghost use Rattle.recompile.specs.Working.{IsProgress, with_built};
 
-use crate::lists::{listed, pair_to_do, push_both, tag_to_do, tags_with, take_out_each};
+use crate::lists::{
+    listed, pair_to_do, push_both, reserve_each, tag_to_do, tags_with, take_out_each,
+};
 use crate::swap::{Built, Progress, Swap};
 use crate::units::{all_units, more_units};
 use block_build::Blocks;
@@ -144,10 +146,12 @@ impl Job {
         let tags = tags_with(classes, fresh)?;
         let owed = all_units(classes.carried(), pairs.len());
         let pairs = listed(pairs)?;
+        let mut placed = Grouping::new(alloc);
+        reserve_each(&mut placed, &tags)?;
         Ok(Job {
             alloc,
             owed,
-            placed: Grouping::new(alloc),
+            placed,
             built: Built::new(alloc),
             tags,
             pairs,

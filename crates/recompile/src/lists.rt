@@ -70,6 +70,16 @@ pub(crate) fn push_both(
     Ok(())
 }
 
+/// Makes room for placing tags, so that a unit takes no longer where there are many.
+pub(crate) fn reserve_each(placed: &mut Grouping, tags: &[Tag]) -> Result<(), Memory>
+    ensures { placed.new ≡ placed.old }
+{
+    for &tag in tags {
+        placed.reserve(tag)?;
+    }
+    Ok(())
+}
+
 /// Takes tags out of a grouping.
 pub(crate) fn take_out_each(placed: &mut Grouping, tags: &[Tag])
     ensures { placed.new ≡ without_each tags.now placed.old }
