@@ -37,14 +37,29 @@ pub(crate) fn actions_of(alloc: Global, items: &[(Assign, Loc)]) -> Result<Actio
     Ok(Actions::from_vec(actions))
 }
 
+/// So many rules share their actions with their copies. Longer lists of actions are shared anyway.
+const FEW: usize = 16;
+
+/// The actions, of which a copy is a further owner where they are to be shared.
+fn held(actions: Actions, are_shared: bool) -> Result<Actions, Memory>
+    ensures { IfOk result (λ same. same ≡ actions) }
+{
+    if are_shared {
+        actions.shared()
+    } else {
+        Ok(actions)
+    }
+}
+
 /// The rules of the table. Each line goes as its rule comes.
 pub(crate) fn rules_of(alloc: Global, xs: Vec<Line>) -> Result<Vec<Rule>, Memory>
     ensures { IfOk result (λ v. v.items ≡ rules_of xs.items) }
 {
     let mut turned = Turned::new(alloc);
+    let are_shared = xs.len() <= FEW;
     let mut rules = Vec::with_capacity(alloc, xs.len())?;
     for x in xs {
-        let actions = turned.actions(&x.results)?;
+        let actions = held(turned.actions(&x.results)?, are_shared)?;
         rules.push(Rule {
             cube: x.cube,
             actions,

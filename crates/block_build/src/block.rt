@@ -3,14 +3,16 @@
 ghost use Rattle.std.specs.Prelude.{◌≡◌, IfOk};
 ghost use Rattle.block_build.specs.declared.block.BuildFault.TheVariants as fault;
 
-use net_types::{Items, Memory, Rule, TryCopy};
+use net_types::{Memory, Rule, TryCopy};
 use std::alloc::Global;
 use std::marker::Model;
+use std::rc::Rc;
 
-/// The rules of a pair. Only building makes one. Contracts see the rules, in their order.
+/// The rules of a pair. Only building makes one, and a copy is a further owner of the same rules. Contracts see the rules, in
+/// their order.
 #[derive(Drop)]
 pub struct Block {
-    rules: Vec<Rule>,
+    rules: Rc<Vec<Rule>>,
 }
 
 impl Model for Block {
@@ -19,68 +21,29 @@ impl Model for Block {
 
     ghost Value = { List Rule };
 
-    ghost view = { λ b. b.rules.items };
-}
-
-/// The same rules, of which copies share the actions.
-fn shared_rules(rules: Vec<Rule>) -> Result<Vec<Rule>, Memory>
-    ensures { IfOk result (λ shared. shared.items ≡ rules.items) }
-{
-    let mut shared = Vec::with_capacity(*rules.allocator(), rules.len())?;
-    for rule in rules {
-        let Rule { cube, actions } = rule;
-        let actions = actions.shared()?;
-        shared.push(Rule { cube, actions })?;
-    }
-    Ok(shared)
-}
-
-/// Copies of rules, which share their actions where these are shared.
-fn copied_rules(alloc: Global, rules: &[Rule]) -> Result<Vec<Rule>, Memory>
-    ensures { IfOk result (λ copies. copies.items ≡ rules.now) }
-{
-    let mut copies = Vec::with_capacity(alloc, rules.len())?;
-    for rule in rules {
-        let rule = rule.copy()?;
-        copies.push(rule)?;
-    }
-    Ok(copies)
+    ghost view = { λ b. b.rules.value.items };
 }
 
 impl TryCopy for Block {
     fn copy(&self) -> Result<Block, Memory> {
-        let rules = copied_rules(*self.rules.allocator(), self.rules.as_slice())?;
+        let rules = self.rules.clone()?;
         Ok(Block { rules })
     }
 }
 
 impl Block {
-    pub(crate) fn new(rules: Vec<Rule>) -> Block
-        ensures { result ≡ rules.items }
+    pub(crate) fn new(alloc: Global, rules: Vec<Rule>) -> Result<Block, Memory>
+        ensures { IfOk result (λ block. block ≡ rules.items) }
     {
-        Block { rules }
+        let rules = Rc::new(alloc, rules)?;
+        Ok(Block { rules })
     }
 
     /// The rules, in their order.
     pub fn rules(&self) -> &[Rule]
         ensures { result.now ≡ self.now }
     {
-        self.rules.as_slice()
-    }
-
-    /// The same rules, of which a copy shares the actions.
-    pub fn shared(self) -> Result<Block, Memory>
-        ensures { IfOk result (λ shared. shared ≡ self) }
-    {
-        let rules = shared_rules(self.rules)?;
-        Ok(Block { rules })
-    }
-
-    /// The rules as a list, in their order.
-    pub fn into_rules(self) -> Items<Rule>
-        ensures { result ≡ self }
-    {
-        Items::from_vec(self.rules)
+        self.rules.as_ref().as_slice()
     }
 }
 

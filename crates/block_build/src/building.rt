@@ -63,5 +63,6 @@ pub fn build<L: Ledger>(
         return Err(BuildFault::Wide { rules: count });
     }
     let rules = rules_of(alloc, lines)?;
-    Ok(Block::new(rules))
+    let block = Block::new(alloc, rules)?;
+    Ok(block)
 }

@@ -55,5 +55,6 @@ pub fn build_tight<L: Ledger>(
 {
     steps.tick();
     let rules = tight_rules(alloc, old)?;
-    Ok(Block::new(rules))
+    let block = Block::new(alloc, rules)?;
+    Ok(block)
 }

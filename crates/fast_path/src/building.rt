@@ -103,7 +103,7 @@ fn block_of<L: Ledger>(
     }
     let view = views.view(alloc, part)?;
     let block = build(alloc, &view, port, part, room, steps)?;
-    let block = noted(views, lasts, blocks, part, block)?;
+    noted(views, lasts, blocks, part, &block)?;
     Ok(block)
 }
 

@@ -1,6 +1,6 @@
 //! Rules that were built last. Where a tag is fresh, pairs of many ports with it mostly have the same.
 
-ghost use Rattle.std.specs.Prelude.{◌≡◌, ◌≤◌, ◌++◌, ◌∷◌, [], List, true, length, IsTrue, IfOk, IfSome};
+ghost use Rattle.std.specs.Prelude.{◌≡◌, ◌≤◌, ◌++◌, ◌∷◌, [], List, true, length, IsTrue, IfOk, IfSome, OnOk};
 ghost use Rattle.exchange_laws.specs.Whole.{IsWhole};
 ghost use Rattle.net_types.specs.declared.rule.Pair.{Pair as AnyPair};
 ghost use Rattle.block_build.specs.Lent.{Lent, outbound_at};
@@ -95,23 +95,21 @@ impl Lasts {
     }
 }
 
-/// Notes the rules of a part for the next pairs, where they are right at every port, as the block that comes behind these. It
-/// answers the rules, of which a copy shares the actions where they are few; long lists of actions are shared anyway.
+/// Notes the rules of a part for the next pairs, where they are right at every port, as the block that comes behind these.
 pub(crate) fn noted(
     views: &Views<'_>,
     lasts: &mut Lasts,
     blocks: &[(Pair, Block)],
     part: &Part,
-    block: Block,
-) -> Result<Block, Memory>
+    block: &Block,
+) -> Result<(), Memory>
     requires whole { IsWhole (length views.now) part.now }
     requires last { AreLast views.now blocks.now lasts.old }
-    requires right { are_for_any_port (outbound_at views.now part.now.sender) ≡ true → IsRightByViews views.now part.now block }
-    ensures last { IfOk result (λ same. (pair : AnyPair) → AreLast views.now (blocks.now ++ (pair, same) ∷ []) lasts.new) }
-    ensures block { IfOk result (λ same. same ≡ block) }
+    requires right { are_for_any_port (outbound_at views.now part.now.sender) ≡ true → IsRightByViews views.now part.now block.now }
+    ensures { OnOk result ((pair : AnyPair) → AreLast views.now (blocks.now ++ (pair, block.now) ∷ []) lasts.new) }
 {
     if !views.sends_from_any_port(part.sender) {
-        return Ok(block);
+        return Ok(());
     }
     let part = part.copy()?;
     let last = Some(Last {
@@ -120,9 +118,8 @@ pub(crate) fn noted(
     });
     if block.rules().len() > FEW {
         lasts.many = last;
-        return Ok(block);
+        return Ok(());
     }
-    let block = block.shared()?;
     lasts.few = last;
-    Ok(block)
+    Ok(())
 }

@@ -12,7 +12,7 @@ ghost use Rattle.match_switch.specs.Installed.{IsOver, IsPutFault, is_past, pair
 use crate::fault::PutFault;
 use crate::switch::Switch;
 use block_build::{Block, Blocks};
-use net_types::{Items, Pair, Rule};
+use net_types::{Pair, Rule};
 
 impl Switch {
     /// The rules of a pair become these, where there is room for them. Else the table is as it was.
@@ -46,7 +46,7 @@ impl Switch {
     {
         // It is a `usize`, so that the rules can be counted.
         let _capacity = self.capacity;
-        self.set(pair, block.into_rules());
+        self.set(pair, block);
     }
 
     /// The least pair, or the least one that is greater than `after`. It takes no memory.
@@ -61,7 +61,7 @@ impl Switch {
 }
 
 /// The pair of an entry.
-fn pair_of(found: Option<(&Pair, &Items<Rule>)>) -> Option<Pair>
+fn pair_of(found: Option<(&Pair, &Block)>) -> Option<Pair>
     ensures { result ≡ option_map (λ (e : Bor Pair × Bor (List Rule)). e.0.now) found.entry }
 {
     match found {

@@ -3,7 +3,7 @@
 ghost use Rattle.std.specs.Prelude.{List, length};
 ghost use Rattle.net_types.specs.declared.rule.Rule.{Rule as AnyRule};
 
-use net_types::{Items, Rule};
+use block_build::Block;
 use ordered_map::Tally;
 
 #[derive(Drop)]
@@ -12,12 +12,12 @@ pub(crate) struct Gone {
     pub(crate) rules: usize,
 }
 
-impl Tally<Items<Rule>> for Gone {
+impl Tally<Block> for Gone {
     ghost weight = { λ (rules : List AnyRule). length rules };
 
     ghost total = { λ gone. gone.rules };
 
-    fn count(&mut self, value: &Items<Rule>) {
-        self.rules += value.len();
+    fn count(&mut self, value: &Block) {
+        self.rules += value.rules().len();
     }
 }

@@ -4,13 +4,14 @@ ghost use Rattle.std.specs.Prelude.{◌≡◌, length};
 ghost use Rattle.std.specs.Iterator.{at_most};
 ghost use Rattle.std.specs.Map.Iter.{TakesFirst};
 
-use net_types::{Items, Pair, Rule};
+use block_build::Block;
+use net_types::{Pair, Rule};
 use std::marker::Model;
 
 /// The pairs that are left with their rules, ascending by port, and then by tag.
 #[derive(Drop)]
 pub struct Iter<'a> {
-    entries: ordered_map::Iter<'a, Pair, Items<Rule>>,
+    entries: ordered_map::Iter<'a, Pair, Block>,
 }
 
 impl<'a> Model for Iter<'a> {
@@ -24,7 +25,7 @@ impl<'a> Model for Iter<'a> {
 }
 
 impl<'a> Iter<'a> {
-    pub(crate) fn new(entries: ordered_map::Iter<'a, Pair, Items<Rule>>) -> Iter<'a>
+    pub(crate) fn new(entries: ordered_map::Iter<'a, Pair, Block>) -> Iter<'a>
         ensures { result ≡ entries.entry }
     {
         Iter { entries }
@@ -39,7 +40,7 @@ impl<'a> Iterator for Iter<'a> {
     ghost remaining = { λ left. at_most (length left) };
 
     fn next(&mut self) -> Option<(Pair, &'a [Rule])> {
-        let (pair, rules) = self.entries.next()?;
-        Some((*pair, rules.items()))
+        let (pair, block) = self.entries.next()?;
+        Some((*pair, block.rules()))
     }
 }

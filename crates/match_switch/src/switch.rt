@@ -9,6 +9,7 @@ ghost use Rattle.block_build.specs.Installed.{count_at, rule_count};
 
 use crate::gone::Gone;
 use crate::iter::Iter;
+use block_build::Block;
 use events::{Flow, Flows};
 use net_types::{Items, Memory, Pair, Pairs, Rule, TryCopy};
 use ordered_map::OrderedMap;
@@ -19,7 +20,7 @@ use std::marker::Model;
 /// how many new pairs go in without memory, and the capacity.
 #[derive(Drop)]
 pub struct Switch {
-    pub(crate) entries: OrderedMap<Pair, Items<Rule>>,
+    pub(crate) entries: OrderedMap<Pair, Block>,
     /// How many rules there are.
     rules: usize,
     pub(crate) capacity: usize,
@@ -79,7 +80,7 @@ impl Switch {
         ensures { option_copied result ≡ map.get self.now.table pair }
     {
         match self.entries.get(&pair) {
-            Some(rules) => Some(rules.items()),
+            Some(block) => Some(block.rules()),
             None => None,
         }
     }
@@ -97,16 +98,16 @@ impl Switch {
     }
 
     /// The rules of a pair become these, and there are not too many to count.
-    pub(crate) fn set(&mut self, pair: Pair, rules: Items<Rule>)
+    pub(crate) fn set(&mut self, pair: Pair, block: Block)
         requires room { map.get self.old.table pair ≡ None → 0 < self.old.room }
-        requires few { rule_count self.old.table + length rules < 2 ^ 64 + count_at self.old.table pair }
-        ensures table { self.new.table ≡ map.insert self.old.table pair rules }
+        requires few { rule_count self.old.table + length block < 2 ^ 64 + count_at self.old.table pair }
+        ensures table { self.new.table ≡ map.insert self.old.table pair block }
         ensures capacity { self.new.capacity ≡ self.old.capacity }
         ensures room { self.old.room ≤ self.new.room + (if is_some (map.get self.old.table pair) then 0 else 1) }
-        ensures count { rule_count self.new.table + count_at self.old.table pair ≡ rule_count self.old.table + length rules }
+        ensures count { rule_count self.new.table + count_at self.old.table pair ≡ rule_count self.old.table + length block }
     {
-        let added = rules.len();
-        let before = self.entries.put(pair, rules);
+        let added = block.rules().len();
+        let before = self.entries.put(pair, block);
         self.rules = self.rules - count(before) + added;
     }
 
@@ -117,7 +118,7 @@ impl Switch {
     {
         match self.entries.get(&pair) {
             None => 0,
-            Some(rules) => rules.len(),
+            Some(block) => block.rules().len(),
         }
     }
 
@@ -178,12 +179,12 @@ impl Switch {
 }
 
 /// How many rules there are of a pair.
-fn count(rules: Option<Items<Rule>>) -> usize
-    ensures { result ≡ length (unwrap_or rules []) }
+fn count(block: Option<Block>) -> usize
+    ensures { result ≡ length (unwrap_or block []) }
 {
-    match rules {
+    match block {
         None => 0,
-        Some(rules) => rules.len(),
+        Some(block) => block.rules().len(),
     }
 }
 

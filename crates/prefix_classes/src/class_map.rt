@@ -9,15 +9,13 @@ ghost use Rattle.prefix_classes.specs.Classes.{AreUsedTags, HaveNoMembers, IsAbo
 ghost use Rattle.prefix_classes.specs.Merging.{IsFull, IsMergeOf, moved};
 
 use crate::grouping::Grouping;
+use crate::kept::KeptTable;
 use crate::members::{Kept, lower, move_member, raise};
 use crate::moves::{Moves, moves_by};
-use crate::next::{all_used, first_used};
-use crate::trimming::trim_all;
 use net_types::{Memory, Pid, Prefix, Sig, Tag};
 use prefix_map::PrefixMap;
 use std::alloc::Global;
 use std::marker::Model;
-use tag_table::TagTable;
 
 /// The tag of each prefix that has one, and the signature of each tag that is kept. The prefixes of a tag are its
 /// members. Beside this there is room for a number of new prefixes, and for each tag below a number.
@@ -25,7 +23,7 @@ use tag_table::TagTable;
 pub struct ClassMap {
     alloc: Global,
     tags: PrefixMap<Tag>,
-    kept: TagTable<Kept>,
+    kept: KeptTable,
 }
 
 impl Model for ClassMap {
@@ -52,7 +50,7 @@ impl ClassMap {
         ClassMap {
             alloc,
             tags: PrefixMap::new(alloc),
-            kept: TagTable::new(alloc),
+            kept: KeptTable::new(alloc),
         }
     }
 
@@ -84,20 +82,14 @@ impl ClassMap {
     pub fn sig_of(&self, tag: Tag) -> Option<&Sig>
         ensures { option_copied result ≡ map.get self.now.kept tag }
     {
-        match self.kept.get(tag) {
-            Some(kept) => Some(&kept.sig),
-            None => None,
-        }
+        self.kept.sig_of(tag)
     }
 
     /// How many prefixes have the tag.
     pub fn members(&self, tag: Tag) -> usize
         ensures { result ≡ members self.now.tag tag }
     {
-        match self.kept.get(tag) {
-            Some(kept) => kept.members,
-            None => 0,
-        }
+        self.kept.members(tag)
     }
 
     /// The least tag that has members, or the least such tag greater than this one. That tag is kept. It goes over the
@@ -107,14 +99,14 @@ impl ClassMap {
         ensures none { IfNone result ((tag : AnyTag) → IsAbove after tag → members self.now.tag tag ≡ 0) }
         ensures kept { IfSome result (λ tag. IsTrue (is_some (map.get self.now.kept tag))) }
     {
-        first_used(&self.kept, after)
+        self.kept.first_used(after)
     }
 
     /// The tags that have members, ascending: all in one walk over the table of tags. Memory is the only refusal.
     pub fn used_tags(&self) -> Result<Vec<Tag>, Memory>
         ensures { IfOk result (λ tags. AreUsedTags self.now.tag tags.items) }
     {
-        all_used(self.alloc, &self.kept)
+        self.kept.used(self.alloc)
     }
 
     /// How many prefixes have a tag.
@@ -191,7 +183,7 @@ impl ClassMap {
         ensures prefixes { self.new.prefixes ≡ self.old.prefixes }
         ensures tags { self.new.tags ≡ self.old.tags }
     {
-        trim_all(self.alloc, &mut self.kept, who, named);
+        self.kept.trim(self.alloc, who, named);
     }
 
     /// The moves that leave one tag for each signature: each prefix whose tag isn't the least of those with members that
@@ -223,8 +215,8 @@ impl ClassMap {
         requires { 0 < members self.now.tag tag }
         ensures { Some result.now ≡ map.get self.now.kept tag }
     {
-        match self.kept.get(tag) {
-            Some(kept) => &kept.sig,
+        match self.kept.sig_of(tag) {
+            Some(sig) => sig,
             None => unreachable!(),
         }
     }

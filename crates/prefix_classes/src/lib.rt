@@ -3,10 +3,10 @@
 
 mod class_map;
 mod grouping;
+mod kept;
 mod laws;
 mod members;
 mod moves;
-mod next;
 mod placed;
 mod trimming;
 

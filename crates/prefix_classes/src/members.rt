@@ -5,11 +5,9 @@ ghost use Rattle.std.specs.FinMap.Entries.{find, is_sorted};
 ghost use Rattle.net_types.specs.Keys.{tag_cmp};
 ghost use Rattle.prefix_classes.specs.Classes.{is_tag};
 ghost use Rattle.prefix_classes.specs.Counts.{counted, IsRecounted};
-ghost use Rattle.prefix_classes.specs.Recounted.{recounted};
 
+use crate::kept::KeptTable;
 use net_types::{Sig, Tag};
-use ordered_map::Change;
-use tag_table::TagTable;
 
 #[derive(Drop)]
 pub(crate) struct Kept {
@@ -24,40 +22,29 @@ pub(crate) enum Recount {
     Less,
 }
 
-impl Change<Kept> for Recount {
-    ghost changed = { recounted };
-
-    fn change(&self, value: &mut Kept) {
-        match self {
-            Recount::More => value.members = value.members.saturating_add(1),
-            Recount::Less => value.members = value.members.saturating_sub(1),
-        }
-    }
-}
-
 /// Counts one member more.
-pub(crate) fn raise(kept: &mut TagTable<Kept>, tag: Tag)
+pub(crate) fn raise(kept: &mut KeptTable, tag: Tag)
     requires rising { IsTrue (is_sorted tag_cmp kept.old.items) }
     requires there { IsTrue (is_some (find tag_cmp tag kept.old.items)) }
     requires small { counted kept.old.items tag + 1 < 2 ^ 64 }
     ensures counts { IsRecounted kept.old.items kept.new.items None (Some tag) }
     ensures room { kept.new.room ≡ kept.old.room }
 {
-    kept.change(tag, &Recount::More);
+    kept.recount(tag, Recount::More);
 }
 
 /// Counts one member less.
-pub(crate) fn lower(kept: &mut TagTable<Kept>, tag: Tag)
+pub(crate) fn lower(kept: &mut KeptTable, tag: Tag)
     requires rising { IsTrue (is_sorted tag_cmp kept.old.items) }
     requires some { 0 < counted kept.old.items tag }
     ensures counts { IsRecounted kept.old.items kept.new.items (Some tag) None }
     ensures room { kept.new.room ≡ kept.old.room }
 {
-    kept.change(tag, &Recount::Less);
+    kept.recount(tag, Recount::Less);
 }
 
 /// Counts a member of one tag as one of another, or of the same.
-pub(crate) fn move_member(kept: &mut TagTable<Kept>, from: Tag, to: Tag)
+pub(crate) fn move_member(kept: &mut KeptTable, from: Tag, to: Tag)
     requires rising { IsTrue (is_sorted tag_cmp kept.old.items) }
     requires some { 0 < counted kept.old.items from }
     requires there { IsTrue (is_some (find tag_cmp to kept.old.items)) }

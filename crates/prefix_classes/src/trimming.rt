@@ -1,17 +1,13 @@
 //! Offers that don't count any more, taken out of the kept signatures.
 
-ghost use Rattle.std.specs.Prelude.{◌≡◌, map, nat_eq};
+ghost use Rattle.std.specs.Prelude.{◌≡◌, nat_eq};
 ghost use Rattle.std.specs.List.{list_any};
 ghost use Rattle.net_types.specs.declared.address.Pid.{Pid as AnyPid};
 ghost use Rattle.net_types.specs.Signatures.{counts, trimmed, trimmed_part};
-ghost use Rattle.prefix_classes.specs.Trimmed.{trimmed_entry, trimmed_kept};
 
-use crate::members::Kept;
-use net_types::{Items, Part, Pid, Sig, Tag};
-use ordered_map::Change;
+use net_types::{Items, Part, Pid, Sig};
 use std::alloc::Global;
 use std::mem;
-use tag_table::TagTable;
 
 fn is_named(named: &[Pid], who: Pid) -> bool
     ensures { result ≡ list_any (λ (other : AnyPid). nat_eq other.0 who.0) named.now }
@@ -45,34 +41,11 @@ fn trim_parts(parts: &mut [Part], who: Pid, named: &[Pid])
     }
 }
 
-fn trim_sig(alloc: Global, sig: &mut Sig, who: Pid, named: &[Pid])
+/// Takes those offers out of the sender's parts of a signature that don't count.
+pub(crate) fn trim_sig(alloc: Global, sig: &mut Sig, who: Pid, named: &[Pid])
     ensures { sig.new ≡ trimmed who named.now sig.old }
 {
     let mut parts = mem::replace(sig, Items::new(alloc)).into_vec();
     trim_parts(&mut parts, who, named);
     *sig = Items::from_vec(parts);
-}
-
-/// Takes a sender's offers that don't count out of a signature.
-#[derive(Drop)]
-struct Trim<'a> {
-    alloc: Global,
-    who: Pid,
-    named: &'a [Pid],
-}
-
-impl<'a> Change<Kept> for Trim<'a> {
-    ghost changed = { λ t k. trimmed_kept t.who t.named.now k };
-
-    fn change(&self, value: &mut Kept) {
-        trim_sig(self.alloc, &mut value.sig, self.who, self.named);
-    }
-}
-
-/// Takes the sender's offers that don't count out of each signature.
-pub(crate) fn trim_all(alloc: Global, kept: &mut TagTable<Kept>, who: Pid, named: &[Pid])
-    ensures items { kept.new.items ≡ map (trimmed_entry who named.now) kept.old.items }
-    ensures room { kept.new.room ≡ kept.old.room }
-{
-    kept.change_all(&Trim { alloc, who, named });
 }

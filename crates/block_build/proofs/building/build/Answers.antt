@@ -8,4 +8,4 @@ returns-clause-anywhere g c = λ any port.
     let count = c.len-count.ensures in
     let more = c.if-count-room.false in
     let within : length c.in_ok-lines.lines.items ≤ c.args.room = omega (arith, count, more) in
-    subst (IsRightFor c.args.view.now port c.args.part.now) (sym (c.new.ensures ∙ c.in_ok-rules.ensures)) (c.in_ok-lines.ensures.anywhere within any port)
+    subst (IsRightFor c.args.view.now port c.args.part.now) (sym (c.in_ok-block.ensures ∙ c.in_ok-rules.ensures)) (c.in_ok-lines.ensures.anywhere within any port)

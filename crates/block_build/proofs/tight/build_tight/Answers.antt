@@ -5,4 +5,4 @@ use Rattle.block_build.specs.Tight.{IsTightForm}
 use Rattle.block_build.proofs.tight.build_tight.Goals as goal
 
 pub returns-clause-tight : goal.returns-clause-tight
-returns-clause-tight g c = subst (IsTightForm c.args.old.now) (sym (c.new.ensures ∙ c.in_ok-rules.ensures)) (sifted-form c.args.old.now)
+returns-clause-tight g c = subst (IsTightForm c.args.old.now) (sym (c.in_ok-block.ensures ∙ c.in_ok-rules.ensures)) (sifted-form c.args.old.now)

@@ -30,9 +30,9 @@ returns-clause-right g c = λ ps of.
     let part = c.args.part.now in
     let whole = c.requires.whole in
     let view = c.in_ok-view.ensures in
-    c.right_for_policies.ensures ps part c.args.port c.in_ok-view.view c.in_ok-block-3.block whole.best
+    c.right_for_policies.ensures ps part c.args.port c.in_ok-view.view c.in_ok-block-2.block whole.best
     (c.views_are_of.ensures ps c.args.views.now part c.in_ok-view.view of whole.sender whole.exporters view.outbound view.receivers)
-    (subst (IsRightFor c.in_ok-view.view c.args.port part) (sym c.in_ok-block-3.ensures.block) c.in_ok-block-2.ensures.right)
+    c.in_ok-block-2.ensures.right
 
 pub returns-in-Some-clause-last : goal.returns-in-Some-clause-last
 returns-in-Some-clause-last g c = λ next. lasts-more c.args.views.now c.args.blocks.now (next, c.in-Some.block) c.args.lasts.now c.requires.last
