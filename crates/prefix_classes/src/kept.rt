@@ -58,12 +58,13 @@ pub(crate) struct KeptTable {
 impl Model for KeptTable {
     ghost use Rattle.std.specs.Coded.{codes};
     ghost use Rattle.tag_table.specs.Held.{Held};
+    ghost use Rattle.prefix_classes.specs.contracts.members.Kept as kept;
     ghost use Rattle.prefix_classes.specs.declared.members.Kept.{Kept};
     ghost use Rattle.prefix_classes.specs.Slots.{AreShared, shown_items};
 
     ghost Value = { Held Kept };
 
-    ghost coded = { Prim.hlevel (codes, Kept.code) };
+    ghost coded = { Prim.hlevel (codes, kept.the_row.coded) };
 
     ghost view = { λ a. record { items = shown_items a.shared.items a.places.items; room = a.places.room } };
 
