@@ -16,5 +16,6 @@ pub mod ClosedLemmas
 pub mod PortLemmas
 pub mod InportLemmas
 pub mod TightLemmas
+pub mod SameRules
 mod LentLemmas
 pub mod GatheredItems

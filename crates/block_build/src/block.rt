@@ -1,8 +1,9 @@
 //! Blocks of rules.
 
-ghost use Rattle.std.specs.Prelude.{◌≡◌, IfOk};
+ghost use Rattle.std.specs.Prelude.{◌≡◌, true, IfOk};
 ghost use Rattle.block_build.specs.declared.block.BuildFault.TheVariants as fault;
 
+use crate::same::same_rules;
 use net_types::{Memory, Rule, TryCopy};
 use std::alloc::Global;
 use std::marker::Model;
@@ -44,6 +45,13 @@ impl Block {
         ensures { result.now ≡ self.now }
     {
         self.rules.as_ref().as_slice()
+    }
+
+    /// Whether two blocks have the same rules.
+    pub fn is_same(&self, other: &Block) -> bool
+        ensures { result ≡ true → self.now ≡ other.now }
+    {
+        same_rules(self.rules(), other.rules())
     }
 }
 

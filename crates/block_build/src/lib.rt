@@ -16,6 +16,7 @@ mod laws;
 mod offers;
 mod receive;
 mod received;
+mod same;
 mod spread;
 mod tested;
 mod tight;
@@ -31,6 +32,7 @@ pub use laws::{
     no_inports, no_more_cells, right_for_policies, right_for_views, tight_forms_stay_right,
     views_are_of,
 };
+pub use same::same_rules;
 pub use tight::build_tight;
 pub use view::View;
 pub use views::Views;

@@ -103,7 +103,7 @@ pub fn gone_pairs(
     requires { dead.now ≡ untold adverts.now.told emptied.now }
     ensures { IfOk result (λ pairs. pairs ≡ gone_pairs names.now classes.now.kept adverts.now.told emptied.now) }
 {
-    let mut pairs = Vec::new(alloc);
+    let mut pairs = Vec::with_capacity(alloc, emptied.len())?;
     let mut at = 0;
     for &tag in emptied {
         let parts = parts_of(classes, tag);
@@ -183,7 +183,7 @@ pub fn dropped_pairs(alloc: Global, gone: &[Pair], rebuild: &[Pair]) -> Result<P
 pub fn untold(alloc: Global, adverts: &Adverts, tags: &[Tag]) -> Result<Vec<Tag>, Memory>
     ensures { IfOk result (λ dead. dead.items ≡ untold adverts.now.told tags.now) }
 {
-    let mut dead = Vec::new(alloc);
+    let mut dead = Vec::with_capacity(alloc, tags.len())?;
     for &tag in tags {
         if !adverts.is_told(tag) {
             dead.push(tag)?;

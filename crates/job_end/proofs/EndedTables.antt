@@ -24,7 +24,7 @@ use Rattle.job_end.specs.Ends.{IsEnd, ended, is_other}
 use Rattle.job_end.specs.Rebuilt.{IsFewer, are_others, blocks_of}
 use Rattle.job_end.specs.declared.ended.End.{End}
 use Rattle.job_laws.proofs.MergedStates.{pair_was_live, right_rules_stay}
-use Rattle.job_laws.proofs.SameRules.{rules_test}
+use Rattle.block_build.proofs.SameRules.{rules_test}
 use Rattle.job_laws.specs.Ending.{IsTableAtEnd}
 use Rattle.job_laws.specs.Jobs.{IsSteadyInJob}
 use Rattle.net_types.proofs.EqualLemmas.{option_test}

@@ -1,43 +1,17 @@
 //! The pairs that stay and get other rules.
 
 ghost use Rattle.std.specs.Prelude.{◌≡◌, filter, IfOk};
-ghost use Rattle.std.specs.Cmp.Lexicographic.{pointwise};
 ghost use Rattle.events.specs.Fits.{flows_of};
-ghost use Rattle.events.specs.Sound.{same_rule};
 ghost use Rattle.exchange_laws.specs.Listed.{is_pair_before};
 ghost use Rattle.job_end.specs.Rebuilt.{blocks_of, changed_pairs, has_others, is_changed};
 ghost use Rattle.net_types.specs.Sets.{IsRising, union_over};
 
-use block_build::Blocks;
-use cube::within;
+use block_build::{Blocks, same_rules};
 use events::Flows;
 use fast_path::{is_among, push_flows};
-use net_types::{Items, Memory, Pair, Pairs, Rule, same_items};
+use net_types::{Items, Memory, Pair, Pairs};
 use recompile::Built;
 use std::alloc::Global;
-
-/// Whether two rules are the same.
-fn same_rule(one: &Rule, other: &Rule) -> bool
-    ensures { result ≡ same_rule one.now other.now }
-{
-    let actions = same_items(one.actions.items(), other.actions.items());
-    within(&one.cube, &other.cube) && (within(&other.cube, &one.cube) && actions)
-}
-
-/// Whether the rules are the same, one by one.
-fn same_rules(one: &[Rule], other: &[Rule]) -> bool
-    ensures { result ≡ pointwise same_rule one.now other.now }
-{
-    if one.len() != other.len() {
-        return false;
-    }
-    for i in 0..one.len() {
-        if !same_rule(&one[i], &other[i]) {
-            return false;
-        }
-    }
-    true
-}
 
 /// Whether a pair has rules, and other ones were built for it. Where its rules were tight nothing was built, and nothing is compared.
 fn has_others<B: Blocks>(switch: &B, built: &Built, pair: Pair) -> bool

@@ -43,6 +43,7 @@ fn offer_each(
     requires { HasQueue adverts.now who }
     ensures { OnOk result (offers.new.items ≡ offers.old.items ++ offers_at adverts.now.present moves.now who) }
 {
+    offers.reserve(moves.len())?;
     for &moved in moves {
         offer(adverts, who, moved, offers)?;
     }

@@ -25,7 +25,7 @@ use std::alloc::Global;
 fn tag_changes(alloc: Global, moves: &[(Prefix, Tag)]) -> Result<TagChanges, Memory>
     ensures { IfOk result (λ tags. tags ≡ map told_change moves.now) }
 {
-    let mut tags = Items::new(alloc);
+    let mut tags = Items::from_vec(Vec::with_capacity(alloc, moves.len())?);
     for &(prefix, least) in moves {
         tags.push(TagChange {
             prefix,

@@ -25,7 +25,7 @@ use Rattle.exchange_laws.specs.Replies.{IsBuiltOn}
 use Rattle.exchange_laws.specs.Steady.{IsSteady}
 use Rattle.job_laws.proofs.JobUnits.{works_later}
 use Rattle.job_laws.proofs.MergedStates.{kept_for, kept_is, kept_live, live_kept, pair_was_live, tag_there, tag_was_live}
-use Rattle.job_laws.proofs.SameRules.{rules_test}
+use Rattle.block_build.proofs.SameRules.{rules_test}
 use Rattle.job_laws.specs.Ending.{IsTableAtEnd, JobsEnd}
 use Rattle.job_laws.specs.Jobs.{without_job}
 use Rattle.net_types.proofs.EqualLemmas.{option_test}

@@ -4,7 +4,6 @@ pub mod JobUnits
 pub mod MergedTags
 pub mod MergedStates
 pub mod SharedTags
-pub mod SameRules
 pub mod ListedChanges
 pub mod EndedJobs
 pub mod AllSteps

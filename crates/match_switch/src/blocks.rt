@@ -46,6 +46,7 @@ impl Switch {
     {
         // It is a `usize`, so that the rules can be counted.
         let _capacity = self.capacity;
+        let block = self.recent.shared(block);
         self.set(pair, block);
     }
 

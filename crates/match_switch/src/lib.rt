@@ -7,6 +7,7 @@ mod forwarding;
 mod gone;
 mod iter;
 mod leaving;
+mod recent;
 mod switch;
 
 pub use fault::PutFault;

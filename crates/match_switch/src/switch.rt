@@ -9,6 +9,7 @@ ghost use Rattle.block_build.specs.Installed.{count_at, rule_count};
 
 use crate::gone::Gone;
 use crate::iter::Iter;
+use crate::recent::Recent;
 use block_build::Block;
 use events::{Flow, Flows};
 use net_types::{Items, Memory, Pair, Pairs, Rule, TryCopy};
@@ -24,6 +25,7 @@ pub struct Switch {
     /// How many rules there are.
     rules: usize,
     pub(crate) capacity: usize,
+    pub(crate) recent: Recent,
 }
 
 impl Model for Switch {
@@ -51,6 +53,7 @@ impl Switch {
             entries: OrderedMap::new(alloc),
             rules: 0,
             capacity,
+            recent: Recent::new(alloc),
         }
     }
 

@@ -6,7 +6,7 @@ use Rattle.match_switch.proofs.switch.Switch.rules_of.Goals as goal
 
 pub returns-in-Some : goal.returns-in-Some
 returns-in-Some c =
-    ap Some c.items.ensures ∙ sym (ap option_copied c.in-Some.is) ∙ c.get.ensures
+    ap Some c.rules.ensures ∙ sym (ap option_copied c.in-Some.is) ∙ c.get.ensures
     ∙ sym (get_is c.self.inside.entries.items c.self.inside.rules _ c.self.inside.capacity c.self.invariant c.args.self.now c.self.view_is c.args.pair)
 
 pub returns-in-None : goal.returns-in-None

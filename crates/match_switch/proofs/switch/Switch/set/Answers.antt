@@ -1,5 +1,5 @@
 -- The pair's rules are put into its place among the entries.
-use Rattle.std.proofs.Common.{ap, arith, sym, ◌∙◌}
+use Rattle.std.proofs.Common.{ap, arith, length, sym, ◌∙◌}
 use Rattle.std.specs.Prelude.{is_some}
 use Rattle.match_switch.proofs.TableLemmas.{get_is, count_is, count_found, room_is, table_put, few_before, kept_put, count_put, room_put}
 use Rattle.match_switch.proofs.switch.Switch.set.Goals as goal
@@ -19,7 +19,8 @@ overflow_add-self c =
     let before = c.put-before.result in
     let found = count_found c.self.inside.entries.items c.self.inside.rules _ c.self.inside.capacity c.self.invariant c.args.self.now c.self.view_is c.args.pair before c.put-before.ensures.value c.count.result c.count.ensures in
     let few = few_before c.self.inside.entries.items c.self.inside.rules _ c.self.inside.capacity c.self.invariant c.args.self.now c.self.view_is c.args.pair before c.put-before.ensures.value c.count.result c.count.ensures in
-    omega (arith, all, found, few, c.requires.few, c.len-added.ensures)
+    let added = ap length c.rules-added.ensures in
+    omega (arith, all, found, few, c.requires.few, added)
 
 pub overflow_sub-self : goal.overflow_sub-self
 overflow_sub-self c =
@@ -28,11 +29,11 @@ overflow_sub-self c =
 
 pub invariant_of-self : goal.invariant_of-self
 invariant_of-self c =
-    kept_put c.self.inside.entries.items c.self.inside.rules _ c.self.inside.capacity c.self.invariant c.args.self.now c.self.view_is c.args.pair c.args.rules c.put-before.new.self.items c.put-before.ensures.items c.put-before.result c.put-before.ensures.value c.len-added.result c.count.result c.len-added.ensures c.count.ensures
+    kept_put c.self.inside.entries.items c.self.inside.rules _ c.self.inside.capacity c.self.invariant c.args.self.now c.self.view_is c.args.pair c.args.block c.put-before.new.self.items c.put-before.ensures.items c.put-before.result c.put-before.ensures.value (length c.rules-added.result.now) c.count.result (ap length c.rules-added.ensures) c.count.ensures
 
 pub returns-clause-table : goal.returns-clause-table
 returns-clause-table c =
-    table_put c.self.inside.entries.items c.self.inside.rules _ c.self.inside.capacity c.self.invariant c.args.self.now c.self.view_is c.args.pair c.args.rules c.put-before.new.self.items c.put-before.ensures.items
+    table_put c.self.inside.entries.items c.self.inside.rules _ c.self.inside.capacity c.self.invariant c.args.self.now c.self.view_is c.args.pair c.args.block c.put-before.new.self.items c.put-before.ensures.items
 
 pub returns-clause-room : goal.returns-clause-room
 returns-clause-room c =
@@ -43,4 +44,4 @@ returns-clause-room c =
 
 pub returns-clause-count : goal.returns-clause-count
 returns-clause-count c =
-    count_put c.self.inside.entries.items c.self.inside.rules _ c.self.inside.capacity c.self.invariant c.args.self.now c.self.view_is c.args.pair c.args.rules c.put-before.new.self.items c.put-before.ensures.items
+    count_put c.self.inside.entries.items c.self.inside.rules _ c.self.inside.capacity c.self.invariant c.args.self.now c.self.view_is c.args.pair c.args.block c.put-before.new.self.items c.put-before.ensures.items

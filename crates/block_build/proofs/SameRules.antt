@@ -10,7 +10,6 @@ use Rattle.net_types.proofs.EqualLemmas.{IsEqualityTest, from_itself}
 use Rattle.net_types.specs.Actions.{action_cmp}
 use Rattle.net_types.specs.Cubes.{lies_within_cube}
 use Rattle.net_types.specs.declared.rule.Rule.{Rule}
-use Rattle.job_laws.specs.Changes.{SameRulesAreEqual}
 
 rule_right : (a b : Rule) → same_rule a b ≡ true → a ≡ b
 rule_right a b e =
@@ -25,6 +24,3 @@ rule_itself a = and_from _ _ (and_from _ _ (within_refl a.cube) (within_refl a.c
 
 pub rules_test : IsEqualityTest (pointwise same_rule)
 rules_test = pointwise_decides (from_itself same_rule rule_right rule_itself)
-
-pub same_rules_are_equal : SameRulesAreEqual
-same_rules_are_equal rules others = rules_test rules others

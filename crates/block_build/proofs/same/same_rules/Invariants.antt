@@ -1,7 +1,8 @@
+-- The rules that are left decide.
 use Rattle.std.proofs.Common.{◌≡◌, drop, length}
 use Rattle.std.specs.Cmp.Lexicographic.{pointwise}
 use Rattle.events.specs.Sound.{same_rule}
-use Rattle.job_end.proofs.changed.same_rules.Given as goal
+use Rattle.block_build.proofs.same.same_rules.Given as goal
 
 abbrev pub invariant-loop-i : goal.invariant-loop-i
 invariant-loop-i l = record {
