@@ -53,7 +53,7 @@ is_some-kept es t kept sorted same = sym (ap (λ m. is_some (get m t)) same) ∙
 pub find_kept : (es : List (Tag × Kept)) (t : Tag) (kept : FinMap tag_cmp (List Part)) → is_sorted tag_cmp es ≡ true → sigs_of es ≡ kept → is_some (get kept t) ≡ true → is_some (find tag_cmp t es) ≡ true
 find_kept es t kept sorted same there = sym (is_some-kept es t kept sorted same) ∙ there
 
-no_sig : (o : Option Kept) → sig_in o ≡ None → o ≡ None
+pub no_sig : (o : Option Kept) → sig_in o ≡ None → o ≡ None
 no_sig None e = refl
 no_sig (Some k) e = let some = ap is_some e in cc
 
