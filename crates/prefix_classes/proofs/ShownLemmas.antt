@@ -1,28 +1,23 @@
 -- What is seen of the entries keeps their tags, one for one, and the numbers of members.
-use Rattle.std.proofs.Common.{◌≡◌, ℕ, ◌+◌, ◌≤◌, Bool, true, false, cond, ◌&&◌, List, [], ◌∷◌, filter, map, ap, refl, arith}
+use Rattle.std.proofs.Common.{◌≡◌, ℕ, ◌+◌, ◌≤◌, Bool, true, false, cond, List, [], ◌∷◌, filter, map, ap, refl, arith}
 use Rattle.std.specs.Prelude.{Option, Some, None, nat_lt, unwrap_or}
-use Rattle.std.specs.FinMap.Entries.{find, is_sorted, below_all}
+use Rattle.std.specs.FinMap.Entries.{find, is_sorted}
 use Rattle.std.specs.Option.{option_map}
 use Rattle.std.specs.Ordering.{eq_by_cmp, is_lt}
 use Rattle.net_types.specs.Keys.{tag_cmp}
 use Rattle.net_types.specs.declared.address.Tag.{Tag}
 use Rattle.ordered_map.specs.Entries.{above}
+use Rattle.prefix_classes.proofs.MappedLemmas.{find-mapped, sorted-mapped}
 use Rattle.prefix_classes.specs.Counts.{has_members, tag_of, used_in}
 use Rattle.prefix_classes.specs.Slots.{Slots, is_at, shown, shown_items, uses}
 use Rattle.prefix_classes.specs.declared.kept.Place.{Place}
 
 module _ (slots : Slots) where
   pub find-shown : (q : Tag) (es : List (Tag × Place)) → find tag_cmp q (shown_items slots es) ≡ option_map (shown slots) (find tag_cmp q es)
-  find-shown q [] = refl
-  find-shown q (e ∷ es) = elim (eq_by_cmp tag_cmp q e.0) as (λ b. cond b (Some (shown slots e.1)) (find tag_cmp q (shown_items slots es)) ≡ option_map (shown slots) (cond b (Some e.1) (find tag_cmp q es))) [ true ↦ refl | false ↦ find-shown q es ]
-
-  below-shown : (x : Tag) (es : List (Tag × Place)) → below_all tag_cmp x (shown_items slots es) ≡ below_all tag_cmp x es
-  below-shown x [] = refl
-  below-shown x (e ∷ es) = ap (λ b. is_lt (tag_cmp x e.0) && b) (below-shown x es)
+  find-shown = find-mapped (shown slots)
 
   pub sorted-shown : (es : List (Tag × Place)) → is_sorted tag_cmp (shown_items slots es) ≡ is_sorted tag_cmp es
-  sorted-shown [] = refl
-  sorted-shown (e ∷ es) = λ i. below-shown e.0 es i && sorted-shown es i
+  sorted-shown = sorted-mapped (shown slots)
 
   -- the entries of greater tags
   pub above-shown : (a : Tag) (es : List (Tag × Place)) → shown_items slots (above tag_cmp a es) ≡ above tag_cmp a (shown_items slots es)
