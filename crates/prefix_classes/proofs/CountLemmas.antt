@@ -1,10 +1,10 @@
 -- The numbers of members that are kept of tags, against the tags of prefixes.
-use Rattle.std.proofs.Common.{◌≡◌, ℕ, ◌+◌, ◌<◌, ◌^◌, Bool, true, false, cond, ◌&&◌, List, [], ◌∷◌, map, length, sym, ap, ◌∙◌, refl, arith}
+use Rattle.std.proofs.Common.{◌≡◌, ℕ, ◌+◌, ◌<◌, ◌^◌, Bool, true, false, cond, List, map, length, sym, ap, ◌∙◌, refl, arith}
 use Rattle.std.specs.Prelude.{Option, Some, None, is_some}
 use Rattle.std.specs.Option.{option_map}
-use Rattle.std.specs.Ordering.{eq_by_cmp, is_lt}
+use Rattle.std.specs.Ordering.{eq_by_cmp}
 use Rattle.std.specs.FinMap.{FinMap, get, insert, remove, entries, same_map}
-use Rattle.std.specs.FinMap.Entries.{find, is_sorted, below_all, find_tied}
+use Rattle.std.specs.FinMap.Entries.{find, is_sorted, find_tied}
 use Rattle.net_types.proofs.OrderLemmas.{tags_total}
 use Rattle.net_types.proofs.PlaceLemmas.{get_sorted}
 use Rattle.net_types.proofs.TieLemmas.{tag_cmp-IsAntisymmetric, tie_Equal}

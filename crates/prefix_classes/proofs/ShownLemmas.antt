@@ -1,6 +1,6 @@
 -- What is seen of the entries keeps their tags, one for one, and the numbers of members.
 use Rattle.std.proofs.Common.{◌≡◌, ℕ, ◌+◌, ◌≤◌, Bool, true, false, cond, List, [], ◌∷◌, filter, map, ap, refl, arith}
-use Rattle.std.specs.Prelude.{Option, Some, None, nat_lt, unwrap_or}
+use Rattle.std.specs.Prelude.{Option, Some, nat_lt, unwrap_or}
 use Rattle.std.specs.FinMap.Entries.{find, is_sorted}
 use Rattle.std.specs.Option.{option_map}
 use Rattle.std.specs.Ordering.{eq_by_cmp, is_lt}

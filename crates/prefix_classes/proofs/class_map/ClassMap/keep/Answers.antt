@@ -1,3 +1,4 @@
+-- A tag whose signature is not kept has no entry, and no prefix has it.
 use Rattle.std.proofs.Common.{sym, ap, subst, ◌∙◌, refl}
 use Rattle.prefix_classes.proofs.CountLemmas.{find_not_kept}
 use Rattle.prefix_classes.proofs.KeepLemmas.{keep_new}

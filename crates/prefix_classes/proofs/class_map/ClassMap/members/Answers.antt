@@ -1,3 +1,4 @@
+-- The number that is kept of a tag is that of its members.
 use Rattle.std.proofs.Common.{ap, ◌∙◌}
 use Rattle.prefix_classes.specs.Classes.{Classes, members}
 use Rattle.prefix_classes.proofs.class_map.ClassMap.members.Goals as goal

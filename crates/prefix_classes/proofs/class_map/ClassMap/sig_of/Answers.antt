@@ -1,3 +1,4 @@
+-- What is kept of a tag is found by its signature.
 use Rattle.std.proofs.Common.{sym, ap, ◌∙◌}
 use Rattle.std.specs.FinMap.{get}
 use Rattle.prefix_classes.proofs.CountLemmas.{get-sigs}

@@ -21,9 +21,8 @@ returns-in-None c =
 pub returns-in-Some : goal.returns-in-Some
 returns-in-Some c =
     let slots = c.self.inside.shared.items in
+    let above_are = ap (shown_items slots) c.iter_after.ensures ∙ above-shown slots c.in-Some.tag c.self.inside.places.items
+    ∙ above_is_greater c.in-Some.tag (shown_items slots c.self.inside.places.items) ∙ ap (λ (s : Held Kept). filter (is_above (Some c.in-Some.tag)) s.items) c.self.view_is in
     c.first_with_members-in-Some.ensures slots
-    ∙ ap (λ es. option_map tag_of (find has_members es)) (
-        ap (shown_items slots) c.iter_after.ensures ∙ above-shown slots c.in-Some.tag c.self.inside.places.items
-        ∙ above_is_greater c.in-Some.tag (shown_items slots c.self.inside.places.items)
-        ∙ ap (λ (s : Held Kept). filter (is_above (Some c.in-Some.tag)) s.items) c.self.view_is)
+    ∙ ap (λ es. option_map tag_of (find has_members es)) above_are
     ∙ ap (λ (after : Option Tag). option_map tag_of (find has_members (filter (is_above after) c.args.self.now.items))) (sym c.in-Some.is)

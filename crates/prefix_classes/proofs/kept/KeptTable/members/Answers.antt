@@ -1,9 +1,7 @@
 -- What is seen of a tag has the number of its place.
-use Rattle.std.proofs.Common.{◌≡◌, sym, ap, ◌∙◌}
+use Rattle.std.proofs.Common.{sym, ap, ◌∙◌}
 use Rattle.std.specs.Prelude.{Option, option_copied}
-use Rattle.std.specs.FinMap.Entries.{find}
 use Rattle.std.specs.Option.{option_map}
-use Rattle.net_types.specs.Keys.{tag_cmp}
 use Rattle.tag_table.specs.Held.{Held}
 use Rattle.prefix_classes.proofs.ShownLemmas.{find-shown}
 use Rattle.prefix_classes.specs.Counts.{counted, members_of}
