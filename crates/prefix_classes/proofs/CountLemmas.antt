@@ -1,10 +1,10 @@
 -- The numbers of members that are kept of tags, against the tags of prefixes.
-use Rattle.std.proofs.Common.{◌≡◌, ℕ, ◌+◌, ◌<◌, ◌^◌, Bool, true, false, cond, ◌&&◌, List, [], ◌∷◌, map, length, sym, ap, ◌∙◌, refl, arith}
+use Rattle.std.proofs.Common.{◌≡◌, ℕ, ◌+◌, ◌<◌, ◌^◌, Bool, true, false, cond, List, map, length, sym, ap, ◌∙◌, refl, arith}
 use Rattle.std.specs.Prelude.{Option, Some, None, is_some}
 use Rattle.std.specs.Option.{option_map}
-use Rattle.std.specs.Ordering.{eq_by_cmp, is_lt}
+use Rattle.std.specs.Ordering.{eq_by_cmp}
 use Rattle.std.specs.FinMap.{FinMap, get, insert, remove, entries, same_map}
-use Rattle.std.specs.FinMap.Entries.{find, is_sorted, below_all, find_tied}
+use Rattle.std.specs.FinMap.Entries.{find, is_sorted, find_tied}
 use Rattle.net_types.proofs.OrderLemmas.{tags_total}
 use Rattle.net_types.proofs.PlaceLemmas.{get_sorted}
 use Rattle.net_types.proofs.TieLemmas.{tag_cmp-IsAntisymmetric, tie_Equal}
@@ -14,6 +14,7 @@ use Rattle.net_types.specs.declared.prefix.Prefix.{Prefix}
 use Rattle.net_types.specs.declared.route.Part.{Part}
 use Rattle.ordered_map.proofs.ChangeLemmas.{find-changed}
 use Rattle.ordered_map.specs.Changes.{changed_at}
+use Rattle.prefix_classes.proofs.MappedLemmas.{find-mapped, sorted-mapped}
 use Rattle.prefix_classes.proofs.MemberLemmas.{members-insert, members-remove, members-le, is_tag-itself, some_member}
 use Rattle.prefix_classes.specs.Classes.{has_tag, members}
 use Rattle.prefix_classes.specs.Counts.{counted, members_of, sig_entry, sigs_of, IsCounted, IsRecounted}
@@ -26,21 +27,12 @@ use Rattle.prefix_classes.specs.declared.members.Recount.TheVariants.{More, Less
 abbrev pub sig_in : Option Kept → Option (List Part)
 sig_in o = option_map (λ (k : Kept). k.sig) o
 
-find-sigs : (q : Tag) (es : List (Tag × Kept)) → find tag_cmp q (map sig_entry es) ≡ sig_in (find tag_cmp q es)
-find-sigs q [] = refl
-find-sigs q (e ∷ es) = elim (eq_by_cmp tag_cmp q e.0) as (λ b. cond b (Some e.1.sig) (find tag_cmp q (map sig_entry es)) ≡ sig_in (cond b (Some e.1) (find tag_cmp q es))) [ true ↦ refl | false ↦ find-sigs q es ]
-
-below-sigs : (x : Tag) (es : List (Tag × Kept)) → below_all tag_cmp x (map sig_entry es) ≡ below_all tag_cmp x es
-below-sigs x [] = refl
-below-sigs x (e ∷ es) = ap (λ b. is_lt (tag_cmp x e.0) && b) (below-sigs x es)
-
 pub sorted-sigs : (es : List (Tag × Kept)) → is_sorted tag_cmp (map sig_entry es) ≡ is_sorted tag_cmp es
-sorted-sigs [] = refl
-sorted-sigs (e ∷ es) = λ i. below-sigs e.0 es i && sorted-sigs es i
+sorted-sigs = sorted-mapped (λ (k : Kept). k.sig)
 
 -- the signature that is kept for a tag
 pub get-sigs : (es : List (Tag × Kept)) (q : Tag) → is_sorted tag_cmp es ≡ true → get (sigs_of es) q ≡ sig_in (find tag_cmp q es)
-get-sigs es q sorted = get_sorted tag_cmp (map sig_entry es) q (sorted-sigs es ∙ sorted) ∙ find-sigs q es
+get-sigs es q sorted = get_sorted tag_cmp (map sig_entry es) q (sorted-sigs es ∙ sorted) ∙ find-mapped (λ (k : Kept). k.sig) q es
 
 is_some-sig : (o : Option Kept) → is_some (sig_in o) ≡ is_some o
 is_some-sig None = refl
@@ -53,7 +45,7 @@ is_some-kept es t kept sorted same = sym (ap (λ m. is_some (get m t)) same) ∙
 pub find_kept : (es : List (Tag × Kept)) (t : Tag) (kept : FinMap tag_cmp (List Part)) → is_sorted tag_cmp es ≡ true → sigs_of es ≡ kept → is_some (get kept t) ≡ true → is_some (find tag_cmp t es) ≡ true
 find_kept es t kept sorted same there = sym (is_some-kept es t kept sorted same) ∙ there
 
-no_sig : (o : Option Kept) → sig_in o ≡ None → o ≡ None
+pub no_sig : (o : Option Kept) → sig_in o ≡ None → o ≡ None
 no_sig None e = refl
 no_sig (Some k) e = let some = ap is_some e in cc
 

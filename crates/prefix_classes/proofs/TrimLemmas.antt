@@ -1,18 +1,18 @@
 -- Trimmed signatures: the tags stay as they are, and each signature is trimmed.
-use Rattle.std.proofs.Common.{◌≡◌, Bool, true, false, cond, ◌&&◌, List, [], ◌∷◌, map, sym, ap, subst, ◌∙◌, refl}
+use Rattle.std.proofs.Common.{◌≡◌, true, List, map, sym, ap, subst, ◌∙◌, refl}
 use Rattle.std.specs.Prelude.{Option, Some, None}
 use Rattle.std.specs.FinMap.{FinMap, get}
-use Rattle.std.specs.FinMap.Entries.{find, is_sorted, below_all}
+use Rattle.std.specs.FinMap.Entries.{find, is_sorted}
 use Rattle.std.specs.Option.{option_map}
-use Rattle.std.specs.Ordering.{eq_by_cmp, is_lt}
 use Rattle.net_types.specs.Keys.{prefix_cmp, tag_cmp}
 use Rattle.net_types.specs.Signatures.{trimmed}
 use Rattle.net_types.specs.declared.address.Pid.{Pid}
 use Rattle.net_types.specs.declared.address.Tag.{Tag}
 use Rattle.net_types.specs.declared.route.Part.{Part}
 use Rattle.prefix_classes.proofs.CountLemmas.{get-sigs, sig_in}
+use Rattle.prefix_classes.proofs.MappedLemmas.{find-mapped, sorted-mapped}
 use Rattle.prefix_classes.specs.Counts.{IsCounted, members_of, sigs_of}
-use Rattle.prefix_classes.specs.Trimmed.{trimmed_entry}
+use Rattle.prefix_classes.specs.Trimmed.{trimmed_entry, trimmed_kept}
 use Rattle.prefix_classes.specs.declared.members.Kept.{Kept}
 
 module _ (who : Pid) (named : List Pid) where
@@ -20,23 +20,7 @@ module _ (who : Pid) (named : List Pid) where
   trim e = trimmed_entry who named e
 
   abbrev trim_kept : Kept → Kept
-  trim_kept k = record k { sig = trimmed who named k.sig }
-
-  find-trimmed : (q : Tag) (es : List (Tag × Kept)) → find tag_cmp q (map trim es) ≡ option_map trim_kept (find tag_cmp q es)
-  find-trimmed q [] = refl
-  find-trimmed q (e ∷ es) = by (eq_by_cmp tag_cmp q e.0) (find-trimmed q es)
-    where
-      by : (b : Bool) → find tag_cmp q (map trim es) ≡ option_map trim_kept (find tag_cmp q es) → cond b (Some (trim_kept e.1)) (find tag_cmp q (map trim es)) ≡ option_map trim_kept (cond b (Some e.1) (find tag_cmp q es))
-      by true rest = refl
-      by false rest = rest
-
-  below-trimmed : (x : Tag) (es : List (Tag × Kept)) → below_all tag_cmp x (map trim es) ≡ below_all tag_cmp x es
-  below-trimmed x [] = refl
-  below-trimmed x (e ∷ es) = ap (λ b. is_lt (tag_cmp x e.0) && b) (below-trimmed x es)
-
-  sorted-trimmed : (es : List (Tag × Kept)) → is_sorted tag_cmp (map trim es) ≡ is_sorted tag_cmp es
-  sorted-trimmed [] = refl
-  sorted-trimmed (e ∷ es) = λ i. below-trimmed e.0 es i && sorted-trimmed es i
+  trim_kept k = trimmed_kept who named k
 
   same_members : (o : Option Kept) → members_of (option_map trim_kept o) ≡ members_of o
   same_members None = refl
@@ -48,13 +32,13 @@ module _ (who : Pid) (named : List Pid) where
 
   counted_trimmed : (m : FinMap prefix_cmp Tag) (es : List (Tag × Kept)) → IsCounted m es → IsCounted m (map trim es)
   counted_trimmed m es is = record {
-    sorted = sorted-trimmed es ∙ is.sorted;
-    counts = λ t. ap members_of (find-trimmed t es) ∙ same_members (find tag_cmp t es) ∙ is.counts t;
+    sorted = sorted-mapped trim_kept es ∙ is.sorted;
+    counts = λ t. ap members_of (find-mapped trim_kept t es) ∙ same_members (find tag_cmp t es) ∙ is.counts t;
   }
 
   get_trimmed : (es : List (Tag × Kept)) → is_sorted tag_cmp es ≡ true → (t : Tag) → get (sigs_of (map trim es)) t ≡ option_map (trimmed who named) (get (sigs_of es) t)
   get_trimmed es sorted t =
-      get-sigs (map trim es) t (sorted-trimmed es ∙ sorted) ∙ ap sig_in (find-trimmed t es) ∙ trimmed_sig (find tag_cmp t es) ∙ ap (option_map (trimmed who named)) (sym (get-sigs es t sorted))
+      get-sigs (map trim es) t (sorted-mapped trim_kept es ∙ sorted) ∙ ap sig_in (find-mapped trim_kept t es) ∙ trimmed_sig (find tag_cmp t es) ∙ ap (option_map (trimmed who named)) (sym (get-sigs es t sorted))
 
   pub counted_whole : (m : FinMap prefix_cmp Tag) (es fs : List (Tag × Kept)) → IsCounted m es → fs ≡ map trim es → IsCounted m fs
   counted_whole m es fs counts is = subst (IsCounted m) (sym is) (counted_trimmed m es counts)
