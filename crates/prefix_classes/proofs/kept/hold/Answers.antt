@@ -1,0 +1,1 @@
+use Rattle.prefix_classes.proofs.kept.hold.Goals as goal
