@@ -1,14 +1,12 @@
 -- What is seen of tags stays as the places of shared signatures change, as long as those that are held stay, and no more tags hold one than are counted.
-use Rattle.std.proofs.Common.{◌≡◌, ◌≢◌, inl, inr, ℕ, zero, suc, ◌+◌, ◌<◌, ◌≤◌, Bool, true, false, cond, not, ◌&&◌, List, [], ◌∷◌, ◌++◌, length, map, take, drop, drop-cons, get_or, add-one, nat_eq, sym, ap, subst, ◌∙◌, refl, arith}
-use Rattle.std.specs.Prelude.{Option, Some, None, is_some, slice_set, option_copied}
+use Rattle.std.proofs.Common.{◌≡◌, ℕ, zero, suc, ◌+◌, ◌<◌, ◌≤◌, Bool, if◌then◌else◌, true, false, cond, not, ◌&&◌, List, [], ◌∷◌, ◌++◌, length, map, take, drop, drop-cons, get_or, add-one, sym, ap, ◌∙◌, refl, arith}
+use Rattle.std.specs.Prelude.{Option, Some, None, is_some}
 use Rattle.std.specs.Option.{option_map}
 use Rattle.std.specs.Ordering.{eq_by_cmp, is_eq, is_lt}
-use Rattle.std.specs.declared.cmp.Ordering.{Ordering}
 use Rattle.std.specs.declared.cmp.Ordering.TheVariants.{Less, Equal, Greater}
 use Rattle.std.specs.FinMap.Entries.{find, put, is_sorted, below_all, by_order}
 use Rattle.std.proofs.Math.Seq.{take-append_seam}
-use Rattle.std.proofs.lemmas.Bool.{eq-eqb, eqb-true}
-use Rattle.std.proofs.lemmas.Bool.Decides.{eqb_tells}
+use Rattle.std.proofs.lemmas.Bool.{eq-eqb}
 use Rattle.net_types.specs.Keys.{tag_cmp}
 use Rattle.net_types.specs.Signatures.{trimmed}
 use Rattle.net_types.specs.declared.address.Pid.{Pid}
@@ -18,7 +16,7 @@ use Rattle.ordered_map.specs.Changes.{changed_all, changed_at, with_values}
 use Rattle.ordered_map.specs.Entries.{without, without_each}
 use Rattle.tag_table.specs.Entries.{value_in}
 use Rattle.prefix_classes.specs.Recounted.{recounted}
-use Rattle.prefix_classes.specs.Slots.{AreShared, IsFree, Slots, is_at, recounted_place, shown, shown_items, shown_sig, sig_at, sig_in, tags_at, tags_in, trimmed_held, trimmed_place, trimmed_shared, uses}
+use Rattle.prefix_classes.specs.Slots.{AreShared, Slots, is_at, recounted_place, shown, shown_items, shown_sig, sig_at, sig_in, tags_at, tags_in, trimmed_held, trimmed_place, trimmed_shared, uses}
 use Rattle.prefix_classes.specs.Trimmed.{trimmed_entry, trimmed_kept}
 use Rattle.prefix_classes.specs.declared.kept.Held.{Held}
 use Rattle.prefix_classes.specs.declared.kept.Held.TheVariants.{At, Own}
@@ -30,29 +28,16 @@ use Rattle.prefix_classes.specs.declared.members.Recount.TheVariants.{More, Less
 
 -- ---- the places
 
-pub value_push : {V : Type 0} (xs : List (Option V)) (n : ℕ) → value_in (xs ++ None ∷ []) n ≡ value_in xs n
+-- a place that is made has nothing
+value_push : {V : Type 0} (xs : List (Option V)) (n : ℕ) → value_in (xs ++ None ∷ []) n ≡ value_in xs n
 value_push [] zero = refl
 value_push [] (suc n) = refl
 value_push (x ∷ xs) zero = refl
 value_push (x ∷ xs) (suc n) = value_push xs n
 
-value_here : {V : Type 0} (xs : List (Option V)) (i : ℕ) (p : Option V) → i < length xs → value_in (slice_set xs i p) i ≡ p
-value_here [] i p h = absurd (omega arith)
-value_here (x ∷ xs) zero p h = refl
-value_here (x ∷ xs) (suc i) p h = value_here xs i p (omega arith)
-
-value_beside : {V : Type 0} (xs : List (Option V)) (i : ℕ) (p : Option V) (n : ℕ) → n ≢ i → value_in (slice_set xs i p) n ≡ value_in xs n
-value_beside [] i p n apart = refl
-value_beside (x ∷ xs) zero p zero apart = absurd (apart refl)
-value_beside (x ∷ xs) zero p (suc n) apart = refl
-value_beside (x ∷ xs) (suc i) p zero apart = refl
-value_beside (x ∷ xs) (suc i) p (suc n) apart = value_beside xs i p n (λ same. apart (ap suc same))
-
-value_set : {V : Type 0} (xs : List (Option V)) (i : ℕ) (p : Option V) (n : ℕ) → i < length xs → value_in (slice_set xs i p) n ≡ cond (nat_eq n i) p (value_in xs n)
-value_set xs i p n h = elim (eqb_tells n i) [
-  | inl same ↦ ap (value_in (slice_set xs i p)) same.1 ∙ value_here xs i p h ∙ sym (ap (λ b. cond b p (value_in xs n)) same.0)
-  | inr apart ↦ value_beside xs i p n apart.1 ∙ sym (ap (λ b. cond b p (value_in xs n)) apart.0)
-]
+pub value_made : {V : Type 0} (made : Bool) (xs ys : List (Option V)) → ys ≡ (if made then xs ++ None ∷ [] else xs) → (n : ℕ) → value_in ys n ≡ value_in xs n
+value_made true xs ys is n = ap (λ s. value_in s n) is ∙ value_push xs n
+value_made false xs ys is n = ap (λ s. value_in s n) is
 
 -- what is read of a place
 pub value_read : {V : Type 0} (xs : List (Option V)) (i : ℕ) (d : Option V) → i < length xs → value_in xs i ≡ get_or xs i d
@@ -66,30 +51,6 @@ written n xs ys same size = ap (λ m. take m (xs ++ drop (length xs) ys)) (size 
 
 itself : (n : ℕ) → is_at n (At n) ≡ 1
 itself n = ap {B = ℕ} (λ b. cond b 1 0) (eq-eqb n n refl)
-
--- a signature comes to a free place
-module _ (xs : Slots) (i : ℕ) (s : Shared) (free : IsFree xs i) where
-  none_here : (n : ℕ) → nat_eq n i ≡ true → tags_at xs n ≡ 0
-  none_here n same = ap (tags_at xs) (eqb-true n i same) ∙ ap tags_in free.free
-
-  pub placed_sig : sig_at (slice_set xs i (Some s)) i ≡ s.sig
-  placed_sig = ap sig_in (value_set xs i (Some s) i free.within) ∙ ap (λ b. sig_in (cond b (Some s) (value_in xs i))) (eq-eqb i i refl)
-
-  pub placed_tags : 1 ≤ s.tags → (n : ℕ) → tags_at xs n + is_at n (At i) ≤ tags_at (slice_set xs i (Some s)) n
-  placed_tags some n =
-      subst (λ o. tags_at xs n + is_at n (At i) ≤ tags_in o) (sym (value_set xs i (Some s) n free.within))
-      (elim (nat_eq n i) as (λ b. nat_eq n i ≡ b → tags_at xs n + cond b 1 0 ≤ tags_in (cond b (Some s) (value_in xs n))) [
-        | true ↦ λ same. let none = none_here n same in omega (arith, none, some)
-        | false ↦ λ apart. omega arith
-      ] refl)
-
-  pub placed_kept : (n : ℕ) → 0 < tags_at xs n → sig_at (slice_set xs i (Some s)) n ≡ sig_at xs n
-  placed_kept n some =
-      ap sig_in (value_set xs i (Some s) n free.within)
-      ∙ elim (nat_eq n i) as (λ b. nat_eq n i ≡ b → sig_in (cond b (Some s) (value_in xs n)) ≡ sig_in (value_in xs n)) [
-        | true ↦ λ same. (let none = none_here n same in absurd (omega (arith, none, some)))
-        | false ↦ λ apart. refl
-      ] refl
 
 -- where a tag holds a signature, there is one
 pub held_there : (xs : Slots) (i : ℕ) → ((n : ℕ) → is_at n (At i) ≤ tags_at xs n) → value_in xs i ≡ None → ⊥
@@ -223,19 +184,24 @@ module _ (before : Slots) (t : Tag) (es fs : List (Tag × Place)) (shared : AreS
   pub none_left : shown_items before fs ≡ without tag_cmp t (shown_items before es)
   none_left = ap (shown_items before) is ∙ shown-without before t es
 
-  module _ (after : Slots) (p : Place) (was : Some p ≡ find tag_cmp t es) (tags : (n : ℕ) → tags_at before n ≤ tags_at after n + is_at n p.held) where
+  -- the places are lent as a slice, and come back
+  module _ (lent : Slots) (same : lent ≡ before) (after next : Slots) (back : next ≡ after) (p : Place) (was : Some p ≡ find tag_cmp t es) (tags : (n : ℕ) → tags_at lent n ≤ tags_at after n + is_at n p.held) where
     fewer : (n : ℕ) → uses n fs ≤ tags_at after n
     fewer n =
         let left = left_uses n in
         let one = ap (held_by n) was in
+        let had = ap (λ slots. tags_at slots n) same in
         let less = tags n in
-        omega (arith, left, one, less)
+        omega (arith, left, one, had, less)
 
-    pub took_shared : AreShared after fs
-    took_shared = record { sorted = sorted; counted = fewer }
+    pub took_shared : AreShared next fs
+    took_shared = record { sorted = sorted; counted = λ n. let all = ap (λ slots. tags_at slots n) back in let few = fewer n in omega (arith, all, few) }
 
-    pub took_left : ((n : ℕ) → 0 < tags_at after n → sig_at after n ≡ sig_at before n) → shown_items after fs ≡ without tag_cmp t (shown_items before es)
-    took_left kept = same_shown before after fs (λ n some. kept n (let few = fewer n in omega (arith, some, few))) ∙ none_left
+    pub took_left : ((n : ℕ) → 0 < tags_at after n → sig_at after n ≡ sig_at lent n) → shown_items next fs ≡ without tag_cmp t (shown_items before es)
+    took_left kept =
+        ap (λ slots. shown_items slots fs) back
+        ∙ same_shown before after fs (λ n some. kept n (let few = fewer n in omega (arith, some, few)) ∙ ap (λ slots. sig_at slots n) same)
+        ∙ none_left
 
 -- the next one of several tags
 pub without_next : (qs : List Tag) (i : ℕ) (d : Tag) (es fs : List (Tag × Kept)) → i < length qs → fs ≡ without tag_cmp (get_or qs i d) es → without_each tag_cmp (drop (i + 1) qs) fs ≡ without_each tag_cmp (drop i qs) es
@@ -243,22 +209,6 @@ without_next qs i d es fs h is =
     ap (λ m. without_each tag_cmp (drop m qs) fs) (add-one i)
     ∙ ap (without_each tag_cmp (drop (suc i) qs)) is
     ∙ ap (λ ts. without_each tag_cmp ts es) (sym (drop-cons qs i d h))
-
--- ---- places that are made
-
-module _ (before after : Slots) (es fs : List (Tag × Place)) (same : (n : ℕ) → value_in after n ≡ value_in before n) (is : fs ≡ es) where
-  pub made_shared : AreShared before es → AreShared after fs
-  made_shared shared = record {
-    sorted = ap (is_sorted tag_cmp) is ∙ shared.sorted;
-    counted = λ n.
-        let all = ap (uses n) is in
-        let had = shared.counted n in
-        let tags = ap tags_in (same n) in
-        omega (arith, all, had, tags);
-  }
-
-  pub made_shown : shown_items after fs ≡ shown_items before es
-  made_shown = ap (shown_items after) is ∙ same_shown before after es (λ n some. ap sig_in (same n))
 
 -- ---- one member more or less
 

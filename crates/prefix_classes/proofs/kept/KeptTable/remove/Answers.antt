@@ -1,3 +1,4 @@
+-- The tags that are left rise.
 use Rattle.std.proofs.Common.{◌∙◌}
 use Rattle.prefix_classes.proofs.SlotLemmas.{sorted-shown}
 use Rattle.prefix_classes.proofs.kept.KeptTable.remove.Goals as goal

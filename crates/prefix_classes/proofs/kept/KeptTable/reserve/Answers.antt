@@ -1,3 +1,4 @@
+-- Places that are made hold nothing.
 use Rattle.std.proofs.Common.{◌∙◌}
 use Rattle.prefix_classes.proofs.SlotLemmas.{sorted-shown}
 use Rattle.prefix_classes.proofs.kept.KeptTable.reserve.Goals as goal

@@ -1,1 +1,0 @@
-use Rattle.prefix_classes.proofs.kept.hold.Goals as goal
