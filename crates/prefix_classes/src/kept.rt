@@ -10,7 +10,7 @@ ghost use Rattle.ordered_map.specs.Entries.{without, without_each};
 ghost use Rattle.tag_table.specs.Entries.{value_in};
 ghost use Rattle.prefix_classes.specs.Counts.{counted, has_members, is_above, tag_of, used_in};
 ghost use Rattle.prefix_classes.specs.Recounted.{recounted};
-ghost use Rattle.prefix_classes.specs.Slots.{AreJoined, IsFree, IsJoinable, IsSignature, is_at, recounted_place, shown_items, shown_sig, sig_at, sig_of, tags_at, trimmed_place, trimmed_shared};
+ghost use Rattle.prefix_classes.specs.Slots.{AreJoined, AreShared, IsFree, IsJoinable, IsSignature, is_at, recounted_place, shown_items, shown_sig, sig_at, sig_of, tags_at, trimmed_place, trimmed_shared};
 ghost use Rattle.prefix_classes.specs.Trimmed.{trimmed_entry};
 ghost use Rattle.prefix_classes.specs.declared.kept.Held.TheVariants.{At};
 ghost use Rattle.prefix_classes.specs.declared.kept.Shared.{Shared as AnyShared};
@@ -163,6 +163,16 @@ fn release(shared: &mut [Option<Shared>], held: Held)
     }
 }
 
+/// What is shared at a place.
+fn shared_at(shared: &[Option<Shared>], at: usize) -> Option<&Shared>
+    ensures { option_copied result ≡ value_in shared.now at }
+{
+    match shared.get(at) {
+        Some(place) => place.as_ref(),
+        None => None,
+    }
+}
+
 /// The signature that a tag holds.
 fn signature<'a>(shared: &'a [Option<Shared>], held: &'a Held) -> &'a Sig
     requires { (n : ℕ) → is_at n held.now ≤ tags_at shared.now n }
@@ -170,10 +180,23 @@ fn signature<'a>(shared: &'a [Option<Shared>], held: &'a Held) -> &'a Sig
 {
     match held {
         Held::Own(sig) => sig,
-        Held::At(at) => match shared.get(*at) {
-            Some(Some(one)) => &one.sig,
-            _ => unreachable!(),
+        Held::At(at) => match shared_at(shared, *at) {
+            Some(one) => &one.sig,
+            None => unreachable!(),
         },
+    }
+}
+
+/// Takes a tag out, and gives up what it held.
+fn take_out(places: &mut TagTable<Place>, shared: &mut Vec<Option<Shared>>, tag: Tag)
+    requires { AreShared shared.old.items places.old.items }
+    ensures shared { AreShared shared.new.items places.new.items }
+    ensures items { shown_items shared.new.items places.new.items ≡ without tag_cmp tag (shown_items shared.old.items places.old.items) }
+    ensures room { places.new.room ≡ places.old.room }
+{
+    match places.remove(tag) {
+        Some(place) => release(shared, place.held),
+        None => {}
     }
 }
 
@@ -206,14 +229,21 @@ impl<'a> Change<Place> for Trim<'a> {
     }
 }
 
+/// Takes a sender's offers that don't count out of the signature at a place.
+fn trim_one(alloc: Global, one: &mut Option<Shared>, who: Pid, named: &[Pid])
+    ensures { one.new ≡ trimmed_shared who named.now one.old }
+{
+    if let Some(one) = one {
+        trim_sig(alloc, &mut one.sig, who, named);
+    }
+}
+
 /// Takes a sender's offers that don't count out of the signatures that are shared.
 fn trim_shared(alloc: Global, shared: &mut [Option<Shared>], who: Pid, named: &[Pid])
     ensures { shared.new ≡ map (trimmed_shared who named.now) shared.old }
 {
     for one in shared.iter_mut() {
-        if let Some(one) = one {
-            trim_sig(alloc, &mut one.sig, who, named);
-        }
+        trim_one(alloc, one, who, named);
     }
 }
 
@@ -297,10 +327,7 @@ impl KeptTable {
         ensures rising { IsTrue (is_sorted tag_cmp self.new.items) }
         ensures room { self.new.room ≡ self.old.room }
     {
-        match self.places.remove(tag) {
-            Some(place) => release(&mut self.shared, place.held),
-            None => {}
-        }
+        take_out(&mut self.places, &mut self.shared, tag);
     }
 
     /// Takes these tags out.
@@ -310,7 +337,7 @@ impl KeptTable {
         ensures room { self.new.room ≡ self.old.room }
     {
         for &tag in tags {
-            self.remove(tag);
+            take_out(&mut self.places, &mut self.shared, tag);
         }
     }
 
