@@ -1,10 +1,10 @@
 -- What is seen of tags stays as the places of shared signatures change, as long as those that are held stay, and no more tags hold one than are counted.
-use Rattle.std.proofs.Common.{◌≡◌, ℕ, zero, suc, ◌+◌, ◌<◌, ◌≤◌, Bool, if◌then◌else◌, true, false, cond, not, ◌&&◌, List, [], ◌∷◌, ◌++◌, length, map, take, drop, drop-cons, get_or, add-one, sym, ap, ◌∙◌, refl, arith}
+use Rattle.std.proofs.Common.{◌≡◌, ℕ, zero, suc, ◌+◌, ◌<◌, ◌≤◌, Bool, if◌then◌else◌, true, false, cond, not, List, [], ◌∷◌, ◌++◌, length, map, take, drop, drop-cons, get_or, add-one, sym, ap, ◌∙◌, refl, arith}
 use Rattle.std.specs.Prelude.{Option, Some, None, is_some}
 use Rattle.std.specs.Option.{option_map}
-use Rattle.std.specs.Ordering.{eq_by_cmp, is_eq, is_lt}
+use Rattle.std.specs.Ordering.{eq_by_cmp, is_eq}
 use Rattle.std.specs.declared.cmp.Ordering.TheVariants.{Less, Equal, Greater}
-use Rattle.std.specs.FinMap.Entries.{find, put, is_sorted, below_all, by_order}
+use Rattle.std.specs.FinMap.Entries.{find, put, is_sorted, by_order}
 use Rattle.std.proofs.Math.Seq.{take-append_seam}
 use Rattle.std.proofs.lemmas.Bool.{eq-eqb}
 use Rattle.net_types.specs.Keys.{tag_cmp}
@@ -15,7 +15,7 @@ use Rattle.net_types.specs.declared.route.Part.{Part}
 use Rattle.ordered_map.specs.Changes.{changed_all, changed_at, with_values}
 use Rattle.ordered_map.specs.Entries.{without, without_each}
 use Rattle.tag_table.specs.Entries.{value_in}
-use Rattle.prefix_classes.proofs.ShownLemmas.{find-shown, sorted-shown}
+use Rattle.prefix_classes.proofs.ShownLemmas.{find-shown}
 use Rattle.prefix_classes.specs.Recounted.{recounted}
 use Rattle.prefix_classes.specs.Slots.{AreShared, Slots, is_at, recounted_place, shown, shown_items, shown_sig, sig_at, sig_in, tags_at, tags_in, trimmed_held, trimmed_place, trimmed_shared, uses}
 use Rattle.prefix_classes.specs.Trimmed.{trimmed_entry, trimmed_kept}
