@@ -1,5 +1,5 @@
 -- Rules that pass as the same are equal.
-use Rattle.std.proofs.Common.{◌≡◌, true, sym, ap, ◌∙◌}
+use Rattle.std.proofs.Common.{sym, ap, ◌∙◌}
 use Rattle.std.specs.Cmp.Lexicographic.{pointwise}
 use Rattle.events.specs.Sound.{same_rule}
 use Rattle.block_build.proofs.SameRules.{rules_test}
