@@ -1,4 +1,4 @@
-//! Rules that were put in last. A pair with equal ones shares these.
+//! Rules that were put in last. A pair that gets equal ones shares them.
 
 ghost use Rattle.std.specs.Prelude.{◌≡◌, IfSome};
 
@@ -16,8 +16,10 @@ const MOST: usize = 16;
 #[derive(Drop)]
 pub(crate) struct Recent {
     blocks: Vec<Block>,
-    /// The place of the one that was put in last, which the next pair often has too.
+    /// The place of the one that was put in or met last, which the next pair often has too.
     last: usize,
+    /// The place that the next other block takes.
+    next: usize,
 }
 
 /// A further owner of the rules at a place, where these are equal.
@@ -42,10 +44,18 @@ impl Recent {
         Recent {
             blocks: Vec::new(alloc),
             last: 0,
+            next: 0,
         }
     }
 
-    /// The same rules, of which a pair that was put in is an owner too where it has equal ones and is remembered.
+    /// Makes the places of blocks. Where memory is wanting there are none, and no rules are shared.
+    pub(crate) fn make_places(&mut self) {
+        if self.blocks.capacity() < MOST {
+            let _ = self.blocks.reserve(MOST);
+        }
+    }
+
+    /// The same rules: those of a remembered block where it has equal ones; else these, which are remembered.
     pub(crate) fn shared(&mut self, block: Block) -> Block
         ensures { result ≡ block }
     {
@@ -77,21 +87,19 @@ impl Recent {
         None
     }
 
-    // Remembers rules, in the place of others where they are too many. Where memory is wanting they aren't.
+    // Remembers rules, in the place of the earliest ones where there are enough. It takes no memory.
     fn remember(&mut self, block: &Block) {
         let Ok(twin) = block.copy() else {
             return;
         };
-        let count = self.blocks.len();
-        if count < MOST {
-            if self.blocks.push(twin).is_ok() {
-                self.last = count;
-            }
+        let at = self.next;
+        if at < self.blocks.len() {
+            self.blocks[at] = twin;
+        } else if at >= self.blocks.capacity() || self.blocks.push(twin).is_err() {
             return;
         }
-        let after = self.last.saturating_add(1);
-        let next = if after < count { after } else { 0 };
-        self.blocks[next] = twin;
-        self.last = next;
+        let after = at.saturating_add(1);
+        self.last = at;
+        self.next = if after < MOST { after } else { 0 };
     }
 }

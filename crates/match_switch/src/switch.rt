@@ -24,7 +24,9 @@ pub struct Switch {
     pub(crate) entries: OrderedMap<Pair, Block>,
     /// How many rules there are.
     rules: usize,
+    /// For how many rules there is room.
     pub(crate) capacity: usize,
+    /// Rules that were put in last.
     pub(crate) recent: Recent,
 }
 
@@ -88,7 +90,7 @@ impl Switch {
         }
     }
 
-    /// Makes room for so many new pairs. It takes memory only where there is less.
+    /// Makes room for so many new pairs, and places for rules that pairs share. Memory is wanting only where there is less room.
     pub fn reserve(&mut self, pairs: usize) -> Result<(), Memory>
         ensures table { self.new.table ≡ self.old.table }
         ensures capacity { self.new.capacity ≡ self.old.capacity }
@@ -96,6 +98,7 @@ impl Switch {
         ensures kept { self.old.room ≤ self.new.room }
         ensures enough { pairs ≤ self.old.room → IsOk result }
     {
+        self.recent.make_places();
         self.entries.reserve(pairs)?;
         Ok(())
     }

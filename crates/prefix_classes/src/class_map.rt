@@ -54,8 +54,8 @@ impl ClassMap {
         }
     }
 
-    /// Makes room for so many new prefixes, and for each tag below a number. It takes memory only where there is less: for the
-    /// tags a table with a place for each of them.
+    /// Makes room for so many new prefixes, and for each tag below a number: a table with a place for each of them, and places
+    /// for signatures that tags share. Memory is wanting only where there is less room.
     pub fn reserve(&mut self, prefixes: usize, tags: usize) -> Result<(), Memory>
         ensures tag { self.new.tag ≡ self.old.tag }
         ensures kept { self.new.kept ≡ self.old.kept }

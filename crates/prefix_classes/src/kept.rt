@@ -24,7 +24,7 @@ use std::alloc::{AllocError, Global};
 use std::marker::Model;
 use tag_table::{Iter, TagTable};
 
-/// So many different signatures are shared at most. It is looked at each of them when a tag is kept.
+/// So many different signatures are shared at most. Each of them is looked at when a tag is kept.
 const MOST: usize = 16;
 
 /// A signature, and how many tags share it.
@@ -260,7 +260,8 @@ impl KeptTable {
         }
     }
 
-    /// Makes room for the tags whose numbers are less than this one. Memory is wanting only where there is less.
+    /// Makes room for the tags whose numbers are less than this one, and places for signatures that tags share. Memory is
+    /// wanting only where there is less room.
     pub(crate) fn reserve(&mut self, tags: usize) -> Result<(), AllocError>
         ensures items { self.new.items ≡ self.old.items }
         ensures rising { IsTrue (is_sorted tag_cmp self.new.items) }

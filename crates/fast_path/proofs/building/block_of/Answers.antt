@@ -1,7 +1,7 @@
 -- What is right for a view is right for the policies, whether it is built by the view or was before.
-use Rattle.std.proofs.Common.{ap, subst, sym, ◌∙◌}
+use Rattle.std.proofs.Common.{ap, subst, ◌∙◌}
 use Rattle.std.specs.Prelude.{IfSome}
-use Rattle.block_build.specs.Right.{IsRightFor, are_for_any_port}
+use Rattle.block_build.specs.Right.{are_for_any_port}
 use Rattle.fast_path.proofs.LastLemmas.{lasts-more}
 use Rattle.fast_path.specs.Last.{IsRightByViews}
 use Rattle.fast_path.proofs.building.block_of.Goals as goal
