@@ -1,12 +1,14 @@
--- What is seen of tags stays as the places of shared signatures change, as long as those that are held stay, and no more tags hold one than are counted.
-use Rattle.std.proofs.Common.{◌≡◌, ℕ, zero, suc, ◌+◌, ◌<◌, ◌≤◌, Bool, if◌then◌else◌, true, false, cond, not, List, [], ◌∷◌, ◌++◌, length, map, take, drop, drop-cons, get_or, add-one, sym, ap, ◌∙◌, refl, arith}
+-- What is seen of tags stays as the slots of shared signatures change, as long as those that are held stay, and as many tags hold one as are counted.
+use Rattle.std.proofs.Common.{◌≡◌, ℕ, zero, suc, ◌+◌, ◌<◌, ◌≤◌, Bool, if◌then◌else◌, true, false, cond, not, List, [], ◌∷◌, ◌++◌, length, map, take, drop, drop-cons, get_or, add-one, sym, subst, ap, ◌∙◌, refl, arith}
 use Rattle.std.specs.Prelude.{Option, Some, None, is_some}
 use Rattle.std.specs.Option.{option_map}
-use Rattle.std.specs.Ordering.{eq_by_cmp, is_eq}
+use Rattle.std.specs.Ordering.{eq_by_cmp, is_eq, is_lt}
+use Rattle.std.specs.declared.cmp.Ordering.{Ordering}
 use Rattle.std.specs.declared.cmp.Ordering.TheVariants.{Less, Equal, Greater}
-use Rattle.std.specs.FinMap.Entries.{find, put, is_sorted, by_order}
+use Rattle.std.specs.FinMap.Entries.{find, put, is_sorted, below_all, by_order}
 use Rattle.std.proofs.Math.Seq.{take-append_seam}
-use Rattle.std.proofs.lemmas.Bool.{eq-eqb}
+use Rattle.std.proofs.lemmas.Bool.{and_parts, eq-eqb}
+use Rattle.net_types.proofs.OrderLemmas.{tags_total}
 use Rattle.net_types.specs.Keys.{tag_cmp}
 use Rattle.net_types.specs.Signatures.{trimmed}
 use Rattle.net_types.specs.declared.address.Pid.{Pid}
@@ -15,21 +17,21 @@ use Rattle.net_types.specs.declared.route.Part.{Part}
 use Rattle.ordered_map.specs.Changes.{changed_all, changed_at, with_values}
 use Rattle.ordered_map.specs.Entries.{without, without_each}
 use Rattle.tag_table.specs.Entries.{value_in}
-use Rattle.prefix_classes.proofs.ShownLemmas.{find-shown}
+use Rattle.prefix_classes.proofs.ShownLemmas.{find-shown, found_counts}
 use Rattle.prefix_classes.specs.Recounted.{recounted}
-use Rattle.prefix_classes.specs.Slots.{AreShared, Slots, is_at, recounted_place, shown, shown_items, shown_sig, sig_at, sig_in, tags_at, tags_in, trimmed_held, trimmed_place, trimmed_shared, uses}
+use Rattle.prefix_classes.specs.Slots.{AreShared, AreUsed, Slots, is_at, recounted_place, shared_sig, shared_tags, shown, shown_items, shown_sig, sig_at, tags_at, trimmed_held, trimmed_place, trimmed_shared, uses}
 use Rattle.prefix_classes.specs.Trimmed.{trimmed_entry, trimmed_kept}
-use Rattle.prefix_classes.specs.declared.kept.Held.{Held}
-use Rattle.prefix_classes.specs.declared.kept.Held.TheVariants.{At, Own}
+use Rattle.prefix_classes.specs.declared.kept.Holding.{Holding}
+use Rattle.prefix_classes.specs.declared.kept.Holding.TheVariants.{At, Own}
 use Rattle.prefix_classes.specs.declared.kept.Place.{Place}
 use Rattle.prefix_classes.specs.declared.kept.Shared.{Shared}
 use Rattle.prefix_classes.specs.declared.members.Kept.{Kept}
 use Rattle.prefix_classes.specs.declared.members.Recount.{Recount}
 use Rattle.prefix_classes.specs.declared.members.Recount.TheVariants.{More, Less as Fewer}
 
--- ---- the places
+-- ---- the slots
 
--- a place that is made has nothing
+-- a slot that is made has nothing
 value_push : {V : Type 0} (xs : List (Option V)) (n : ℕ) → value_in (xs ++ None ∷ []) n ≡ value_in xs n
 value_push [] zero = refl
 value_push [] (suc n) = refl
@@ -40,7 +42,7 @@ pub value_made : {V : Type 0} (made : Bool) (xs ys : List (Option V)) → ys ≡
 value_made true xs ys is n = ap (λ s. value_in s n) is ∙ value_push xs n
 value_made false xs ys is n = ap (λ s. value_in s n) is
 
--- what is read of a place
+-- what is read of a slot
 pub value_read : {V : Type 0} (xs : List (Option V)) (i : ℕ) (d : Option V) → i < length xs → value_in xs i ≡ get_or xs i d
 value_read [] i d h = absurd (omega arith)
 value_read (x ∷ xs) zero d h = refl
@@ -58,7 +60,7 @@ pub held_there : (xs : Slots) (i : ℕ) → ((n : ℕ) → is_at n (At i) ≤ ta
 held_there xs i held none =
     let one = itself i in
     let few = held i in
-    let zero = ap tags_in none in
+    let zero = ap shared_tags none in
     omega (arith, one, few, zero)
 
 -- ---- what is seen of the entries
@@ -93,9 +95,9 @@ shown-values : (slots next : Slots) (f : Tag → Place → Place) (g : Tag → K
 shown-values slots next f g same [] = refl
 shown-values slots next f g same (e ∷ es) = λ i. (e.0, same e.0 e.1 i) ∷ shown-values slots next f g same es i
 
--- places where each signature that is held stays
+-- slots where each signature that is held stays
 module _ (before after : Slots) where
-  same_held : (held : Held) → ((n : ℕ) → 0 < is_at n held → sig_at after n ≡ sig_at before n) → shown_sig after held ≡ shown_sig before held
+  same_held : (held : Holding) → ((n : ℕ) → 0 < is_at n held → sig_at after n ≡ sig_at before n) → shown_sig after held ≡ shown_sig before held
   same_held (Own sig) same = refl
   same_held (At n) same = same n (let one = itself n in omega (arith, one))
 
@@ -107,6 +109,24 @@ module _ (before after : Slots) where
       λ i. (e.0, record { sig = sig i; members = e.1.members }) ∷ rest i
 
 -- ---- how many of the entries hold a signature
+
+equal : (r : Ordering) → is_eq r ≡ true → r ≡ Equal
+equal Less e = cc
+equal Equal e = refl
+equal Greater e = cc
+
+other : (r : Ordering) → is_lt r ≡ true → is_eq r ≡ false
+other Less e = refl
+other Equal e = cc
+other Greater e = cc
+
+-- a tag whose entry is behind has no other
+without_below : (t x : Tag) (es : List (Tag × Place)) → tag_cmp t x ≡ Equal → below_all tag_cmp x es ≡ true → without tag_cmp t es ≡ es
+without_below t x [] tie below = refl
+without_below t x (e ∷ es) tie below =
+    let parts = and_parts (is_lt (tag_cmp x e.0)) (below_all tag_cmp x es) below in
+    ap (λ b. cond (not b) (e ∷ without tag_cmp t es) (without tag_cmp t es)) (ap is_eq (tags_total.congr t x e.0 tie) ∙ other _ parts.0)
+    ∙ ap (λ ds. e ∷ ds) (without_below t x es tie parts.1)
 
 abbrev held_by : ℕ → Option Place → ℕ
 held_by n None = 0
@@ -122,14 +142,16 @@ module _ (n : ℕ) where
         | Greater ↦ λ missing. let rest = uses-put t p es missing in omega (arith, rest)
       ] none
 
-  uses-without : (t : Tag) (es : List (Tag × Place)) → uses n (without tag_cmp t es) + held_by n (find tag_cmp t es) ≤ uses n es
-  uses-without t [] = omega arith
-  uses-without t (e ∷ es) =
-      let rest = uses-without t es in
-      elim (eq_by_cmp tag_cmp t e.0) as (λ b. uses n (cond (not b) (e ∷ without tag_cmp t es) (without tag_cmp t es)) + held_by n (cond b (Some e.1) (find tag_cmp t es)) ≤ is_at n e.1.held + uses n es) [
-        | true ↦ omega (arith, rest)
-        | false ↦ omega (arith, rest)
-      ]
+  uses-without : (t : Tag) (es : List (Tag × Place)) → is_sorted tag_cmp es ≡ true → uses n (without tag_cmp t es) + held_by n (find tag_cmp t es) ≡ uses n es
+  uses-without t [] sorted = refl
+  uses-without t (e ∷ es) sorted = by (eq_by_cmp tag_cmp t e.0) refl (uses-without t es parts.1)
+    where
+      parts : (below_all tag_cmp e.0 es ≡ true) × (is_sorted tag_cmp es ≡ true)
+      parts = and_parts (below_all tag_cmp e.0 es) (is_sorted tag_cmp es) sorted
+
+      by : (b : Bool) → eq_by_cmp tag_cmp t e.0 ≡ b → uses n (without tag_cmp t es) + held_by n (find tag_cmp t es) ≡ uses n es → uses n (cond (not b) (e ∷ without tag_cmp t es) (without tag_cmp t es)) + held_by n (cond b (Some e.1) (find tag_cmp t es)) ≡ is_at n e.1.held + uses n es
+      by true tie rest = let left = ap (uses n) (without_below t e.0 es (equal _ tie) parts.0) in omega (arith, left)
+      by false apart rest = omega (arith, rest)
 
   uses-values : (f : Tag → Place → Place) → ((t : Tag) (p : Place) → is_at n (f t p).held ≡ is_at n p.held) → (es : List (Tag × Place)) → uses n (with_values f es) ≡ uses n es
   uses-values f same [] = refl
@@ -137,19 +159,20 @@ module _ (n : ℕ) where
 
 -- ---- a tag is kept
 
-module _ (before after : Slots) (t : Tag) (held : Held) (sig : List Part) (members : ℕ) (es fs : List (Tag × Place)) (shared : AreShared before es) where
+module _ (before after : Slots) (t : Tag) (held : Holding) (sig : List Part) (members : ℕ) (es fs : List (Tag × Place)) (shared : AreShared before es) where
   abbrev place : Place
   place = record { held = held; members = members }
 
   module _ (is : fs ≡ put tag_cmp t place es) where
-    pub put_shared : find tag_cmp t (shown_items before es) ≡ None → is_sorted tag_cmp fs ≡ true → ((n : ℕ) → tags_at before n + is_at n held ≤ tags_at after n) → AreShared after fs
-    put_shared new sorted tags = record {
+    pub put_shared : find tag_cmp t (shown_items before es) ≡ None → is_sorted tag_cmp fs ≡ true → ((n : ℕ) → tags_at after n ≡ tags_at before n + is_at n held) → AreUsed after → AreShared after fs
+    put_shared new sorted tags used = record {
       sorted = sorted;
       counted = λ n.
           let all = ap (uses n) is ∙ uses-put n t place es (none_shown before _ (sym (find-shown before t es) ∙ new)) in
           let had = shared.counted n in
           let more = tags n in
           omega (arith, all, had, more);
+      used = used;
     }
 
     pub put_shown : shown_sig after held ≡ sig → ((n : ℕ) → 0 < tags_at before n → sig_at after n ≡ sig_at before n) → shown_items after fs ≡ put tag_cmp t (record { sig = sig; members = members }) (shown_items before es)
@@ -159,23 +182,38 @@ module _ (before after : Slots) (t : Tag) (held : Held) (sig : List Part) (membe
 
 -- ---- a tag is taken out
 
+-- what a tag holds is counted where the slots are lent
+pub held_counts : (before lent : Slots) (t : Tag) (es : List (Tag × Place)) (p : Place) → AreShared before es → lent ≡ before → Some p ≡ find tag_cmp t es → (n : ℕ) → is_at n p.held ≤ tags_at lent n
+held_counts before lent t es p shared same was n =
+    let held = found_counts n t es p (sym was) in
+    let had = shared.counted n in
+    let all = ap (λ slots. tags_at slots n) same in
+    omega (arith, held, had, all)
+
 module _ (before : Slots) (t : Tag) (es fs : List (Tag × Place)) (shared : AreShared before es) (is : fs ≡ without tag_cmp t es) (sorted : is_sorted tag_cmp fs ≡ true) where
-  left_uses : (n : ℕ) → uses n fs + held_by n (find tag_cmp t es) ≤ tags_at before n
+  left_uses : (n : ℕ) → tags_at before n ≡ uses n fs + held_by n (find tag_cmp t es)
   left_uses n =
       let all = ap (uses n) is in
-      let rest = uses-without n t es in
+      let rest = uses-without n t es shared.sorted in
       let had = shared.counted n in
       omega (arith, all, rest, had)
 
-  pub none_shared : AreShared before fs
-  none_shared = record { sorted = sorted; counted = λ n. let left = left_uses n in omega (arith, left) }
+  pub none_shared : None ≡ find tag_cmp t es → AreShared before fs
+  none_shared none = record {
+    sorted = sorted;
+    counted = λ n.
+        let left = left_uses n in
+        let one = ap (held_by n) none in
+        omega (arith, left, one);
+    used = shared.used;
+  }
 
   pub none_left : shown_items before fs ≡ without tag_cmp t (shown_items before es)
   none_left = ap (shown_items before) is ∙ shown-without before t es
 
-  -- the places are lent as a slice, and come back
-  module _ (lent : Slots) (same : lent ≡ before) (after next : Slots) (back : next ≡ after) (p : Place) (was : Some p ≡ find tag_cmp t es) (tags : (n : ℕ) → tags_at lent n ≤ tags_at after n + is_at n p.held) where
-    fewer : (n : ℕ) → uses n fs ≤ tags_at after n
+  -- the slots are lent as a slice, and come back
+  module _ (lent : Slots) (same : lent ≡ before) (after next : Slots) (back : next ≡ after) (p : Place) (was : Some p ≡ find tag_cmp t es) (tags : (n : ℕ) → tags_at lent n ≡ tags_at after n + is_at n p.held) where
+    fewer : (n : ℕ) → tags_at after n ≡ uses n fs
     fewer n =
         let left = left_uses n in
         let one = ap (held_by n) was in
@@ -183,8 +221,8 @@ module _ (before : Slots) (t : Tag) (es fs : List (Tag × Place)) (shared : AreS
         let less = tags n in
         omega (arith, left, one, had, less)
 
-    pub took_shared : AreShared next fs
-    took_shared = record { sorted = sorted; counted = λ n. let all = ap (λ slots. tags_at slots n) back in let few = fewer n in omega (arith, all, few) }
+    pub took_shared : AreUsed after → AreShared next fs
+    took_shared used = subst (λ slots. AreShared slots fs) (sym back) (record { sorted = sorted; counted = fewer; used = used })
 
     pub took_left : ((n : ℕ) → 0 < tags_at after n → sig_at after n ≡ sig_at lent n) → shown_items next fs ≡ without tag_cmp t (shown_items before es)
     took_left kept =
@@ -216,6 +254,7 @@ module _ (slots : Slots) (r : Recount) where
           let all = ap (uses n) is ∙ uses-values n _ (λ u p. elim (eq_by_cmp tag_cmp t u) as (λ b. is_at n (cond b (recounted_place r p) p).held ≡ is_at n p.held) [ true ↦ same_place n p | false ↦ refl ]) es in
           let had = shared.counted n in
           omega (arith, all, had);
+      used = shared.used;
     }
 
     pub recounted_shown : shown_items slots fs ≡ changed_at tag_cmp t (recounted r) (shown_items slots es)
@@ -231,15 +270,15 @@ module _ (who : Pid) (named : List Pid) where
   trim_value (s ∷ slots) zero = refl
   trim_value (s ∷ slots) (suc n) = trim_value slots n
 
-  tags_stay : (o : Option Shared) → tags_in (trimmed_shared who named o) ≡ tags_in o
+  tags_stay : (o : Option Shared) → shared_tags (trimmed_shared who named o) ≡ shared_tags o
   tags_stay None = refl
   tags_stay (Some s) = refl
 
-  sig_trimmed : (o : Option Shared) → sig_in (trimmed_shared who named o) ≡ trimmed who named (sig_in o)
+  sig_trimmed : (o : Option Shared) → shared_sig (trimmed_shared who named o) ≡ trimmed who named (shared_sig o)
   sig_trimmed None = refl
   sig_trimmed (Some s) = refl
 
-  place_stays : (n : ℕ) (held : Held) → is_at n (trimmed_held who named held) ≡ is_at n held
+  place_stays : (n : ℕ) (held : Holding) → is_at n (trimmed_held who named held) ≡ is_at n held
   place_stays n (Own sig) = refl
   place_stays n (At m) = refl
 
@@ -247,9 +286,9 @@ module _ (who : Pid) (named : List Pid) where
     value_trimmed : (n : ℕ) → value_in next n ≡ trimmed_shared who named (value_in slots n)
     value_trimmed n = ap (λ s. value_in s n) trims ∙ trim_value slots n
 
-    held_trimmed : (held : Held) → shown_sig next (trimmed_held who named held) ≡ trimmed who named (shown_sig slots held)
+    held_trimmed : (held : Holding) → shown_sig next (trimmed_held who named held) ≡ trimmed who named (shown_sig slots held)
     held_trimmed (Own sig) = refl
-    held_trimmed (At n) = ap sig_in (value_trimmed n) ∙ sig_trimmed (value_in slots n)
+    held_trimmed (At n) = ap shared_sig (value_trimmed n) ∙ sig_trimmed (value_in slots n)
 
     module _ (es fs : List (Tag × Place)) (is : fs ≡ changed_all (trimmed_place who named) es) where
       pub trimmed_are_shared : AreShared slots es → is_sorted tag_cmp fs ≡ true → AreShared next fs
@@ -257,9 +296,12 @@ module _ (who : Pid) (named : List Pid) where
         sorted = sorted;
         counted = λ n.
             let all = ap (uses n) is ∙ uses-values n (λ t. trimmed_place who named) (λ t p. place_stays n p.held) es in
-            let tags = ap tags_in (value_trimmed n) ∙ tags_stay (value_in slots n) in
+            let tags = ap shared_tags (value_trimmed n) ∙ tags_stay (value_in slots n) in
             let had = shared.counted n in
             omega (arith, all, tags, had);
+        used = λ n none.
+            let tags = ap shared_tags (value_trimmed n) ∙ tags_stay (value_in slots n) in
+            value_trimmed n ∙ ap (trimmed_shared who named) (shared.used n (sym tags ∙ none));
       }
 
       pub trimmed_shown : shown_items next fs ≡ map (trimmed_entry who named) (shown_items slots es)

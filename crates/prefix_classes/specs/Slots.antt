@@ -1,5 +1,5 @@
 -- Signatures that tags share, and what is seen of each tag alone.
-use Rattle.std.specs.Prelude.{◌≡◌, ℕ, ◌+◌, ◌-◌, ◌^◌, ◌<◌, ◌≤◌, min, nat_eq, if◌then◌else◌, true, List, [], ◌∷◌, map, length, Option, Some, None}
+use Rattle.std.specs.Prelude.{◌≡◌, ℕ, ◌+◌, ◌-◌, ◌^◌, ◌<◌, min, nat_eq, if◌then◌else◌, true, List, [], ◌∷◌, map, length, Option, Some, None}
 use Rattle.std.specs.FinMap.Entries.{is_sorted}
 use Rattle.net_types.specs.Keys.{tag_cmp}
 use Rattle.net_types.specs.Signatures.{trimmed}
@@ -7,36 +7,36 @@ use Rattle.net_types.specs.declared.address.Pid.{Pid}
 use Rattle.net_types.specs.declared.address.Tag.{Tag}
 use Rattle.net_types.specs.declared.route.Part.{Part}
 use Rattle.tag_table.specs.Entries.{value_in}
-use Rattle.prefix_classes.specs.declared.kept.Held.{Held}
-use Rattle.prefix_classes.specs.declared.kept.Held.TheVariants.{At, Own}
+use Rattle.prefix_classes.specs.declared.kept.Holding.{Holding}
+use Rattle.prefix_classes.specs.declared.kept.Holding.TheVariants.{At, Own}
 use Rattle.prefix_classes.specs.declared.kept.Place.{Place}
 use Rattle.prefix_classes.specs.declared.kept.Shared.{Shared}
 use Rattle.prefix_classes.specs.declared.members.Kept.{Kept}
 use Rattle.prefix_classes.specs.declared.members.Recount.{Recount}
 use Rattle.prefix_classes.specs.declared.members.Recount.TheVariants.{More, Less}
 
--- the signatures that are shared, each at its place
+-- the signatures that are shared, each in its slot
 abbrev pub Slots : Type 0
 Slots = List (Option Shared)
 
-abbrev pub sig_in : Option Shared → List Part
-sig_in None = []
-sig_in (Some s) = s.sig
+abbrev pub shared_sig : Option Shared → List Part
+shared_sig None = []
+shared_sig (Some s) = s.sig
 
-abbrev pub tags_in : Option Shared → ℕ
-tags_in None = 0
-tags_in (Some s) = s.tags
+abbrev pub shared_tags : Option Shared → ℕ
+shared_tags None = 0
+shared_tags (Some s) = s.tags
 
--- the signature at a place
+-- the signature of a slot
 abbrev pub sig_at : Slots → ℕ → List Part
-sig_at slots n = sig_in (value_in slots n)
+sig_at slots n = shared_sig (value_in slots n)
 
 -- and how many tags share it
 abbrev pub tags_at : Slots → ℕ → ℕ
-tags_at slots n = tags_in (value_in slots n)
+tags_at slots n = shared_tags (value_in slots n)
 
 -- the signature that a tag holds
-abbrev pub shown_sig : Slots → Held → List Part
+abbrev pub shown_sig : Slots → Holding → List Part
 shown_sig slots (Own sig) = sig
 shown_sig slots (At n) = sig_at slots n
 
@@ -47,22 +47,27 @@ shown slots p = record { sig = shown_sig slots p.held; members = p.members }
 abbrev pub shown_items : Slots → List (Tag × Place) → List (Tag × Kept)
 shown_items slots es = map (λ (e : Tag × Place). (e.0, shown slots e.1)) es
 
--- 1 where the place is the one at which a tag holds its signature, and else 0
-abbrev pub is_at : ℕ → Held → ℕ
+-- 1 where the slot is the one whose signature a tag holds, and else 0
+abbrev pub is_at : ℕ → Holding → ℕ
 is_at n (Own sig) = 0
 is_at n (At m) = if nat_eq n m then 1 else 0
 
--- how many of the entries hold the signature at a place
+-- how many of the entries hold the signature of a slot
 abbrev pub uses : ℕ → List (Tag × Place) → ℕ
 uses n [] = 0
 uses n (e ∷ es) = is_at n e.1.held + uses n es
 
--- the tags rise, and no more of them hold a signature than are counted for it
+-- a slot without tags has no signature
+abbrev pub AreUsed : Slots → Type 0
+AreUsed slots = (n : ℕ) → tags_at slots n ≡ 0 → value_in slots n ≡ None
+
+-- the tags rise, each slot counts those that hold its signature, and none keeps one without tags
 pub record AreShared (slots : Slots) (es : List (Tag × Place)) : Type 0 where
   pub sorted : is_sorted tag_cmp es ≡ true
-  pub counted : (n : ℕ) → uses n es ≤ tags_at slots n
+  pub counted : (n : ℕ) → tags_at slots n ≡ uses n es
+  pub used : AreUsed slots
 
--- one tag more can be counted at a place
+-- one tag more can be counted in a slot
 pub record IsJoinable (slots : Slots) (n : ℕ) : Type 0 where
   pub one : Shared
   pub there : value_in slots n ≡ Some one
@@ -73,15 +78,16 @@ pub record IsSignature (slots : Slots) (n : ℕ) (sig : List Part) : Type 0 wher
   pub joinable : IsJoinable slots n
   pub is : sig_at slots n ≡ sig
 
--- there is a place without a signature
+-- the slot has no signature
 pub record IsFree (slots : Slots) (n : ℕ) : Type 0 where
   pub within : n < length slots
   pub free : value_in slots n ≡ None
 
--- one tag more is counted at a place
+-- one tag more is counted in a slot
 pub record AreJoined (before after : Slots) (n : ℕ) : Type 0 where
   pub tags : (m : ℕ) → tags_at after m ≡ tags_at before m + is_at m (At n)
   pub sigs : (m : ℕ) → sig_at after m ≡ sig_at before m
+  pub used : AreUsed before → AreUsed after
 
 -- the signature of what is kept
 abbrev pub sig_of : Kept → List Part
@@ -93,7 +99,7 @@ recounted_place More p = record p { members = min (p.members + 1) (2 ^ 64 - 1) }
 recounted_place Less p = record p { members = p.members - 1 }
 
 -- what a tag holds with its signature trimmed, where it has that alone
-abbrev pub trimmed_held : Pid → List Pid → Held → Held
+abbrev pub trimmed_held : Pid → List Pid → Holding → Holding
 trimmed_held who named (Own sig) = Own (trimmed who named sig)
 trimmed_held who named (At n) = At n
 

@@ -10,9 +10,9 @@ ghost use Rattle.ordered_map.specs.Entries.{without, without_each};
 ghost use Rattle.tag_table.specs.Entries.{value_in};
 ghost use Rattle.prefix_classes.specs.Counts.{counted, has_members, is_above, tag_of, used_in};
 ghost use Rattle.prefix_classes.specs.Recounted.{recounted};
-ghost use Rattle.prefix_classes.specs.Slots.{AreJoined, AreShared, IsFree, IsJoinable, IsSignature, is_at, recounted_place, shown_items, shown_sig, sig_at, sig_of, tags_at, trimmed_place, trimmed_shared};
+ghost use Rattle.prefix_classes.specs.Slots.{AreJoined, AreShared, AreUsed, IsFree, IsJoinable, IsSignature, is_at, recounted_place, shown_items, shown_sig, sig_at, sig_of, tags_at, trimmed_place, trimmed_shared};
 ghost use Rattle.prefix_classes.specs.Trimmed.{trimmed_entry};
-ghost use Rattle.prefix_classes.specs.declared.kept.Held.TheVariants.{At};
+ghost use Rattle.prefix_classes.specs.declared.kept.Holding.TheVariants.{At};
 ghost use Rattle.prefix_classes.specs.declared.kept.Shared.{Shared as AnyShared};
 
 use crate::members::{Kept, Recount};
@@ -34,9 +34,9 @@ pub(crate) struct Shared {
     tags: usize,
 }
 
-/// The signature of a tag alone, or the place of one among those that are shared.
+/// The signature of a tag alone, or the slot of one that tags share.
 #[derive(Drop)]
-pub(crate) enum Held {
+pub(crate) enum Holding {
     Own(Sig),
     At(usize),
 }
@@ -44,7 +44,7 @@ pub(crate) enum Held {
 /// What stands in the place of a tag.
 #[derive(Drop)]
 pub(crate) struct Place {
-    held: Held,
+    held: Holding,
     members: usize,
 }
 
@@ -71,8 +71,8 @@ impl Model for KeptTable {
     ghost invariant = { λ a. AreShared a.shared.items a.places.items };
 }
 
-/// Makes the places of signatures that are shared. Where memory is wanting there are fewer, and tags have theirs alone.
-fn make_places(shared: &mut Vec<Option<Shared>>)
+/// Makes the slots of signatures that are shared. Where memory is wanting there are fewer, and tags have theirs alone.
+fn make_slots(shared: &mut Vec<Option<Shared>>)
     ensures { (n : ℕ) → value_in shared.new.items n ≡ value_in shared.old.items n }
 {
     for _next in shared.len()..MOST {
@@ -82,8 +82,8 @@ fn make_places(shared: &mut Vec<Option<Shared>>)
     }
 }
 
-/// The place of an equal signature that one tag more can share.
-fn place_of(shared: &[Option<Shared>], sig: &Sig) -> Option<usize>
+/// The slot of an equal signature that one tag more can share.
+fn slot_of(shared: &[Option<Shared>], sig: &Sig) -> Option<usize>
     ensures { IfSome result (λ at. IsSignature shared.now at sig.now) }
 {
     for at in 0..shared.len() {
@@ -96,8 +96,8 @@ fn place_of(shared: &[Option<Shared>], sig: &Sig) -> Option<usize>
     None
 }
 
-/// A place where no signature stands.
-fn free_place(shared: &[Option<Shared>]) -> Option<usize>
+/// A slot without a signature.
+fn free_slot(shared: &[Option<Shared>]) -> Option<usize>
     ensures { IfSome result (λ at. IsFree shared.now at) }
 {
     for at in 0..shared.len() {
@@ -108,7 +108,7 @@ fn free_place(shared: &[Option<Shared>]) -> Option<usize>
     None
 }
 
-/// One tag more shares the signature at a place.
+/// One tag more shares the signature of a slot.
 fn join(shared: &mut [Option<Shared>], at: usize)
     requires { IsJoinable shared.old at }
     ensures { AreJoined shared.old shared.new at }
@@ -118,34 +118,36 @@ fn join(shared: &mut [Option<Shared>], at: usize)
     }
 }
 
-/// Holds a signature: together with the tags that have an equal one, or else at a place of its own, where others may join. The
-/// tag has it alone where there is no such place.
-fn hold(shared: &mut Vec<Option<Shared>>, sig: Sig) -> Held
+/// Holds a signature: together with the tags that have an equal one, or else in a slot of its own, where others may join. The
+/// tag has it alone where there is no such slot.
+fn hold(shared: &mut Vec<Option<Shared>>, sig: Sig) -> Holding
+    requires used { AreUsed shared.old.items }
     ensures sig { shown_sig shared.new.items result ≡ sig }
-    ensures tags { (n : ℕ) → tags_at shared.old.items n + is_at n result ≤ tags_at shared.new.items n }
+    ensures tags { (n : ℕ) → tags_at shared.new.items n ≡ tags_at shared.old.items n + is_at n result }
     ensures kept { (n : ℕ) → 0 < tags_at shared.old.items n → sig_at shared.new.items n ≡ sig_at shared.old.items n }
+    ensures used { AreUsed shared.new.items }
 {
-    if let Some(at) = place_of(shared, &sig) {
+    if let Some(at) = slot_of(shared, &sig) {
         join(shared, at);
-        return Held::At(at);
+        return Holding::At(at);
     }
-    if let Some(at) = free_place(shared) {
+    if let Some(at) = free_slot(shared) {
         shared[at] = Some(Shared { sig, tags: 1 });
-        return Held::At(at);
+        return Holding::At(at);
     }
-    Held::Own(sig)
+    Holding::Own(sig)
 }
 
-/// One tag less shares the signature at a place, which goes with the last one.
+/// One tag less shares the signature of a slot, which goes with the last one.
 fn leave(shared: &mut [Option<Shared>], at: usize)
-    ensures tags { (n : ℕ) → tags_at shared.old n ≤ tags_at shared.new n + is_at n (At at) }
+    requires held { 0 < tags_at shared.old at }
+    requires used { AreUsed shared.old }
+    ensures tags { (n : ℕ) → tags_at shared.old n ≡ tags_at shared.new n + is_at n (At at) }
     ensures kept { (n : ℕ) → 0 < tags_at shared.new n → sig_at shared.new n ≡ sig_at shared.old n }
+    ensures used { AreUsed shared.new }
 {
-    if at >= shared.len() {
-        return;
-    }
     if let Some(one) = &mut shared[at] {
-        one.tags = one.tags.saturating_sub(1);
+        one.tags -= 1;
         if one.tags == 0 {
             shared[at] = None;
         }
@@ -153,34 +155,37 @@ fn leave(shared: &mut [Option<Shared>], at: usize)
 }
 
 /// Gives up what a tag held.
-fn release(shared: &mut [Option<Shared>], held: Held)
-    ensures tags { (n : ℕ) → tags_at shared.old n ≤ tags_at shared.new n + is_at n held }
+fn release(shared: &mut [Option<Shared>], held: Holding)
+    requires held { (n : ℕ) → is_at n held ≤ tags_at shared.old n }
+    requires used { AreUsed shared.old }
+    ensures tags { (n : ℕ) → tags_at shared.old n ≡ tags_at shared.new n + is_at n held }
     ensures kept { (n : ℕ) → 0 < tags_at shared.new n → sig_at shared.new n ≡ sig_at shared.old n }
+    ensures used { AreUsed shared.new }
 {
     match held {
-        Held::Own(_) => {}
-        Held::At(at) => leave(shared, at),
+        Holding::Own(_) => {}
+        Holding::At(at) => leave(shared, at),
     }
 }
 
-/// What is shared at a place.
+/// What is shared in a slot.
 fn shared_at(shared: &[Option<Shared>], at: usize) -> Option<&Shared>
     ensures { option_copied result ≡ value_in shared.now at }
 {
     match shared.get(at) {
-        Some(place) => place.as_ref(),
+        Some(slot) => slot.as_ref(),
         None => None,
     }
 }
 
 /// The signature that a tag holds.
-fn signature<'a>(shared: &'a [Option<Shared>], held: &'a Held) -> &'a Sig
+fn signature<'a>(shared: &'a [Option<Shared>], held: &'a Holding) -> &'a Sig
     requires { (n : ℕ) → is_at n held.now ≤ tags_at shared.now n }
     ensures { result.now ≡ shown_sig shared.now held.now }
 {
     match held {
-        Held::Own(sig) => sig,
-        Held::At(at) => match shared_at(shared, *at) {
+        Holding::Own(sig) => sig,
+        Holding::At(at) => match shared_at(shared, *at) {
             Some(one) => &one.sig,
             None => unreachable!(),
         },
@@ -223,13 +228,13 @@ impl<'a> Change<Place> for Trim<'a> {
     ghost changed = { λ t p. trimmed_place t.who t.named.now p };
 
     fn change(&self, value: &mut Place) {
-        if let Held::Own(sig) = &mut value.held {
+        if let Holding::Own(sig) = &mut value.held {
             trim_sig(self.alloc, sig, self.who, self.named);
         }
     }
 }
 
-/// Takes a sender's offers that don't count out of the signature at a place.
+/// Takes a sender's offers that don't count out of the signature of a slot.
 fn trim_one(alloc: Global, one: &mut Option<Shared>, who: Pid, named: &[Pid])
     ensures { one.new ≡ trimmed_shared who named.now one.old }
 {
@@ -260,7 +265,7 @@ impl KeptTable {
         }
     }
 
-    /// Makes room for the tags whose numbers are less than this one, and places for signatures that tags share. Memory is
+    /// Makes room for the tags whose numbers are less than this one, and slots for signatures that tags share. Memory is
     /// wanting only where there is less room.
     pub(crate) fn reserve(&mut self, tags: usize) -> Result<(), AllocError>
         ensures items { self.new.items ≡ self.old.items }
@@ -269,7 +274,7 @@ impl KeptTable {
         ensures kept { self.old.room ≤ self.new.room }
         ensures enough { tags ≤ self.old.room → IsOk result }
     {
-        make_places(&mut self.shared);
+        make_slots(&mut self.shared);
         self.places.reserve(tags)
     }
 

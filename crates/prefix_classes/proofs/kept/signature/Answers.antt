@@ -1,4 +1,4 @@
--- Where a tag holds a signature at a place, there is one.
+-- Where a tag holds the signature of a slot, there is one.
 use Rattle.std.proofs.Common.{sym, ap, subst, ◌∙◌, ℕ, ◌≤◌}
 use Rattle.std.specs.Prelude.{option_copied}
 use Rattle.prefix_classes.proofs.SlotLemmas.{held_there}

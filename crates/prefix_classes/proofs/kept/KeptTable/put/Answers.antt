@@ -9,7 +9,7 @@ use Rattle.prefix_classes.proofs.kept.KeptTable.put.Goals as goal
 pub invariant_of-self : goal.invariant_of-self
 invariant_of-self c =
     put_shared c.self.inside.shared.items c.hold-held.new.shared.items c.args.tag c.hold-held.result c.args.kept.sig c.args.kept.members c.self.inside.places.items c.put.new.self.items c.self.invariant c.put.ensures.items
-    (ap (λ s. find tag_cmp c.args.tag s.items) c.self.view_is ∙ c.requires.new) c.put.ensures.rising c.hold-held.ensures.tags
+    (ap (λ s. find tag_cmp c.args.tag s.items) c.self.view_is ∙ c.requires.new) c.put.ensures.rising c.hold-held.ensures.tags c.hold-held.ensures.used
 
 pub returns-clause-items : goal.returns-clause-items
 returns-clause-items c =

@@ -6,8 +6,8 @@ use Rattle.tag_table.specs.Entries.{value_in}
 use Rattle.prefix_classes.proofs.PlacedLemmas.{sig_cmp-IsAntisymmetric}
 use Rattle.prefix_classes.proofs.SlotLemmas.{value_read}
 use Rattle.prefix_classes.specs.Placed.{sig_cmp}
-use Rattle.prefix_classes.specs.Slots.{sig_in}
-use Rattle.prefix_classes.proofs.kept.place_of.Goals as goal
+use Rattle.prefix_classes.specs.Slots.{shared_sig}
+use Rattle.prefix_classes.proofs.kept.slot_of.Goals as goal
 
 pub returns-then-is_eq : goal.returns-then-is_eq
 returns-then-is_eq c =
@@ -15,5 +15,5 @@ returns-then-is_eq c =
     let few = c.if-one-lt18446744073709551615.true in
     record {
       joinable = record { one = c.in-Some.one; there = there; few = omega (arith, few) };
-      is = ap sig_in there ∙ same_from_tie sig_cmp sig_cmp-IsAntisymmetric c.in-Some.one.sig c.args.sig.now (sym (c.is_eq.ensures ∙ ap is_eq c.compare_sigs.ensures) ∙ c.if-is_eq.true);
+      is = ap shared_sig there ∙ same_from_tie sig_cmp sig_cmp-IsAntisymmetric c.in-Some.one.sig c.args.sig.now (sym (c.is_eq.ensures ∙ ap is_eq c.compare_sigs.ensures) ∙ c.if-is_eq.true);
     }
