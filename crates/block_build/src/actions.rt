@@ -40,11 +40,11 @@ pub(crate) fn actions_of(alloc: Global, items: &[(Assign, Loc)]) -> Result<Actio
 /// So many rules share their actions with their copies. Longer lists of actions are shared anyway.
 const FEW: usize = 16;
 
-/// The actions, of which a copy is a further owner where they are to be shared.
-fn held(actions: Actions, are_shared: bool) -> Result<Actions, Memory>
+/// The actions of one of so many rules. Where these are few, a copy is a further owner of the actions.
+fn held(actions: Actions, rules: usize) -> Result<Actions, Memory>
     ensures { IfOk result (λ same. same ≡ actions) }
 {
-    if are_shared {
+    if rules <= FEW {
         actions.shared()
     } else {
         Ok(actions)
@@ -56,10 +56,10 @@ pub(crate) fn rules_of(alloc: Global, xs: Vec<Line>) -> Result<Vec<Rule>, Memory
     ensures { IfOk result (λ v. v.items ≡ rules_of xs.items) }
 {
     let mut turned = Turned::new(alloc);
-    let are_shared = xs.len() <= FEW;
-    let mut rules = Vec::with_capacity(alloc, xs.len())?;
+    let count = xs.len();
+    let mut rules = Vec::with_capacity(alloc, count)?;
     for x in xs {
-        let actions = held(turned.actions(&x.results)?, are_shared)?;
+        let actions = held(turned.actions(&x.results)?, count)?;
         rules.push(Rule {
             cube: x.cube,
             actions,

@@ -1,6 +1,6 @@
 //! Blocks of rules.
 
-ghost use Rattle.std.specs.Prelude.{◌≡◌, true, IfOk};
+ghost use Rattle.std.specs.Prelude.{◌≡◌, ◌↔◌, IfOk, IsTrue};
 ghost use Rattle.block_build.specs.declared.block.BuildFault.TheVariants as fault;
 
 use crate::same::same_rules;
@@ -49,7 +49,7 @@ impl Block {
 
     /// Whether two blocks have the same rules.
     pub fn is_same(&self, other: &Block) -> bool
-        ensures { result ≡ true → self.now ≡ other.now }
+        ensures { IsTrue result ↔ (self.now ≡ other.now) }
     {
         same_rules(self.rules(), other.rules())
     }
