@@ -28,7 +28,7 @@ use Rattle.policy_compile.proofs.SetsLemmas.{cubes-same}
 pub behind-one : (set : Assign) (cubes : List Cube) → SameMembers (adds cube_eq [] (behind_one set cubes)) (behind (set ∷ []) cubes)
 behind-one set cubes = SetLemmas.same_trans (cubes-same [] (behind_one set cubes)) (SetLemmas.same_eq (sym (append-nil (behind_one set cubes))))
 
-behind-append : (ps qs : List Assign) (cubes : List Cube) → behind (ps ++ qs) cubes ≡ behind ps cubes ++ behind qs cubes
+pub behind-append : (ps qs : List Assign) (cubes : List Cube) → behind (ps ++ qs) cubes ≡ behind ps cubes ++ behind qs cubes
 behind-append [] qs cubes = refl
 behind-append (p ∷ ps) qs cubes = ap (λ rest. behind_one p cubes ++ rest) (behind-append ps qs cubes) ∙ sym (append_assoc (behind_one p cubes) (behind ps cubes) (behind qs cubes))
 

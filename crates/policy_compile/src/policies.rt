@@ -112,37 +112,88 @@ fn whole_before<N: Names>(
     alloc: Global,
     pairs: &mut Pairs,
     tree: &Tree<'_>,
-    next: Classifier,
+    next: &Classifier,
     names: &N,
 ) -> Result<Classifier, Stop>
-    ensures { IfOk result (λ c. (q : Policy) → IsCompiled (N.pid_of names.now) q next → IsCompiled (N.pid_of names.now) (Then (policy_of tree.now) q) c) }
+    ensures { IfOk result (λ c. (q : Policy) → IsCompiled (N.pid_of names.now) q next.now → IsCompiled (N.pid_of names.now) (Then (policy_of tree.now) q) c) }
 {
     let whole = compiled(alloc, pairs, tree, names)?;
     pairs.take_chain(whole.lines(), next.lines())?;
-    let chained = sequence(alloc, &whole, &next)?;
+    let chained = sequence(alloc, &whole, next)?;
     Ok(chained)
 }
 
-/// The same, where a simple end of the policy is put before the classifier first: so a chain of such ends goes over the rules
-/// of what stands before them once.
+/// The parts of a sum, however its brackets stand, each before a classifier; another policy as a whole.
+#[cycle(sums)]
+fn parts_before<N: Names>(
+    alloc: Global,
+    pairs: &mut Pairs,
+    tree: &Tree<'_>,
+    next: &Classifier,
+    names: &N,
+) -> Result<Vec<Classifier>, Stop>
+    ensures { IfOk result (λ v. (q : Policy) → IsCompiled (N.pid_of names.now) q next.now → AreParts (N.pid_of names.now) (Then (policy_of tree.now) q) v.items) }
+{
+    match tree.node() {
+        Node::Both(first, second) => {
+            let parts = parts_of_both_before(alloc, pairs, first, second, next, names)?;
+            Ok(parts)
+        }
+        _ => {
+            let whole = before(alloc, pairs, tree, next, names)?;
+            let parts = alone(alloc, whole)?;
+            Ok(parts)
+        }
+    }
+}
+
+/// The parts of two policies' sum, each before a classifier.
+#[cycle(sums)]
+fn parts_of_both_before<N: Names>(
+    alloc: Global,
+    pairs: &mut Pairs,
+    first: &Tree<'_>,
+    second: &Tree<'_>,
+    next: &Classifier,
+    names: &N,
+) -> Result<Vec<Classifier>, Stop>
+    ensures { IfOk result (λ v. (q : Policy) → IsCompiled (N.pid_of names.now) q next.now → AreParts (N.pid_of names.now) (Then (Both (policy_of first.now) (policy_of second.now)) q) v.items) }
+{
+    let left = parts_before(alloc, pairs, first, next, names)?;
+    let right = parts_before(alloc, pairs, second, next, names)?;
+    let spread = appended(left, right)?;
+    Ok(spread)
+}
+
+/// What `whole_before` does. Where the classifier is one rule, it goes behind each part of a sum, which has fewer results than
+/// the sum. The end of a chain is put before the classifier first where that is one rule or the end is simple: so a chain of
+/// such ends goes over the rules of what stands before them once.
 #[cycle(sums)]
 fn before<N: Names>(
     alloc: Global,
     pairs: &mut Pairs,
     tree: &Tree<'_>,
-    next: Classifier,
+    next: &Classifier,
     names: &N,
 ) -> Result<Classifier, Stop>
-    ensures { IfOk result (λ c. (q : Policy) → IsCompiled (N.pid_of names.now) q next → IsCompiled (N.pid_of names.now) (Then (policy_of tree.now) q) c) }
+    ensures { IfOk result (λ c. (q : Policy) → IsCompiled (N.pid_of names.now) q next.now → IsCompiled (N.pid_of names.now) (Then (policy_of tree.now) q) c) }
 {
+    let is_one = next.lines().len() == 1;
     match tree.node() {
         Node::Then(first, second) => {
-            if is_simple(second) {
-                let end = compiled(alloc, pairs, second, names)?;
-                pairs.take_chain(end.lines(), next.lines())?;
-                let later = sequence(alloc, &end, &next)?;
-                let chained = before(alloc, pairs, first, later, names)?;
+            if is_one || is_simple(second) {
+                let later = before(alloc, pairs, second, next, names)?;
+                let chained = before(alloc, pairs, first, &later, names)?;
                 return Ok(chained);
+            }
+            let chained = whole_before(alloc, pairs, tree, next, names)?;
+            Ok(chained)
+        }
+        Node::Both(first, second) => {
+            if is_one {
+                let parts = parts_of_both_before(alloc, pairs, first, second, next, names)?;
+                let either = sum_all(alloc, pairs, &parts)?;
+                return Ok(either);
             }
             let chained = whole_before(alloc, pairs, tree, next, names)?;
             Ok(chained)
@@ -196,7 +247,7 @@ fn compiled<N: Names>(
         }
         Node::Then(first, second) => {
             let next = compiled(alloc, pairs, second, names)?;
-            let chained = before(alloc, pairs, first, next, names)?;
+            let chained = before(alloc, pairs, first, &next, names)?;
             Ok(chained)
         }
     }

@@ -11,7 +11,7 @@ use Rattle.classifier.specs.Compiled.{IsCompiled}
 use Rattle.classifier.specs.Sums.{IsSum}
 use Rattle.policy_compile.specs.Parts.{AreParts}
 use Rattle.policy_compile.proofs.ChainLemmas.{compiled-regrouped}
-use Rattle.policy_compile.proofs.PartLemmas.{parts-one, parts-both, compiled-parts}
+use Rattle.policy_compile.proofs.PartLemmas.{parts-one, parts-both, parts-spread, compiled-parts}
 use Rattle.classifier.proofs.CompileLemmas
 use Rattle.policy_compile.proofs.policies.+sums.Goals as goal
 
@@ -66,17 +66,37 @@ compiled-returns-in_ok-chained-in-Then g t c =
 pub whole_before-returns : goal.whole_before-returns
 whole_before-returns g t c = λ q h.
     let f = c.in_ok-chained.ensures in
-    CompileLemmas.compiled-then (g.N.Names.pid_of c.args.names.now) (policy_of c.args.tree.now) q c.in_ok-whole.whole c.args.next c.in_ok-chained.chained c.in_ok-whole.ensures h f.chain f.cubes f.assigns
+    CompileLemmas.compiled-then (g.N.Names.pid_of c.args.names.now) (policy_of c.args.tree.now) q c.in_ok-whole.whole c.args.next.now c.in_ok-chained.chained c.in_ok-whole.ensures h f.chain f.cubes f.assigns
 
-pub before-returns-then-is_simple : goal.before-returns-then-is_simple
-before-returns-then-is_simple g t c = λ q h.
+pub before-returns-then-is_one : goal.before-returns-then-is_one
+before-returns-then-is_one g t c = λ q h.
     let pid_of = g.N.Names.pid_of c.args.names.now in
     let first = policy_of c.in-Then.first.now in
     let second = policy_of c.in-Then.second.now in
-    let f = c.in_ok-later-in-Then.ensures in
     subst (λ p. IsCompiled pid_of (model.Then p q) c.in_ok-chained-in-Then.chained) c.in-Then.ensures
-    (compiled-regrouped pid_of first second q c.in_ok-chained-in-Then.chained (c.in_ok-chained-in-Then.ensures (model.Then second q)
-    (CompileLemmas.compiled-then pid_of second q c.in_ok-end-in-Then.end c.args.next c.in_ok-later-in-Then.later c.in_ok-end-in-Then.ensures h f.chain f.cubes f.assigns)))
+    (compiled-regrouped pid_of first second q c.in_ok-chained-in-Then.chained (c.in_ok-chained-in-Then.ensures (model.Then second q) (c.in_ok-later-in-Then.ensures q h)))
+
+pub before-returns-then-is_one-2 : goal.before-returns-then-is_one-2
+before-returns-then-is_one-2 g t c = λ q h.
+    let pid_of = g.N.Names.pid_of c.args.names.now in
+    let p = model.Then (model.Both (policy_of c.in-Both.first.now) (policy_of c.in-Both.second.now)) q in
+    subst (λ p. IsCompiled pid_of (model.Then p q) c.in_ok-either-in-Both.either) c.in-Both.ensures
+    (compiled-parts pid_of p c.in_ok-parts-in-Both.parts.items c.in_ok-either-in-Both.either (c.in_ok-parts-in-Both.ensures q h)
+    (subst (λ xs. IsSum xs c.in_ok-either-in-Both.either) c.deref.ensures.value c.in_ok-either-in-Both.ensures))
+
+pub parts_before-returns-in_ok-parts-in_default : goal.parts_before-returns-in_ok-parts-in_default
+parts_before-returns-in_ok-parts-in_default g t c = λ q h.
+    let pid_of = g.N.Names.pid_of c.args.names.now in
+    let p = model.Then (policy_of c.args.tree.now) q in
+    subst (AreParts pid_of p) (sym c.in_ok-parts-in_default.ensures) (parts-one pid_of p c.in_ok-whole-in_default.whole (c.in_ok-whole-in_default.ensures q h))
+
+pub parts_of_both_before-returns : goal.parts_of_both_before-returns
+parts_of_both_before-returns g t c = λ q h.
+    let pid_of = g.N.Names.pid_of c.args.names.now in
+    let first = policy_of c.args.first.now in
+    let second = policy_of c.args.second.now in
+    subst (AreParts pid_of (model.Then (model.Both first second) q)) (sym c.in_ok-spread.ensures)
+    (parts-spread pid_of first second q c.in_ok-left.left.items c.in_ok-right.right.items (c.in_ok-left.ensures q h) (c.in_ok-right.ensures q h))
 
 pub parts_of-returns-in_ok-parts-in-Both : goal.parts_of-returns-in_ok-parts-in-Both
 parts_of-returns-in_ok-parts-in-Both g t c = subst (λ p. AreParts (g.N.Names.pid_of c.args.names.now) p c.in_ok-parts-in-Both.parts.items) c.in-Both.ensures c.in_ok-parts-in-Both.ensures

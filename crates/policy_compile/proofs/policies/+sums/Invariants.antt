@@ -17,3 +17,9 @@ decreases-whole_before g l = 3 * nodes_of (policy_of l.tree.now) + 1
 
 abbrev pub decreases-before : goal.decreases-before
 decreases-before g l = 3 * nodes_of (policy_of l.tree.now) + 2
+
+abbrev pub decreases-parts_before : goal.decreases-parts_before
+decreases-parts_before g l = 3 * nodes_of (policy_of l.tree.now) + 3
+
+abbrev pub decreases-parts_of_both_before : goal.decreases-parts_of_both_before
+decreases-parts_of_both_before g l = 3 * (nodes_of (policy_of l.first.now) + nodes_of (policy_of l.second.now)) + 4
