@@ -51,7 +51,7 @@ prefix_right p q ip h = elim (cases_Bool (lies_within p q)) [
   ])
 ]
 
-numbers_tie : (x y : ℕ) → nat_eq x y ≡ true → x ≡ y
+pub numbers_tie : (x y : ℕ) → nat_eq x y ≡ true → x ≡ y
 numbers_tie x y h = eqb-true x y h
 
 hull_left : (a b : Cube) → lies_within_cube a (hull_cube a b) ≡ true
