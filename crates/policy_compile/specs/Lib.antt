@@ -5,3 +5,4 @@ pub mod Measures
 pub mod Parts
 pub mod Cells
 pub mod Paths
+pub mod Summed
