@@ -363,6 +363,11 @@ def exchange_of_many_ports(out):
     exchange_of_three(out, 250 * "B")
 
 
+def ports_without_routes(out):
+    """The same participants and ports, where nobody announces a prefix, so that no policy has rules in the table."""
+    declared(out, "ABC", "ABBC" + 250 * "B")
+
+
 def denied(last, actions):
     """Tests by `!` of 15 values of each of three fields and of so many of a fourth, each before what its number makes of it."""
     tests = tests_of("srcport", range(1, 16)) + tests_of("dstport", range(1, 16)) + tests_of("srcip", nets(15)) + tests_of("dstip", nets(last))
@@ -381,6 +386,8 @@ def nine_each(n):
 
 EACH = "+".join(f"fwd({named(n)})" for n in range(1, 255))
 PORTS = "+".join(f"fwd({port})" for port in range(5, 255))
+TEN_PORTS = "+".join(f"fwd({port})" for port in range(5, 15))
+BEFORE_PORTS = assigned(31, 32) + ">>(" + PORTS + ")+" + four_fields(1, 15, "")
 SLOWEST = [
     ("out, 65536 meets of four fields", exchange_of_three, ("out", "A"), four_fields(1, 15, ">>fwd(C)")),
     ("in, 65536 meets of four fields", exchange_of_three, ("in", "B"), four_fields(1, 15, ">>fwd(2)")),
@@ -401,11 +408,15 @@ SLOWEST = [
     ("in, 60 tests by `!` of four fields, each before 4 assignments", exchange_of_three, ("in", "B"), denied(15, four_each)),
     ("in, 58 tests by `!` of four fields, each before 9 assignments", exchange_of_three, ("in", "B"), denied(13, nine_each)),
     ("in, 1024 assignments before 250 ports", exchange_of_many_ports, ("in", "B"), assigned(32, 32) + ">>(" + PORTS + ")"),
+    ("in, 65536 meets and 992 assignments before 250 ports, no routes", ports_without_routes, ("in", "B"), BEFORE_PORTS),
+    ("in, 65536 meets and 16 assignments before ten ports, all before `pass`, no routes", ports_without_routes, ("in", "B"),
+     "(" + assigned(4, 4) + ">>(" + TEN_PORTS + ")+" + four_fields(1, 15, "") + ")>>pass"),
+    ("in, 60 tests by `!` of four fields, each before 4 assignments, before three ports, no routes", ports_without_routes, ("in", "B"),
+     "(" + denied(15, four_each) + ")>>(fwd(2)+fwd(3)+fwd(5))"),
 ]
 
 # a policy that is accepted, and the reply to which has 248000 actions in each of 65536 rules
-ENDLESS = ("in, 65536 meets and 992 assignments before 250 ports", exchange_of_many_ports, ("in", "B"),
-           assigned(31, 32) + ">>(" + PORTS + ")+" + four_fields(1, 15, ""))
+ENDLESS = ("in, 65536 meets and 992 assignments before 250 ports", exchange_of_many_ports, ("in", "B"), BEFORE_PORTS)
 
 
 def each_alone(out):
