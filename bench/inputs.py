@@ -413,6 +413,10 @@ SLOWEST = [
      "(" + assigned(4, 4) + ">>(" + TEN_PORTS + ")+" + four_fields(1, 15, "") + ")>>pass"),
     ("in, 60 tests by `!` of four fields, each before 4 assignments, before three ports, no routes", ports_without_routes, ("in", "B"),
      "(" + denied(15, four_each) + ")>>(fwd(2)+fwd(3)+fwd(5))"),
+    ("in, the same before four ports, no routes", ports_without_routes, ("in", "B"),
+     "(" + denied(15, four_each) + ")>>(fwd(2)+fwd(3)+fwd(5)+fwd(6))"),
+    ("in, 65536 meets, the same again before a port, and 16 assignments before ten ports, no routes", ports_without_routes, ("in", "B"),
+     assigned(4, 4) + ">>(" + TEN_PORTS + ")+" + four_fields(1, 15, "") + "+" + four_fields(1, 15, ">>fwd(2)")),
 ]
 
 # a policy that is accepted, and the reply to which has 248000 actions in each of 65536 rules
