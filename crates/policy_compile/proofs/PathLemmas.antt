@@ -1,10 +1,10 @@
 -- What the paths of a policy make within a cube, part by part.
-use Rattle.std.proofs.Common.{◌≡◌, ℕ, true, false, not, ◌&&◌, ◌||◌, cond, Option, Some, None, List, [], ◌∷◌, ◌++◌, map, append_assoc, refl, inl, inr, sym, ap, ◌∙◌, subst}
-use Rattle.std.proofs.lemmas.List.{append-nil}
+use Rattle.std.proofs.Common.{◌≡◌, ℕ, Bool, true, false, not, ◌&&◌, ◌||◌, cond, Option, Some, None, List, [], ◌∷◌, ◌++◌, map, append_assoc, refl, inl, inr, sym, ap, ◌∙◌, subst}
 use Rattle.net_types.specs.declared.address.Pid.{Pid}
 use Rattle.net_types.specs.declared.cube.Cube.{Cube}
 use Rattle.net_types.specs.declared.headers.Headers.{Headers}
 use Rattle.net_types.specs.declared.headers.Loc.{Loc}
+use Rattle.net_types.specs.declared.headers.Loc.TheVariants.{Stay, To, Out, Nowhere}
 use Rattle.net_types.specs.declared.headers.Assign.{Assign}
 use Rattle.net_types.specs.Headers.{apply, arrived, followed_by, no_change}
 use Rattle.net_types.specs.Cubes.{has, pull_cube}
@@ -16,12 +16,14 @@ use Rattle.net_types.proofs.SetLemmas
 use Rattle.net_types.proofs.CubeLemmas.{has-pull, has-pulled, has_option}
 use Rattle.net_types.proofs.MeetLemmas.{behind-Member}
 use Rattle.net_types.proofs.PolicyLemmas.{has-test_cube, holds-plain}
-use Rattle.classifier.specs.Items.{Item, add, add_all}
+use Rattle.classifier.specs.Items.{Item, add_all}
 use Rattle.classifier.specs.Meaning.{carried, Follows}
 use Rattle.classifier.proofs.ResultLemmas.{apply-followed_by}
 use Rattle.classifier.proofs.DecideLemmas.{same_add_all}
 use Rattle.classifier.proofs.SumLemmas.{union-append}
-use Rattle.policy_compile.specs.Paths.{within_found, taken_into, where_plain, pred_at, part_at, Decided, sets_of, IsVisit, AreVisits}
+use Rattle.policy_compile.specs.Paths.{within_found, taken_into, where_plain, pred_at, part_at, Decided, sets_of, AreVisits}
+use Rattle.policy_compile.specs.Lists.{IsSplit, after_item}
+use Rattle.policy_compile.proofs.SplitLemmas.{split-ext}
 use Rattle.policy_compile.proofs.AtomLemmas.{pull_found, pull-followed}
 use Rattle.policy_compile.proofs.ChainLemmas.{followed-regrouped}
 
@@ -74,109 +76,158 @@ pred_at-is m set (model.Not p) = refl
 pred_at-is m set (model.And p q) = refl
 pred_at-is m set (model.Or p q) = refl
 
--- ---- items put last
+-- a predicate splits items as its one cube does, where it is a conjunction of plain tests, and else as its parts do
+pub split-plain : (m : Cube) (p : model.Pred) (found : Option Cube) (items kept lost : List Item) → plain p ≡ Some found → IsSplit (λ i. taken_into m i.0 found) items kept lost → IsSplit (λ i. pred_at m i.0 p) items kept lost
+split-plain m p found items kept lost e = split-ext (λ i. taken_into m i.0 found) (λ i. pred_at m i.0 p) items kept lost (λ i. sym (ap (λ o. where_plain m i.0 o (part_at m i.0 p)) e) ∙ pred_at-is m i.0 p)
 
-module _ (pid_of : List ℕ → Option Pid) (p : model.Policy) (m : Cube) (first : Item) (old new : List Item) where
-  visit-items : (items : List Item) → new ≡ add_all old items
-      → ((h : Headers) (l : Loc) → Decided m first.0 (atoms p) h → map (carried h l) items ≡ den pid_of p (apply first.0 h) (arrived l first.1))
-      → ((a : Assign) → Member a (sets_of items) → Follows (first.0 ∷ []) (mods p) a) → IsVisit pid_of p m first old new
-  visit-items items e same among =
-      let added : SameMembers new (old ++ items) = subst (λ (xs : List Item). SameMembers xs (old ++ items)) (sym e) (same_add_all old items) in
-      record {
-        means = λ h l d. SetLemmas.same_trans (SetLemmas.same_map (carried h l) added)
-            (SetLemmas.same_eq (SetLemmas.map-append (carried h l) old items ∙ ap (λ zs. map (carried h l) old ++ zs) (same h l d)));
-        assigns = λ a k. elim (SetLemmas.Member-append_cases (sets_of old) (sets_of items) a
-            (subst (Member a) (SetLemmas.map-append (λ (i : Item). i.0) old items) ((SetLemmas.same_map (λ (i : Item). i.0) added).onto a k))) [
-              | inl before ↦ inl before
-              | inr next ↦ inr (among a next)
-            ];
-      }
+pub split-parts : (m : Cube) (p : model.Pred) (items kept lost : List Item) → plain p ≡ None → IsSplit (λ i. part_at m i.0 p) items kept lost → IsSplit (λ i. pred_at m i.0 p) items kept lost
+split-parts m p items kept lost e = split-ext (λ i. part_at m i.0 p) (λ i. pred_at m i.0 p) items kept lost (λ i. sym (ap (λ o. where_plain m i.0 o (part_at m i.0 p)) e) ∙ pred_at-is m i.0 p)
 
-  -- no item
-  pub visit-none : new ≡ old → ((h : Headers) (l : Loc) → Decided m first.0 (atoms p) h → [] ≡ den pid_of p (apply first.0 h) (arrived l first.1)) → IsVisit pid_of p m first old new
-  visit-none e same = visit-items [] e same (λ a k. elim k [ ])
+-- ---- items made of items
 
-  -- one item, of an assignment of the policy behind the first one
-  pub visit-one : (item : Item) (next : Assign) → new ≡ add old item
-      → ((h : Headers) (l : Loc) → Decided m first.0 (atoms p) h → carried h l item ∷ [] ≡ den pid_of p (apply first.0 h) (arrived l first.1))
-      → Member next (mods p) → item.0 ≡ followed_by first.0 next → IsVisit pid_of p m first old new
-  visit-one item next e same stands is = visit-items (item ∷ []) e same (λ a k. elim k [
-    | inl here ↦ record { before = first.0; next = next; before_stands = inl refl; next_stands = stands; is = here ∙ is }
-    | inr none ↦ elim none [ ]
-  ])
+arrived-twice : (l m n : Loc) → arrived l (arrived m n) ≡ arrived (arrived l m) n
+arrived-twice l m Stay = refl
+arrived-twice l m (To who) = refl
+arrived-twice l m (Out port) = refl
+arrived-twice l m Nowhere = refl
 
--- a test
-pub visit-kept : (pid_of : List ℕ → Option Pid) (p : model.Pred) (m : Cube) (first : Item) (old new : List Item) → pred_at m first.0 p ≡ true → new ≡ add old first → IsVisit pid_of (model.Match p) m first old new
-visit-kept pid_of p m first old new t e =
-    visit-one pid_of (model.Match p) m first old new first no_change e
-    (λ h l d. sym (ap (λ b. cond b ((apply first.0 h, arrived l first.1) ∷ []) []) (sym ((decided m first.0 h p).whole d) ∙ t))) (inl refl) refl
+carried-after : (h : Headers) (l : Loc) (set : Assign) (loc : Loc) (i : Item) → carried h l (after_item set loc i) ≡ (apply set (apply i.0 h), arrived (arrived l i.1) loc)
+carried-after h l set loc i =
+    ap (λ x. let p : Packet = (x, arrived l (arrived i.1 loc)) in p) (apply-followed_by i.0 set h)
+    ∙ ap (λ x. let p : Packet = (apply set (apply i.0 h), x) in p) (arrived-twice l i.1 loc)
 
-pub visit-lost : (pid_of : List ℕ → Option Pid) (p : model.Pred) (m : Cube) (first : Item) (old new : List Item) → pred_at m first.0 p ≡ false → new ≡ old → IsVisit pid_of (model.Match p) m first old new
-visit-lost pid_of p m first old new f e =
-    visit-none pid_of (model.Match p) m first old new e
-    (λ h l d. sym (ap (λ b. cond b ((apply first.0 h, arrived l first.1) ∷ []) []) (sym ((decided m first.0 h p).whole d) ∙ f)))
+-- the same items in another order
+pub visits-same : (pid_of : List ℕ → Option Pid) (p : model.Policy) (m : Cube) (items old new others : List Item) → AreVisits pid_of p m items old new → SameMembers others new → AreVisits pid_of p m items old others
+visits-same pid_of p m items old new others f same = record {
+  means = λ h l d. SetLemmas.same_trans (SetLemmas.same_map (carried h l) same) (f.means h l d);
+  assigns = λ a k. f.assigns a ((SetLemmas.same_map (λ (i : Item). i.0) same).onto a k);
+}
 
--- an assignment
-pub visit-set : (pid_of : List ℕ → Option Pid) (set : Assign) (span : _) (m : Cube) (first : Item) (old new : List Item) → new ≡ add old (followed_by first.0 set, first.1) → IsVisit pid_of (model.Set set span) m first old new
-visit-set pid_of set span m first old new e =
-    visit-one pid_of (model.Set set span) m first old new (followed_by first.0 set, first.1) set e
-    (λ h l d. ap (λ (x : Headers). let packet : Packet = (x, arrived l first.1) in packet ∷ []) (apply-followed_by first.0 set h)) (inl refl) refl
+-- the same, put behind others
+pub visits-behind : (pid_of : List ℕ → Option Pid) (p : model.Policy) (m : Cube) (items made old : List Item) → AreVisits pid_of p m items [] made → AreVisits pid_of p m items old (old ++ made)
+visits-behind pid_of p m items made old f = record {
+  means = λ h l d. SetLemmas.same_trans (SetLemmas.same_eq (SetLemmas.map-append (carried h l) old made))
+      (SetLemmas.same_append (SetLemmas.same_refl (map (carried h l) old)) (f.means h l d));
+  assigns = λ a k. elim (SetLemmas.Member-append_cases (sets_of old) (sets_of made) a (subst (Member a) (SetLemmas.map-append (λ (i : Item). i.0) old made) k)) [
+    | inl known ↦ inl known
+    | inr new ↦ elim (f.assigns a new) [ inl none ↦ elim none [ ] | inr w ↦ inr w ]
+  ];
+}
+
+-- a policy that makes nothing of any packet
+pub visits-lost : (pid_of : List ℕ → Option Pid) (p : model.Policy) (m : Cube) (items : List Item) → ((h : Headers) (l : Loc) → den pid_of p h l ≡ []) → AreVisits pid_of p m items [] []
+visits-lost pid_of p m items lost = record { means = λ h l d. SetLemmas.same_eq (sym (nothing (map (carried h l) items))); assigns = λ a k. elim k [ ] }
+  where
+    nothing : (xs : List Packet) → union_over (λ (x : Packet). den pid_of p x.0 x.1) xs ≡ []
+    nothing [] = refl
+    nothing (x ∷ xs) = ap (λ ys. ys ++ union_over (λ (y : Packet). den pid_of p y.0 y.1) xs) (lost x.0 x.1) ∙ nothing xs
+
+-- a policy that makes one packet of each, by an assignment and a location
+pub visits-after : (pid_of : List ℕ → Option Pid) (p : model.Policy) (m : Cube) (items : List Item) (set : Assign) (loc : Loc) → ((h : Headers) (l : Loc) → den pid_of p h l ≡ (apply set h, arrived l loc) ∷ [])
+    → mods p ≡ set ∷ [] → AreVisits pid_of p m items [] (add_all [] (map (after_item set loc) items))
+visits-after pid_of p m items set loc one sets =
+    visits-same pid_of p m items [] (map (after_item set loc) items) (add_all [] (map (after_item set loc) items)) (record {
+      means = λ h l d. SetLemmas.same_eq (each h l items);
+      assigns = λ a k.
+          let of_one = SetLemmas.map-Member (λ (i : Item). i.0) (map (after_item set loc) items) a k in
+          let from = SetLemmas.map-Member (after_item set loc) items of_one.of of_one.stands in
+          inr (record {
+            before = from.of.0;
+            next = set;
+            before_stands = SetLemmas.Member-map (λ (i : Item). i.0) items from.of from.stands;
+            next_stands = subst (Member set) (sym sets) (inl refl);
+            is = of_one.is ∙ ap (λ (i : Item). i.0) from.is;
+          });
+    }) (same_add_all [] (map (after_item set loc) items))
+  where
+    each : (h : Headers) (l : Loc) (xs : List Item) → map (carried h l) (map (after_item set loc) xs) ≡ union_over (λ (x : Packet). den pid_of p x.0 x.1) (map (carried h l) xs)
+    each h l [] = refl
+    each h l (x ∷ xs) = ap (λ (y : Packet). y ∷ map (carried h l) (map (after_item set loc) xs)) (carried-after h l set loc x)
+        ∙ ap (λ ys. (apply set (apply x.0 h), arrived (arrived l x.1) loc) ∷ ys) (each h l xs)
+        ∙ ap (λ ys. ys ++ union_over (λ (y : Packet). den pid_of p y.0 y.1) (map (carried h l) xs)) (sym (one (apply x.0 h) (arrived l x.1)))
+
+-- a policy that leaves each packet as it is
+pub visits-unchanged : (pid_of : List ℕ → Option Pid) (m : Cube) (items : List Item) → AreVisits pid_of model.Pass m items [] items
+visits-unchanged pid_of m items = record {
+  means = λ h l d. SetLemmas.same_eq (sym (each (map (carried h l) items)));
+  assigns = λ a k. inr (record { before = a; next = no_change; before_stands = k; next_stands = inl refl; is = refl });
+}
+  where
+    each : (xs : List Packet) → union_over (λ (x : Packet). den pid_of model.Pass x.0 x.1) xs ≡ xs
+    each [] = refl
+    each (x ∷ xs) = ap (λ ys. x ∷ ys) (each xs)
+
+-- a test leaves those of the items behind which it holds
+pub visits-kept : (pid_of : List ℕ → Option Pid) (p : model.Pred) (m : Cube) (items kept lost : List Item) → IsSplit (λ i. pred_at m i.0 p) items kept lost → AreVisits pid_of (model.Match p) m items [] kept
+visits-kept pid_of p m items kept lost f = record {
+  means = λ h l d. record {
+    onto = λ y k.
+        let i = SetLemmas.map-Member (carried h l) kept y k in
+        let both = (f.kept_are i.of).0 i.stands in
+        let holding : holds p (apply i.of.0 h) ≡ true = sym ((decided m i.of.0 h p).whole (d i.of both.0)) ∙ both.1 in
+        SetLemmas.Member-union makes (map (carried h l) items) (carried h l i.of) y (SetLemmas.Member-map (carried h l) items i.of both.0)
+        (subst (λ b. Member y (cond b (carried h l i.of ∷ []) [])) (sym holding) (inl i.is));
+    back = λ y k.
+        let s = SetLemmas.union-Member makes (map (carried h l) items) y k in
+        let i = SetLemmas.map-Member (carried h l) items s.of s.stands in
+        let known : Member y (makes (carried h l i.of)) = subst (λ x. Member y (makes x)) i.is s.gives in
+        let same : pred_at m i.of.0 p ≡ holds p (apply i.of.0 h) = (decided m i.of.0 h p).whole (d i.of i.stands) in
+        back_by h l y i.of i.stands (pred_at m i.of.0 p) refl (subst (λ b. Member y (cond b (carried h l i.of ∷ []) [])) (sym same) known);
+  };
+  assigns = λ a k.
+      let i = SetLemmas.map-Member (λ (j : Item). j.0) kept a k in
+      inr (record {
+        before = i.of.0;
+        next = no_change;
+        before_stands = SetLemmas.Member-map (λ (j : Item). j.0) items i.of ((f.kept_are i.of).0 i.stands).0;
+        next_stands = inl refl;
+        is = i.is;
+      });
+}
+  where
+    makes : Packet → List Packet
+    makes x = den pid_of (model.Match p) x.0 x.1
+
+    back_by : (h : Headers) (l : Loc) (y : Packet) (i : Item) → Member i items → (b : Bool) → pred_at m i.0 p ≡ b → Member y (cond b (carried h l i ∷ []) []) → Member y (map (carried h l) kept)
+    back_by h l y i stands true is (inl e) = subst (λ z. Member z (map (carried h l) kept)) (sym e) (SetLemmas.Member-map (carried h l) kept i ((f.kept_are i).1 (stands, is)))
+    back_by h l y i stands true is (inr none) = elim none [ ]
+    back_by h l y i stands false is none = elim none [ ]
 
 -- ---- sums and chains
 
 follows-wider : (firsts ms ns : List Assign) (a : Assign) → ((x : Assign) → Member x ms → Member x ns) → Follows firsts ms a → Follows firsts ns a
 follows-wider firsts ms ns a wider f = record { before = f.before; next = f.next; before_stands = f.before_stands; next_stands = wider f.next f.next_stands; is = f.is }
 
-pub visit-both : (pid_of : List ℕ → Option Pid) (p q : model.Policy) (m : Cube) (first : Item) (old mid new : List Item) → IsVisit pid_of p m first old mid → IsVisit pid_of q m first mid new → IsVisit pid_of (model.Both p q) m first old new
-visit-both pid_of p q m first old mid new f g = record {
-  means = λ h l d.
-      let left = den pid_of p (apply first.0 h) (arrived l first.1) in
-      let right = den pid_of q (apply first.0 h) (arrived l first.1) in
-      SetLemmas.same_trans (g.means h l (decided-right m first.0 h (atoms p) (atoms q) d))
-      (SetLemmas.same_trans (SetLemmas.same_append (f.means h l (decided-left m first.0 h (atoms p) (atoms q) d)) (SetLemmas.same_refl right))
-      (SetLemmas.same_eq (append_assoc (map (carried h l) old) left right)));
-  assigns = λ a k. elim (g.assigns a k) [
-    | inl before ↦ elim (f.assigns a before) [
-      | inl known ↦ inl known
-      | inr w ↦ inr (follows-wider (first.0 ∷ []) (mods p) (mods p ++ mods q) a (SetLemmas.Member-append_left (mods p) (mods q)) w)
-    ]
-    | inr w ↦ inr (follows-wider (first.0 ∷ []) (mods q) (mods p ++ mods q) a (SetLemmas.Member-append_right (mods p) (mods q)) w)
+union-both : {A B : Type 0} (f g : A → List B) (xs : List A) → SameMembers (union_over f xs ++ union_over g xs) (union_over (λ x. f x ++ g x) xs)
+union-both f g xs = record {
+  onto = λ z k. elim (SetLemmas.Member-append_cases (union_over f xs) (union_over g xs) z k) [
+    | inl left ↦ let s = SetLemmas.union-Member f xs z left in SetLemmas.Member-union (λ x. f x ++ g x) xs s.of z s.stands (SetLemmas.Member-append_left (f s.of) (g s.of) z s.gives)
+    | inr right ↦ let s = SetLemmas.union-Member g xs z right in SetLemmas.Member-union (λ x. f x ++ g x) xs s.of z s.stands (SetLemmas.Member-append_right (f s.of) (g s.of) z s.gives)
   ];
+  back = λ z k.
+      let s = SetLemmas.union-Member (λ x. f x ++ g x) xs z k in
+      elim (SetLemmas.Member-append_cases (f s.of) (g s.of) z s.gives) [
+        | inl left ↦ SetLemmas.Member-append_left (union_over f xs) (union_over g xs) z (SetLemmas.Member-union f xs s.of z s.stands left)
+        | inr right ↦ SetLemmas.Member-append_right (union_over f xs) (union_over g xs) z (SetLemmas.Member-union g xs s.of z s.stands right)
+      ];
 }
 
-pub visits-none : (pid_of : List ℕ → Option Pid) (p : model.Policy) (m : Cube) (old : List Item) → AreVisits pid_of p m [] old old
-visits-none pid_of p m old = record { means = λ h l d. SetLemmas.same_eq (sym (append-nil (map (carried h l) old))); assigns = λ a k. inl k }
-
-pub visits-more : (pid_of : List ℕ → Option Pid) (p : model.Policy) (m : Cube) (items : List Item) (x : Item) (old mid new : List Item) → AreVisits pid_of p m items old mid → IsVisit pid_of p m x mid new → AreVisits pid_of p m (items ++ x ∷ []) old new
-visits-more pid_of p m items x old mid new f g = record {
+pub visits-both : (pid_of : List ℕ → Option Pid) (p q : model.Policy) (m : Cube) (items old mid new : List Item) → AreVisits pid_of p m items old mid → AreVisits pid_of q m items mid new → AreVisits pid_of (model.Both p q) m items old new
+visits-both pid_of p q m items old mid new f g = record {
   means = λ h l d.
-      let makes = λ (y : Packet). den pid_of p y.0 y.1 in
-      let front = union_over makes (map (carried h l) items) in
-      let last = makes (carried h l x) in
-      let whole : front ++ last ≡ union_over makes (map (carried h l) (items ++ x ∷ [])) =
-      sym (ap (union_over makes) (SetLemmas.map-append (carried h l) items (x ∷ []))
-      ∙ union-append makes (map (carried h l) items) (carried h l x ∷ []) ∙ ap (λ ys. front ++ ys) (append-nil last)) in
-      SetLemmas.same_trans (g.means h l (d x (SetLemmas.Member-append_right items (x ∷ []) x (inl refl))))
-      (SetLemmas.same_trans (SetLemmas.same_append (f.means h l (λ i k. d i (SetLemmas.Member-append_left items (x ∷ []) i k))) (SetLemmas.same_refl last))
-      (SetLemmas.same_eq (append_assoc (map (carried h l) old) front last ∙ ap (λ ys. map (carried h l) old ++ ys) whole)));
+      let xs = map (carried h l) items in
+      let left = λ (x : Packet). den pid_of p x.0 x.1 in
+      let right = λ (x : Packet). den pid_of q x.0 x.1 in
+      SetLemmas.same_trans (g.means h l (λ i k. decided-right m i.0 h (atoms p) (atoms q) (d i k)))
+      (SetLemmas.same_trans (SetLemmas.same_append (f.means h l (λ i k. decided-left m i.0 h (atoms p) (atoms q) (d i k))) (SetLemmas.same_refl (union_over right xs)))
+      (SetLemmas.same_trans (SetLemmas.same_eq (append_assoc (map (carried h l) old) (union_over left xs) (union_over right xs)))
+      (SetLemmas.same_append (SetLemmas.same_refl (map (carried h l) old)) (union-both left right xs))));
   assigns = λ a k. elim (g.assigns a k) [
     | inl before ↦ elim (f.assigns a before) [
       | inl known ↦ inl known
-      | inr w ↦ inr (record {
-        before = w.before;
-        next = w.next;
-        before_stands = subst (Member w.before) (sym (SetLemmas.map-append (λ (i : Item). i.0) items (x ∷ []))) (SetLemmas.Member-append_left (sets_of items) (x.0 ∷ []) w.before w.before_stands);
-        next_stands = w.next_stands;
-        is = w.is;
-      })
+      | inr w ↦ inr (follows-wider (sets_of items) (mods p) (mods p ++ mods q) a (SetLemmas.Member-append_left (mods p) (mods q)) w)
     ]
-    | inr w ↦ inr (record {
-      before = w.before;
-      next = w.next;
-      before_stands = subst (Member w.before) (sym (SetLemmas.map-append (λ (i : Item). i.0) items (x ∷ []))) (SetLemmas.Member-append_right (sets_of items) (x.0 ∷ []) w.before w.before_stands);
-      next_stands = w.next_stands;
-      is = w.is;
-    })
+    | inr w ↦ inr (follows-wider (sets_of items) (mods q) (mods p ++ mods q) a (SetLemmas.Member-append_right (mods p) (mods q)) w)
   ];
 }
 
@@ -195,40 +246,44 @@ decided-behind m first next p q h stands d a k =
     taken-behind m first next (behind (mods p) (atoms q)) h a (decided-right m first h (atoms p) (behind (mods p) (atoms q)) d)
     (λ b e. behind-Member (mods p) (atoms q) next a b stands k e) (pull_cube a next) refl
 
-only_one : {A : Type 0} (x y : A) → Member x (y ∷ []) → x ≡ y
-only_one x y (inl e) = e
-only_one x y (inr none) = elim none [ ]
+union-twice : {A B C : Type 0} (f : B → List C) (g : A → List B) (xs : List A) → union_over f (union_over g xs) ≡ union_over (λ x. union_over f (g x)) xs
+union-twice f g [] = refl
+union-twice f g (x ∷ xs) = union-append f (g x) (union_over g xs) ∙ ap (λ ys. union_over f (g x) ++ ys) (union-twice f g xs)
 
-pub visit-then : (pid_of : List ℕ → Option Pid) (p q : model.Policy) (m : Cube) (first : Item) (between old new : List Item) → IsVisit pid_of p m first [] between → AreVisits pid_of q m between old new → IsVisit pid_of (model.Then p q) m first old new
-visit-then pid_of p q m first between old new f g = record {
+pub visits-then : (pid_of : List ℕ → Option Pid) (p q : model.Policy) (m : Cube) (items between old new : List Item) → AreVisits pid_of p m items [] between → AreVisits pid_of q m between old new → AreVisits pid_of (model.Then p q) m items old new
+visits-then pid_of p q m items between old new f g = record {
   means = λ h l d.
       let makes = λ (y : Packet). den pid_of q y.0 y.1 in
-      SetLemmas.same_trans (g.means h l (λ i k. each h d i k))
+      let firsts = λ (y : Packet). den pid_of p y.0 y.1 in
+      let xs = map (carried h l) items in
+      SetLemmas.same_trans (g.means h l (each h d))
       (SetLemmas.same_append (SetLemmas.same_refl (map (carried h l) old))
-      (SetLemmas.same_union makes makes (f.means h l (decided-left m first.0 h (atoms p) (behind (mods p) (atoms q)) d)) (λ y. SetLemmas.same_refl (makes y))));
+      (SetLemmas.same_trans (SetLemmas.same_union makes makes (f.means h l (λ i k. decided-left m i.0 h (atoms p) (behind (mods p) (atoms q)) (d i k))) (λ y. SetLemmas.same_refl (makes y)))
+      (SetLemmas.same_eq (union-twice makes firsts xs))));
   assigns = λ a k. elim (g.assigns a k) [
     | inl before ↦ inl before
     | inr w ↦ inr (chained a w)
   ];
 }
   where
-    from_first : (a : Assign) → Member a (sets_of between) → Follows (first.0 ∷ []) (mods p) a
+    from_first : (a : Assign) → Member a (sets_of between) → Follows (sets_of items) (mods p) a
     from_first a k = elim (f.assigns a k) [ inl none ↦ elim none [ ] | inr w ↦ w ]
 
-    each : (h : Headers) → Decided m first.0 (atoms (model.Then p q)) h → (i : Item) → Member i between → Decided m i.0 (atoms q) h
+    each : (h : Headers) → ((i : Item) → Member i items → Decided m i.0 (atoms (model.Then p q)) h) → (i : Item) → Member i between → Decided m i.0 (atoms q) h
     each h d i k =
         let w = from_first i.0 (SetLemmas.Member-map (λ (j : Item). j.0) between i k) in
-        let is : i.0 ≡ followed_by first.0 w.next = w.is ∙ ap (λ b. followed_by b w.next) (only_one w.before first.0 w.before_stands) in
-        subst (λ set. Decided m set (atoms q) h) (sym is) (decided-behind m first.0 w.next p q h w.next_stands d)
+        let first = SetLemmas.map-Member (λ (j : Item). j.0) items w.before w.before_stands in
+        let is : i.0 ≡ followed_by first.of.0 w.next = w.is ∙ ap (λ b. followed_by b w.next) first.is in
+        subst (λ set. Decided m set (atoms q) h) (sym is) (decided-behind m first.of.0 w.next p q h w.next_stands (d first.of first.stands))
 
-    chained : (a : Assign) → Follows (sets_of between) (mods q) a → Follows (first.0 ∷ []) (mods (model.Then p q)) a
+    chained : (a : Assign) → Follows (sets_of between) (mods q) a → Follows (sets_of items) (mods (model.Then p q)) a
     chained a w =
         let v = from_first w.before w.before_stands in
         record {
-          before = first.0;
+          before = v.before;
           next = followed_by v.next w.next;
-          before_stands = inl refl;
+          before_stands = v.before_stands;
           next_stands = SetLemmas.Member-union (λ x. map (λ y. followed_by x y) (mods q)) (mods p) v.next (followed_by v.next w.next) v.next_stands
               (SetLemmas.Member-map (λ y. followed_by v.next y) (mods q) w.next w.next_stands);
-          is = w.is ∙ ap (λ b. followed_by b w.next) (v.is ∙ ap (λ b. followed_by b v.next) (only_one v.before first.0 v.before_stands)) ∙ sym (followed-regrouped first.0 v.next w.next);
+          is = w.is ∙ ap (λ b. followed_by b w.next) v.is ∙ sym (followed-regrouped v.before v.next w.next);
         }

@@ -1,5 +1,5 @@
 -- The rules of cells, each with what the policy makes there, do what the policy does.
-use Rattle.std.proofs.Common.{◌≡◌, ℕ, true, cond, Option, Some, unwrap_or, List, [], ◌∷◌, ◌++◌, map, refl, inl, inr, sym, ap, ◌∙◌, subst}
+use Rattle.std.proofs.Common.{◌≡◌, ℕ, true, cond, Option, Some, unwrap_or, List, [], ◌∷◌, ◌++◌, map, refl, inl, inr, sym, ap, ◌∙◌, subst, append-nil}
 use Rattle.std.proofs.lemmas.Bool.{cases_Bool, false≢true, false_from_ne_true}
 use Rattle.net_types.specs.declared.address.Pid.{Pid}
 use Rattle.net_types.specs.declared.cube.Cube.{Cube}
@@ -25,7 +25,8 @@ use Rattle.classifier.proofs.DecideLemmas.{decide-add_lines, or_none}
 use Rattle.classifier.proofs.LineLemmas.{EachLine, each-add_lines}
 use Rattle.classifier.proofs.ShapeLemmas.{cubes-push}
 use Rattle.policy_compile.specs.Cells.{first_of, AreCells}
-use Rattle.policy_compile.specs.Paths.{taken_into, within_found, Decided, sets_of, IsVisit, AreAt, begun}
+use Rattle.classifier.specs.Items.{Item}
+use Rattle.policy_compile.specs.Paths.{taken_into, within_found, Decided, sets_of, AreVisits, AreAt, begun}
 use Rattle.classifier.proofs.CompileLemmas.{pull-no_change}
 
 -- ---- rules put last
@@ -33,12 +34,12 @@ use Rattle.classifier.proofs.CompileLemmas.{pull-no_change}
 pub at-none : (pid_of : List ℕ → Option Pid) (p : model.Policy) → AreAt pid_of p [] []
 at-none pid_of p = record { cubes_are = refl; gives = λ x k. elim k [ ] }
 
-pub at-more : (pid_of : List ℕ → Option Pid) (p : model.Policy) (cubes : List Cube) (xs : List Line) (x : Line) (c : Cube) → AreAt pid_of p cubes xs → x.cube ≡ c → IsVisit pid_of p x.cube begun [] x.results → AreAt pid_of p (cubes ++ c ∷ []) (xs ++ x ∷ [])
+pub at-more : (pid_of : List ℕ → Option Pid) (p : model.Policy) (cubes : List Cube) (xs : List Line) (x : Line) (c : Cube) → AreAt pid_of p cubes xs → x.cube ≡ c → AreVisits pid_of p x.cube (begun ∷ []) [] x.results → AreAt pid_of p (cubes ++ c ∷ []) (xs ++ x ∷ [])
 at-more pid_of p cubes xs x c f e v = record {
   cubes_are = cubes-push xs x ∙ ap (λ ks. ks ++ x.cube ∷ []) f.cubes_are ∙ ap (λ d. cubes ++ d ∷ []) e;
   gives = λ y k. elim (SetLemmas.Member-append_cases xs (x ∷ []) y k) [
     | inl old ↦ f.gives y old
-    | inr new ↦ elim new [ inl same ↦ subst (λ (z : Line). IsVisit pid_of p z.cube begun [] z.results) (sym same) v | inr none ↦ elim none [ ] ]
+    | inr new ↦ elim new [ inl same ↦ subst (λ (z : Line). AreVisits pid_of p z.cube (begun ∷ []) [] z.results) (sym same) v | inr none ↦ elim none [ ] ]
   ];
 }
 
@@ -109,7 +110,8 @@ module _ (pid_of : List ℕ → Option Pid) (p : model.Policy) (all cubes : List
       let cube : rule.line.cube ≡ first_of cubes h = rule.cube ∙ ap (λ ks. first_of ks h) at.cubes_are ∙ first-closed cubes h in
       let decided : Decided rule.line.cube no_change (atoms p) h = λ a k. ap (λ m. taken_into m no_change (Some a)) cube ∙ cell-decides all cubes h cells a (same.back a k) in
       let gives : decide (lines_of c) h ≡ Some rule.line.results = ap (λ ys. decide ys h) made ∙ decide-add_lines [] xs h ∙ rule.is in
-      SetLemmas.same_trans (SetLemmas.same_eq (ap (λ o. map (carried h l) (unwrap_or o [])) gives)) ((at.gives rule.line rule.stands).means h l decided)
+      SetLemmas.same_trans (SetLemmas.same_eq (ap (λ o. map (carried h l) (unwrap_or o [])) gives)) (SetLemmas.same_trans ((at.gives rule.line rule.stands).means h l (λ i k. elim k [ inl e ↦ subst (λ (j : Item). Decided rule.line.cube j.0 (atoms p) h) (sym e) decided | inr none ↦ elim none [ ] ]))
+      (SetLemmas.same_eq (append-nil (den pid_of p h l))))
 
   is-meet : (x : Line) → Member x xs → IsMeet (atoms p) x.cube
   is-meet x k = elim (SetLemmas.Member-append_cases cubes (everything ∷ []) x.cube (subst (Member x.cube) at.cubes_are (SetLemmas.Member-map (λ (y : Line). y.cube) xs x k))) [

@@ -5,4 +5,7 @@ pub mod Measures
 pub mod Parts
 pub mod Cells
 pub mod Paths
+pub mod Near
+pub mod Lists
 pub mod Summed
+pub mod Exact

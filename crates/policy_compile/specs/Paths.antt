@@ -6,7 +6,7 @@ use Rattle.net_types.specs.declared.headers.Headers.{Headers}
 use Rattle.net_types.specs.declared.headers.Loc.{Loc}
 use Rattle.net_types.specs.declared.headers.Loc.TheVariants.{Stay}
 use Rattle.net_types.specs.declared.headers.Assign.{Assign}
-use Rattle.net_types.specs.Headers.{apply, arrived, no_change}
+use Rattle.net_types.specs.Headers.{apply, no_change}
 use Rattle.net_types.specs.Cubes.{has, pull_cube, lies_within_cube}
 use Rattle.net_types.specs.Sets.{Member, SameMembers, union_over}
 use Rattle.net_types.specs.Policies.{Packet, Pred, Yes, Is, Not, And, Or, Policy, den, mods, atoms, test_cube, plain, one_more}
@@ -58,13 +58,7 @@ Decided m set cubes h = (a : Cube) → Member a cubes → taken_into m set (Some
 abbrev pub sets_of : List Item → List Assign
 sets_of items = map (λ (i : Item). i.0) items
 
--- to the items were added those that the policy makes behind the first one, in the cube
-pub record IsVisit (pid_of : List ℕ → Option Pid) (p : Policy) (m : Cube) (first : Item) (old new : List Item) : Type 0 where
-  pub means : (h : Headers) (l : Loc) → Decided m first.0 (atoms p) h
-      → SameMembers (map (carried h l) new) (map (carried h l) old ++ den pid_of p (apply first.0 h) (arrived l first.1))
-  pub assigns : (a : Assign) → Member a (sets_of new) → Member a (sets_of old) ⊎ Follows (first.0 ∷ []) (mods p) a
-
--- the same, behind each of several items
+-- to the items were added those that the policy makes behind each of some, in the cube
 pub record AreVisits (pid_of : List ℕ → Option Pid) (p : Policy) (m : Cube) (items old new : List Item) : Type 0 where
   pub means : (h : Headers) (l : Loc) → ((i : Item) → Member i items → Decided m i.0 (atoms p) h)
       → SameMembers (map (carried h l) new) (map (carried h l) old ++ union_over (λ (x : Packet). den pid_of p x.0 x.1) (map (carried h l) items))
@@ -77,4 +71,4 @@ begun = (no_change, Stay)
 -- rules of these cubes, each with what the policy makes in its cube
 pub record AreAt (pid_of : List ℕ → Option Pid) (p : Policy) (cubes : List Cube) (xs : List Line) : Type 0 where
   pub cubes_are : cubes_of xs ≡ cubes
-  pub gives : (x : Line) → Member x xs → IsVisit pid_of p x.cube begun [] x.results
+  pub gives : (x : Line) → Member x xs → AreVisits pid_of p x.cube (begun ∷ []) [] x.results

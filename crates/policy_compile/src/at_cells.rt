@@ -1,6 +1,6 @@
 //! Policies compiled cube by cube.
 
-ghost use Rattle.std.specs.Prelude.{◌≡◌, [], IfOk};
+ghost use Rattle.std.specs.Prelude.{◌≡◌, ◌∷◌, [], IfOk};
 ghost use Rattle.policy_syntax.specs.Views.{policy_of};
 ghost use Rattle.net_types.specs.Cubes.{everything};
 ghost use Rattle.classifier.specs.Classifiers.{lines_of};
@@ -8,67 +8,35 @@ ghost use Rattle.classifier.specs.Lines.{add_lines};
 ghost use Rattle.net_types.specs.Sets.{Member};
 ghost use Rattle.classifier.specs.Meaning.{cubes_of};
 ghost use Rattle.classifier.specs.Compiled.{IsCompiled};
-ghost use Rattle.policy_compile.specs.Paths.{AreAt, IsVisit, begun};
+ghost use Rattle.policy_compile.specs.Paths.{AreAt, AreVisits, begun};
 
 use crate::atoms::atoms_of;
 use crate::cells::cells_of;
-use crate::paths::push_paths;
-use classifier::{Classifier, Gathering, Line, Results, push_lines};
-use net_types::{Assign, Cube, Items, Loc, Memory, TryCopy};
+use crate::lists::{BEGUN, Lists};
+use crate::paths::made_of;
+use classifier::{Classifier, Line, Results, push_lines};
+use net_types::{Cube, Items, Memory, TryCopy};
 use policy_isolate::Names;
 use policy_syntax::Tree;
 use std::alloc::Global;
 use std::collections::HashSet;
 
-/// So many results have a list of their own, which is no more work than to look whether the rule before has the same.
-const FEW: usize = 16;
-
-/// What a policy makes of the packets of a cube, in a list of its own.
-fn made_at<N: Names>(
-    alloc: Global,
-    tree: &Tree<'_>,
-    names: &N,
-    cube: &Cube,
-) -> Result<Results, Memory>
-    ensures { IfOk result (λ r. IsVisit (N.pid_of names.now) (policy_of tree.now) cube.now begun [] r) }
-{
-    let mut found = Gathering::new(alloc);
-    push_paths(
-        alloc,
-        &mut found,
-        tree,
-        names,
-        cube,
-        (Assign::none(), Loc::Stay),
-    )?;
-    Ok(found.into_results())
-}
-
-/// The results; where they are many, those of the rule before where these are equal, so that both share them.
-fn settled(last: Option<&Line>, results: Results) -> Result<Results, Memory>
-    ensures { IfOk result (λ r. r ≡ results) }
-{
-    if results.len() <= FEW {
-        return Ok(results);
-    }
-    match last {
-        Some(line) if line.results.equals(&results) => line.results.copy(),
-        _ => results.shared(),
-    }
-}
-
 /// What a policy makes of the packets of a cube.
 fn results_at<N: Names>(
     alloc: Global,
+    lists: &mut Lists,
     tree: &Tree<'_>,
     names: &N,
     cube: &Cube,
-    last: Option<&Line>,
 ) -> Result<Results, Memory>
-    ensures { IfOk result (λ r. IsVisit (N.pid_of names.now) (policy_of tree.now) cube.now begun [] r) }
+    ensures { IfOk result (λ r. AreVisits (N.pid_of names.now) (policy_of tree.now) cube.now (begun ∷ []) [] r) }
 {
-    let results = made_at(alloc, tree, names, cube)?;
-    settled(last, results)
+    if lists.is_full() {
+        *lists = Lists::new(alloc)?;
+    }
+    let number = made_of(alloc, lists, tree, names, cube, BEGUN)?;
+    let results = lists.table[number].copy()?;
+    Ok(results)
 }
 
 /// The rule of each cube.
@@ -80,9 +48,10 @@ fn lines_at<N: Names>(
 ) -> Result<Vec<Line>, Memory>
     ensures { IfOk result (λ v. AreAt (N.pid_of names.now) (policy_of tree.now) cubes.now v.items) }
 {
+    let mut lists = Lists::new(alloc)?;
     let mut lines = Vec::new(alloc);
     for cube in cubes {
-        let results = results_at(alloc, tree, names, cube, lines.last())?;
+        let results = results_at(alloc, &mut lists, tree, names, cube)?;
         lines.push(Line {
             cube: *cube,
             results,

@@ -1,145 +1,209 @@
 //! What the paths of a policy make of the packets of one cube.
 
-ghost use Rattle.std.specs.Prelude.{◌≡◌, OnOk};
-ghost use Rattle.policy_syntax.specs.Views.{pred_of, policy_of, target_of};
+ghost use Rattle.std.specs.Prelude.{◌≡◌, ◌<◌, [], length, IfOk, OnOk};
+ghost use Rattle.net_types.specs.declared.cube.Cube.{Cube as AnyCube};
 ghost use Rattle.net_types.specs.declared.headers.Span.{Span as AnySpan};
 ghost use Rattle.net_types.specs.Policies.{Fwd};
-ghost use Rattle.policy_compile.specs.Paths.{taken_into, pred_at, part_at, IsVisit, AreVisits};
+ghost use Rattle.policy_syntax.specs.Views.{pred_of, policy_of, target_of};
+ghost use Rattle.classifier.specs.Numbered.{list_at};
+ghost use Rattle.policy_compile.specs.Paths.{pred_at, part_at, AreVisits};
+ghost use Rattle.policy_compile.specs.Lists.{AreInside, IsGrown, IsNew, IsSplit, items_of};
 
+use crate::lists::{BEGUN, Halves, Lists, NONE};
 use crate::preds::{cube_of_test, plain_cube};
-use classifier::Gathering;
 use net_types::{Assign, Cube, Loc, Memory};
 use policy_isolate::Names;
 use policy_syntax::{Node, Pred, Target, Tree};
 use std::alloc::Global;
 
-/// Whether an assignment takes all headers of a cube into the tested one, if there is one.
-fn is_taken_into(cube: &Cube, set: &Assign, tested: Option<Cube>) -> bool
-    ensures { result ≡ taken_into cube.now set.now tested }
-{
-    match tested {
-        None => false,
-        Some(tested) => match cube::pull(&tested, set) {
-            None => false,
-            Some(before) => cube::within(cube, &before),
-        },
-    }
-}
-
-/// Whether a predicate holds in a cube behind an assignment, by the parts of a conjunction.
+/// The results of a list behind which a predicate holds in a cube, and the others, by the parts of a conjunction.
 #[cycle(holding)]
-fn parts_hold(cube: &Cube, set: &Assign, pred: &Pred<'_>) -> bool
-    ensures { result ≡ part_at cube.now set.now (pred_of pred.now) }
+fn split_by_parts(
+    lists: &mut Lists,
+    cube: &Cube,
+    pred: &Pred<'_>,
+    list: usize,
+) -> Result<Halves, Memory>
+    requires list { list < length lists.old.table.items }
+    ensures kept { IfOk result (λ h. IsNew lists.old.table.items lists.new.table.items h.kept) }
+    ensures lost { IfOk result (λ h. IsNew lists.old.table.items lists.new.table.items h.lost) }
+    ensures split { IfOk result (λ h. IsSplit (λ i. part_at cube.now i.0 (pred_of pred.now)) (list_at lists.old.table.items list)
+        (list_at lists.new.table.items h.kept) (list_at lists.new.table.items h.lost)) }
 {
     match pred {
-        Pred::Yes => true,
-        Pred::Is(test, _) => is_taken_into(cube, set, Some(cube_of_test(test))),
-        Pred::Not(inner) => !holds(cube, set, inner),
-        Pred::And(first, second) => parts_hold(cube, set, first) && holds(cube, set, second),
-        Pred::Or(first, second) => holds(cube, set, first) || holds(cube, set, second),
+        Pred::Yes => Ok(Halves {
+            kept: list,
+            lost: NONE,
+        }),
+        Pred::Is(test, _) => {
+            let halves = lists.split(list, cube, &cube_of_test(test))?;
+            Ok(halves)
+        }
+        Pred::Not(inner) => {
+            let halves = split(lists, cube, inner, list)?;
+            Ok(Halves {
+                kept: halves.lost,
+                lost: halves.kept,
+            })
+        }
+        Pred::And(first, second) => {
+            let near = split_by_parts(lists, cube, first, list)?;
+            let far = split(lists, cube, second, near.kept)?;
+            let lost = lists.sum(near.lost, far.lost)?;
+            Ok(Halves {
+                kept: far.kept,
+                lost,
+            })
+        }
+        Pred::Or(first, second) => {
+            let near = split(lists, cube, first, list)?;
+            let far = split(lists, cube, second, near.lost)?;
+            let kept = lists.sum(near.kept, far.kept)?;
+            Ok(Halves {
+                kept,
+                lost: far.lost,
+            })
+        }
     }
 }
 
-/// Whether a predicate holds in a cube behind an assignment. Each of its atoms, there, holds the cube or meets none of it.
+/// The results of a list behind which a predicate holds in a cube, and the others. Each of its atoms, there, holds the cube or meets none of it.
 #[cycle(holding)]
-fn holds(cube: &Cube, set: &Assign, pred: &Pred<'_>) -> bool
-    ensures { result ≡ pred_at cube.now set.now (pred_of pred.now) }
+fn split(lists: &mut Lists, cube: &Cube, pred: &Pred<'_>, list: usize) -> Result<Halves, Memory>
+    requires list { list < length lists.old.table.items }
+    ensures kept { IfOk result (λ h. IsNew lists.old.table.items lists.new.table.items h.kept) }
+    ensures lost { IfOk result (λ h. IsNew lists.old.table.items lists.new.table.items h.lost) }
+    ensures split { IfOk result (λ h. IsSplit (λ i. pred_at cube.now i.0 (pred_of pred.now)) (list_at lists.old.table.items list)
+        (list_at lists.new.table.items h.kept) (list_at lists.new.table.items h.lost)) }
 {
+    if list == NONE {
+        return Ok(Halves {
+            kept: NONE,
+            lost: NONE,
+        });
+    }
     match plain_cube(pred) {
-        Some(found) => is_taken_into(cube, set, found),
-        None => parts_hold(cube, set, pred),
+        Some(Some(test)) => {
+            let halves = lists.split(list, cube, &test)?;
+            Ok(halves)
+        }
+        Some(None) => Ok(Halves {
+            kept: NONE,
+            lost: list,
+        }),
+        None => {
+            let halves = split_by_parts(lists, cube, pred, list)?;
+            Ok(halves)
+        }
     }
 }
 
-/// Puts the result of a forward behind a path last; none where a name is nobody's.
-fn push_target<N: Names>(
-    found: &mut Gathering,
+/// What a forward makes of each result of a list; nothing where a name is nobody's.
+fn forwarded<N: Names>(
+    lists: &mut Lists,
     target: Target<'_>,
     names: &N,
-    cube: &Cube,
-    path: (Assign, Loc),
-) -> Result<(), Memory>
-    ensures { OnOk result ((span : AnySpan) → IsVisit (N.pid_of names.now) (Fwd (target_of target.entry) span) cube.now path found.old found.new) }
+    list: usize,
+) -> Result<usize, Memory>
+    requires list { list < length lists.old.table.items }
+    ensures known { IfOk result (IsNew lists.old.table.items lists.new.table.items) }
+    ensures made { IfOk result (λ n. (m : AnyCube) (span : AnySpan) →
+        AreVisits (N.pid_of names.now) (Fwd (target_of target.entry) span) m (list_at lists.old.table.items list) [] (list_at lists.new.table.items n)) }
 {
     match target {
         Target::Number(port) => {
-            found.push((path.0, Loc::Out(port)))?;
-            Ok(())
+            let sent = lists.after(list, Assign::none(), Loc::Out(port))?;
+            Ok(sent)
         }
         Target::Name(name) => match names.find(name) {
             Some(who) => {
-                found.push((path.0, Loc::To(who)))?;
-                Ok(())
+                let sent = lists.after(list, Assign::none(), Loc::To(who))?;
+                Ok(sent)
             }
-            None => Ok(()),
+            None => Ok(NONE),
         },
     }
 }
 
-/// Puts what a policy makes behind a path last, in a cube, where it isn't there.
+/// What a policy makes of each result of a list, in a cube.
 #[cycle(paths)]
-pub fn push_paths<N: Names>(
+pub fn made_of<N: Names>(
     alloc: Global,
-    found: &mut Gathering,
+    lists: &mut Lists,
     tree: &Tree<'_>,
     names: &N,
     cube: &Cube,
-    path: (Assign, Loc),
-) -> Result<(), Memory>
-    ensures { OnOk result (IsVisit (N.pid_of names.now) (policy_of tree.now) cube.now path found.old found.new) }
+    list: usize,
+) -> Result<usize, Memory>
+    requires list { list < length lists.old.table.items }
+    ensures known { IfOk result (IsNew lists.old.table.items lists.new.table.items) }
+    ensures made { IfOk result (λ n. AreVisits (N.pid_of names.now) (policy_of tree.now) cube.now (list_at lists.old.table.items list) [] (list_at lists.new.table.items n)) }
 {
+    if list == NONE {
+        return Ok(NONE);
+    }
     match tree.node() {
-        Node::Drop => Ok(()),
-        Node::Pass => {
-            found.push(path)?;
-            Ok(())
-        }
+        Node::Drop => Ok(NONE),
+        Node::Pass => Ok(list),
         Node::Block => {
-            found.push((path.0, Loc::Nowhere))?;
-            Ok(())
+            let blocked = lists.after(list, Assign::none(), Loc::Nowhere)?;
+            Ok(blocked)
         }
         Node::Fwd(target, _) => {
-            push_target(found, target, names, cube, path)?;
-            Ok(())
+            let sent = forwarded(lists, target, names, list)?;
+            Ok(sent)
         }
         Node::Test(pred) => {
-            if holds(cube, &path.0, pred) {
-                found.push(path)?;
-            }
-            Ok(())
+            let halves = split(lists, cube, pred, list)?;
+            Ok(halves.kept)
         }
         Node::Set(set, _) => {
-            found.push((path.0.followed_by(&set), path.1))?;
-            Ok(())
+            let changed = lists.after(list, set, Loc::Stay)?;
+            Ok(changed)
         }
         Node::Both(first, second) => {
-            push_paths(alloc, found, first, names, cube, path)?;
-            push_paths(alloc, found, second, names, cube, path)?;
-            Ok(())
+            let mut numbers = Vec::new(alloc);
+            push_made(alloc, lists, &mut numbers, first, names, cube, list)?;
+            push_made(alloc, lists, &mut numbers, second, names, cube, list)?;
+            let either = lists.sum_all(&numbers)?;
+            Ok(either)
         }
         Node::Then(first, second) => {
-            let mut between = Gathering::new(alloc);
-            push_paths(alloc, &mut between, first, names, cube, path)?;
-            push_each(alloc, found, second, names, cube, between.items())?;
-            Ok(())
+            let between = made_of(alloc, lists, first, names, cube, list)?;
+            let chained = made_of(alloc, lists, second, names, cube, between)?;
+            Ok(chained)
         }
     }
 }
 
-/// Puts what a policy makes behind each of some paths last, in a cube, where it isn't there.
+/// Puts what each part of a sum makes last, however its brackets stand; of another policy what it makes.
 #[cycle(paths)]
-fn push_each<N: Names>(
+fn push_made<N: Names>(
     alloc: Global,
-    found: &mut Gathering,
+    lists: &mut Lists,
+    numbers: &mut Vec<usize>,
     tree: &Tree<'_>,
     names: &N,
     cube: &Cube,
-    paths: &[(Assign, Loc)],
+    list: usize,
 ) -> Result<(), Memory>
-    ensures { OnOk result (AreVisits (N.pid_of names.now) (policy_of tree.now) cube.now paths.now found.old found.new) }
+    requires list { list < length lists.old.table.items }
+    requires inside { AreInside lists.old.table.items numbers.old.items }
+    ensures grown { OnOk result (IsGrown lists.old.table.items lists.new.table.items) }
+    ensures inside { OnOk result (AreInside lists.new.table.items numbers.new.items) }
+    ensures made { OnOk result (AreVisits (N.pid_of names.now) (policy_of tree.now) cube.now (list_at lists.old.table.items list)
+        (items_of lists.old.table.items numbers.old.items) (items_of lists.new.table.items numbers.new.items)) }
 {
-    for path in paths {
-        push_paths(alloc, found, tree, names, cube, *path)?;
+    match tree.node() {
+        Node::Both(first, second) => {
+            push_made(alloc, lists, numbers, first, names, cube, list)?;
+            push_made(alloc, lists, numbers, second, names, cube, list)?;
+            Ok(())
+        }
+        _ => {
+            let number = made_of(alloc, lists, tree, names, cube, list)?;
+            numbers.push(number)?;
+            Ok(())
+        }
     }
-    Ok(())
 }
