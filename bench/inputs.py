@@ -388,6 +388,10 @@ EACH = "+".join(f"fwd({named(n)})" for n in range(1, 255))
 PORTS = "+".join(f"fwd({port})" for port in range(5, 255))
 TEN_PORTS = "+".join(f"fwd({port})" for port in range(5, 15))
 BEFORE_PORTS = assigned(31, 32) + ">>(" + PORTS + ")+" + four_fields(1, 15, "")
+ASSIGNED = assigned(32, 32)
+FROM = "|".join(tests_of("srcip", nets(190)))
+TOWARDS = "|".join(tests_of("dstip", nets(190)))
+MANY_PORTS = "+".join(f"fwd({port})" for port in range(5, 200))
 SLOWEST = [
     ("out, 65536 meets of four fields", exchange_of_three, ("out", "A"), four_fields(1, 15, ">>fwd(C)")),
     ("in, 65536 meets of four fields", exchange_of_three, ("in", "B"), four_fields(1, 15, ">>fwd(2)")),
@@ -417,6 +421,16 @@ SLOWEST = [
      "(" + denied(15, four_each) + ")>>(fwd(2)+fwd(3)+fwd(5)+fwd(6))"),
     ("in, 65536 meets, the same again before a port, and 16 assignments before ten ports, no routes", ports_without_routes, ("in", "B"),
      assigned(4, 4) + ">>(" + TEN_PORTS + ")+" + four_fields(1, 15, "") + "+" + four_fields(1, 15, ">>fwd(2)")),
+    ("in, 65536 meets, the same again before a port, and 992 assignments before 195 ports, no routes", ports_without_routes, ("in", "B"),
+     assigned(31, 32) + ">>(" + MANY_PORTS + ")+" + four_fields(1, 15, "") + "+" + four_fields(1, 15, ">>fwd(2)")),
+    ("in, 1024 assignments before tests of 190 sources or 190 destinations, no routes", ports_without_routes, ("in", "B"),
+     f"{ASSIGNED}>>match({FROM}|{TOWARDS})>>fwd(2)"),
+    ("in, 1024 assignments before tests of 190 sources and 190 destinations, no routes", ports_without_routes, ("in", "B"),
+     f"{ASSIGNED}>>match(({FROM})&({TOWARDS}))>>fwd(2)"),
+    ("in, 1024 assignments before 12 sources and 12 destinations, each before a port of its own, no routes", ports_without_routes, ("in", "B"),
+     ASSIGNED + ">>(" + "+".join(f"match({test})>>fwd({n + 5})" for n, test in enumerate(tests_of("srcip", nets(12)) + tests_of("dstip", nets(12)))) + ")"),
+    ("in, 992 assignments before 245 ports, all before a test by `!`, no routes", ports_without_routes, ("in", "B"),
+     "(" + assigned(31, 32) + ">>(" + "+".join(f"fwd({port})" for port in range(5, 250)) + "))>>match(!srcip=1.0.0.0/8)"),
 ]
 
 # a policy that is accepted, and the reply to which has 248000 actions in each of 65536 rules
