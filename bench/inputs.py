@@ -433,6 +433,11 @@ SLOWEST = [
      "(" + assigned(31, 32) + ">>(" + "+".join(f"fwd({port})" for port in range(5, 250)) + "))>>match(!srcip=1.0.0.0/8)"),
 ]
 
+AFTER = "(" + denied(15, four_each) + ")"
+AFTER += "".join(f">>match(!srcport={port})" for port in range(5000, 5000 + (8192 - len(AFTER)) // len(">>match(!srcport=5000)")))
+# a policy that is accepted, where some 225 results of each of 65536 cubes, which differ, go through 92 tests one after another
+LONGEST = ("in, 60 tests by `!` of four fields, each before 4 assignments, before 92 tests by `!`", ports_without_routes, ("in", "B"), AFTER)
+
 # a policy that is accepted, and the reply to which has 248000 actions in each of 65536 rules
 ENDLESS = ("in, 65536 meets and 992 assignments before 250 ports", exchange_of_many_ports, ("in", "B"), BEFORE_PORTS)
 
