@@ -7,5 +7,6 @@ pub mod LapseLemmas
 pub mod EachLemmas
 pub mod PartLemmas
 pub mod RunLemmas
+pub mod SizeLemmas
 pub mod WeightLemmas
 pub mod PutLemmas

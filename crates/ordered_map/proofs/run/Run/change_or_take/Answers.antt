@@ -1,9 +1,10 @@
 -- The entry at the place, which lapses or lasts, and none at a gap.
-use Rattle.std.proofs.Common.{◌≡◌, true, false, cond, sym, ap, ◌∙◌}
+use Rattle.std.proofs.Common.{◌≡◌, true, false, cond, sym, ap, ◌∙◌, length, ◌+◌}
 use Rattle.std.specs.Prelude.{Some, None, slice_index_or, remove}
 use Rattle.std.specs.Option.{option_map}
 use Rattle.ordered_map.specs.Lapsed.{lapsing}
 use Rattle.ordered_map.proofs.RunLemmas.{found_there, gap_at, gap_past, held_lapses, held_lasts, none_lapses, removed, there}
+use Rattle.ordered_map.proofs.SizeLemmas.{held_within, run_less, run_same}
 use Rattle.ordered_map.proofs.run.Run.change_or_take.Goals as goal
 
 pub returns-then-has_lapsed-clause-value : goal.returns-then-has_lapsed-clause-value
@@ -66,3 +67,22 @@ pub returns-in-Beyond-clause-entries : goal.returns-in-Beyond-clause-entries
 returns-in-Beyond-clause-entries g c =
     let gap = gap_past g.K.Ord.cmp c.args.key.now c.args.self.now c.in-Beyond.ensures.placed in
     sym (none_lapses g.K.Ord.cmp c.args.key.now (g.C.Change.changed c.args.change.now) g.V.Lapse.lapsed c.args.self.now gap.find_is gap.without_is)
+
+pub place-requires : goal.place-requires
+place-requires g c = c.requires.rising
+
+pub change_value-requires : goal.change_value-requires
+change_value-requires g c = held_within g.K.Ord.cmp c.args.key.now c.args.self.now _ _ _ (c.self.inside.entries.ok.0 ∙ ap length c.self.view_is) c.in-Held.ensures.placed
+
+pub index-requires : goal.index-requires
+index-requires g c = held_within g.K.Ord.cmp c.args.key.now c.args.self.now _ _ _ (c.change_value.ensures.len ∙ c.self.inside.entries.ok.0 ∙ ap length c.self.view_is) c.in-Held.ensures.placed
+
+pub remove-requires : goal.remove-requires
+remove-requires g c = held_within g.K.Ord.cmp c.args.key.now c.args.self.now _ _ _ (c.change_value.ensures.len ∙ c.self.inside.entries.ok.0 ∙ ap length c.self.view_is) c.in-Held.ensures.placed
+
+pub invariant_of-self : goal.invariant_of-self
+invariant_of-self g c = run_less _ _ c.self.invariant (ap (λ n. n + 1) (sym c.remove.new.self.ok.0) ∙ c.remove.ensures.len ∙ c.change_value.ensures.len ∙ c.self.inside.entries.ok.0) (c.remove.ensures.capacity ∙ c.change_value.ensures.capacity)
+
+pub invariant_of-self-else-has_lapsed : goal.invariant_of-self-else-has_lapsed
+invariant_of-self-else-has_lapsed g c = run_same _ _ c.self.invariant (sym c.change_value.new.entries.ok.0 ∙ c.change_value.ensures.len ∙ c.self.inside.entries.ok.0) c.change_value.ensures.capacity
+

@@ -1,7 +1,8 @@
 -- The entry at the place, and none at a gap.
-use Rattle.std.proofs.Common.{sym, ap, ◌∙◌}
+use Rattle.std.proofs.Common.{sym, ap, ◌∙◌, length, ◌+◌}
 use Rattle.std.specs.Prelude.{Some, slice_index_or, remove}
 use Rattle.ordered_map.proofs.RunLemmas.{found_there, gap_at, gap_past, is_there, taken_out}
+use Rattle.ordered_map.proofs.SizeLemmas.{held_within, run_less}
 use Rattle.ordered_map.proofs.run.Run.take.Goals as goal
 
 pub returns-in-Held-clause-value : goal.returns-in-Held-clause-value
@@ -26,3 +27,13 @@ returns-in-Beyond-clause-value g c = sym ((gap_past g.K.Ord.cmp c.args.key.now c
 
 pub returns-in-Beyond-clause-entries : goal.returns-in-Beyond-clause-entries
 returns-in-Beyond-clause-entries g c = sym ((gap_past g.K.Ord.cmp c.args.key.now c.args.self.now c.in-Beyond.ensures.placed).without_is)
+
+pub place-requires : goal.place-requires
+place-requires g c = c.requires.rising
+
+pub remove-requires : goal.remove-requires
+remove-requires g c = held_within g.K.Ord.cmp c.args.key.now c.args.self.now _ _ _ (c.self.inside.entries.ok.0 ∙ ap length c.self.view_is) c.in-Held.ensures.placed
+
+pub invariant_of-self : goal.invariant_of-self
+invariant_of-self g c = run_less _ _ c.self.invariant (ap (λ n. n + 1) (sym c.remove.new.self.ok.0) ∙ c.remove.ensures.len ∙ c.self.inside.entries.ok.0) c.remove.ensures.capacity
+
