@@ -1,6 +1,6 @@
 -- Entries that are put last until there are so many.
-use Rattle.std.proofs.Common.{◌≡◌, ℕ, suc, zero, length, List, [], ◌∷◌, ◌++◌, ap, sym, ◌∙◌, refl, take}
-use Rattle.std.proofs.lemmas.List.{append_assoc, take_at, take-append-drop}
+use Rattle.std.proofs.Common.{◌≡◌, ◌≤◌, ℕ, suc, zero, length, List, [], ◌∷◌, ◌++◌, ap, sym, ◌∙◌, refl, take}
+use Rattle.std.proofs.lemmas.List.{append_assoc, take_all, take_at, take-append-drop}
 use Rattle.std.specs.Prelude.{drop}
 
 module _ {A : Type 0} where
@@ -28,3 +28,7 @@ module _ {A : Type 0} where
   enough n given es xs i is size =
       sym (take_at es (drop i xs) n size)
       ∙ ap (take n) (ap (λ ys. ys ++ drop i xs) is ∙ append_assoc given (take i xs) (drop i xs) ∙ ap (λ ys. given ++ ys) (take-append-drop i xs))
+
+  -- where there are no more, all are there
+  pub all_gathered : (n : ℕ) (given es xs : List A) (i : ℕ) → es ≡ given ++ take i xs → length xs ≤ i → length es ≤ n → es ≡ take n (given ++ xs)
+  all_gathered n given es xs i is all few = sym (take_all n es few) ∙ ap (take n) (is ∙ ap (λ ys. given ++ ys) (take_all i xs all))

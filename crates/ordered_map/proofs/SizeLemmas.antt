@@ -42,6 +42,12 @@ any_size n = omega arith
 pub up_to : (a b : ℕ) → a ≡ b → a ≤ b
 up_to a b is = omega (arith, is)
 
+pub up_from : {a b c : ℕ} → a ≤ b → b ≤ c → a ≤ c
+up_from low high = omega (arith, low, high)
+
+pub next_counted : {n count len after : ℕ} → n ≤ count → len ≡ n → (len ≡ count → ⊥) → after ≡ n + 1 → after ≤ count
+next_counted few size apart next = omega (arith, few, size, apart, next)
+
 pub one_less : (n : ℕ) → n - 1 ≤ n
 one_less n = omega arith
 
@@ -101,3 +107,14 @@ module _ {K V : Type 0} (R : K → K → Ordering) (q : K) where
 pub some_there : {A : Type 0} (es : List A) (e : A) → slice_get es (length es - 1) ≡ Some e → 0 < length es
 some_there [] e is = cc
 some_there (x ∷ es) e is = omega arith
+
+-- ---- sums over the parts of a node, from left to right
+
+pub told_parts : (n n1 n2 n3 l l1 m m1 r r1 x : ℕ) → n1 + l ≡ n + l1 → n2 + m ≡ n1 + m1 → n3 + r ≡ n2 + r1 → n3 + (l + (x + (m + r))) ≡ n + (l1 + (x + (m1 + r1)))
+told_parts n n1 n2 n3 l l1 m m1 r r1 x left middle right = omega (arith, left, middle, right)
+
+pub told_then : (n n1 n2 a b c : ℕ) → n1 + a ≡ n + b → n2 + b ≡ n1 + c → n2 + a ≡ n + c
+told_then n n1 n2 a b c first second = omega (arith, first, second)
+
+pub still_counted : {n n1 a b : ℕ} → n1 + a ≡ n + b → a ≤ n → b ≤ n1
+still_counted both counted = omega (arith, both, counted)

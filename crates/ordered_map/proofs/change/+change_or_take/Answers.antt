@@ -1,4 +1,4 @@
-use Rattle.std.proofs.Common.{◌≡◌, ◌∷◌, ◌++◌, true, false, cond, sym, ap, ◌∙◌, rules, arith, IsTrue}
+use Rattle.std.proofs.Common.{◌≡◌, ◌∷◌, ◌++◌, true, false, cond, sym, ap, ◌∙◌, rules, IsTrue, refl}
 use Rattle.std.specs.Prelude.{None, Some}
 use Rattle.std.specs.Option.{option_map}
 use Rattle.std.specs.FinMap.Entries.{find, is_sorted}
@@ -6,6 +6,7 @@ use Rattle.ordered_map.specs.Entries.{entries_of, node_entries}
 use Rattle.ordered_map.specs.Lapsed.{changed_or_without, lapsing}
 use Rattle.ordered_map.proofs.LapseLemmas.{lapsed_here, lapsed_left, lapsed_beyond, lapsed_between, lasting_here}
 use Rattle.ordered_map.proofs.SplitLemmas.{left_shorter, last_shorter, left_of, here_at, right_of, beyond_of, between_of, sorted_front}
+use Rattle.ordered_map.proofs.SizeLemmas.{up_to}
 use Rattle.ordered_map.proofs.change.+change_or_take.Goals as goal
 
 pub change_or_take-side-requires : goal.change_or_take-side-requires
@@ -47,7 +48,7 @@ returns-in-Less-clause-entries g t c =
     let whole : entries_of c.args.tree.now ≡ entries_of c.in-Full.left ++ (c.in-Full.held, c.in-Full.value) ∷ (c.in-Full.others ++ entries_of c.in-Full.right) = ap entries_of c.in-Fork.is ∙ ap node_entries (sym c.deref_mut.ensures.value ∙ c.in-Full.is) in
     let both = lapsed_left g.K.Ord.cmp g.met.K.Ord.total c.args.key.now (g.C.Change.changed c.args.change.now) g.V.Lapse.lapsed _ _ _ (ap (is_sorted g.K.Ord.cmp) (sym whole) ∙ c.requires.rising) (sym c.cmp.ensures ∙ c.in-Less.is) in
     let same = ap (changed_or_without g.K.Ord.cmp c.args.key.now (g.C.Change.changed c.args.change.now) g.V.Lapse.lapsed) whole ∙ both in
-    grind (arith, same)
+    c.rebalance.ensures ∙ ap (λ es. es ++ (c.in-Full.held, c.in-Full.value) ∷ (c.in-Full.others ++ entries_of c.in-Full.right)) c.change_or_take-side.ensures.entries ∙ sym same
 
 pub returns-then-has_lapsed-clause-value : goal.returns-then-has_lapsed-clause-value
 returns-then-has_lapsed-clause-value g t c =
@@ -90,7 +91,7 @@ returns-then-is_below-clause-entries g t c =
     let whole : entries_of c.args.tree.now ≡ entries_of c.in-Full.left ++ (c.in-Full.held, c.in-Full.value) ∷ (c.in-Full.others ++ entries_of c.in-Full.right) = ap entries_of c.in-Fork.is ∙ ap node_entries (sym c.deref_mut.ensures.value ∙ c.in-Full.is) in
     let both = lapsed_beyond g.K.Ord.cmp g.met.K.Ord.total c.args.key.now (g.C.Change.changed c.args.change.now) g.V.Lapse.lapsed (entries_of c.in-Full.left) (c.in-Full.held, c.in-Full.value) c.in-Full.others (entries_of c.in-Full.right) (ap (is_sorted g.K.Ord.cmp) (sym whole) ∙ c.requires.rising) (sym c.cmp.ensures ∙ c.in-Greater.is) c.if-is_below.ensures.past in
     let same = ap (changed_or_without g.K.Ord.cmp c.args.key.now (g.C.Change.changed c.args.change.now) g.V.Lapse.lapsed) whole ∙ both in
-    grind (arith, same)
+    c.rebalance-then-is_below.ensures ∙ ap (λ es. entries_of c.in-Full.left ++ (c.in-Full.held, c.in-Full.value) ∷ (c.in-Full.others ++ es)) c.change_or_take-side-then-is_below.ensures.entries ∙ sym same
 
 pub returns-else-is_below-clause-value : goal.returns-else-is_below-clause-value
 returns-else-is_below-clause-value g t c =
@@ -103,3 +104,36 @@ returns-else-is_below-clause-entries g t c =
     let whole : entries_of c.args.tree.now ≡ entries_of c.in-Full.left ++ (c.in-Full.held, c.in-Full.value) ∷ (c.in-Full.others ++ entries_of c.in-Full.right) = ap entries_of c.in-Fork.is ∙ ap node_entries (sym c.deref_mut.ensures.value ∙ c.in-Full.is) in
     let both = lapsed_between g.K.Ord.cmp g.met.K.Ord.total c.args.key.now (g.C.Change.changed c.args.change.now) g.V.Lapse.lapsed (entries_of c.in-Full.left) (c.in-Full.held, c.in-Full.value) c.in-Full.others (entries_of c.in-Full.right) (ap (is_sorted g.K.Ord.cmp) (sym whole) ∙ c.requires.rising) (sym c.cmp.ensures ∙ c.in-Greater.is) (c.if-is_below.ensures.within (entries_of c.in-Full.right)) in
     ap (λ es. entries_of c.in-Full.left ++ (c.in-Full.held, c.in-Full.value) ∷ (es ++ entries_of c.in-Full.right)) c.change_or_take.ensures.entries ∙ sym both ∙ ap (changed_or_without g.K.Ord.cmp c.args.key.now (g.C.Change.changed c.args.change.now) g.V.Lapse.lapsed) (sym whole)
+
+pub returns-then-has_lapsed-clause-room : goal.returns-then-has_lapsed-clause-room
+returns-then-has_lapsed-clause-room g t c = c.take_root.ensures.room
+
+pub returns-then-is_below-clause-room : goal.returns-then-is_below-clause-room
+returns-then-is_below-clause-room g t c = c.change_or_take-side-then-is_below.ensures.room
+
+pub returns-in-Empty-clause-value : goal.returns-in-Empty-clause-value
+returns-in-Empty-clause-value g t c = sym (ap (λ es. lapsing g.V.Lapse.lapsed (option_map (g.C.Change.changed c.args.change.now) (find g.K.Ord.cmp c.args.key.now es))) (ap entries_of c.in-Empty.is))
+
+pub returns-in-Empty-clause-entries : goal.returns-in-Empty-clause-entries
+returns-in-Empty-clause-entries g t c = ap entries_of c.in-Empty.is ∙ sym (ap (changed_or_without g.K.Ord.cmp c.args.key.now (g.C.Change.changed c.args.change.now) g.V.Lapse.lapsed) (ap entries_of c.in-Empty.is))
+
+pub returns-in-Empty-clause-room : goal.returns-in-Empty-clause-room
+returns-in-Empty-clause-room g t c = up_to _ _ refl
+
+pub returns-in-Blank-clause-value : goal.returns-in-Blank-clause-value
+returns-in-Blank-clause-value g t c = sym (ap (λ es. lapsing g.V.Lapse.lapsed (option_map (g.C.Change.changed c.args.change.now) (find g.K.Ord.cmp c.args.key.now es))) (ap entries_of c.in-Fork.is ∙ ap node_entries (sym c.deref_mut.ensures.value ∙ c.in-Blank.is)))
+
+pub returns-in-Blank-clause-entries : goal.returns-in-Blank-clause-entries
+returns-in-Blank-clause-entries g t c = ap node_entries c.in-Blank.is ∙ sym (ap (changed_or_without g.K.Ord.cmp c.args.key.now (g.C.Change.changed c.args.change.now) g.V.Lapse.lapsed) (ap entries_of c.in-Fork.is ∙ ap node_entries (sym c.deref_mut.ensures.value ∙ c.in-Blank.is)))
+
+pub returns-in-Blank-clause-room : goal.returns-in-Blank-clause-room
+returns-in-Blank-clause-room g t c = up_to _ _ refl
+
+pub returns-in-Less-clause-room : goal.returns-in-Less-clause-room
+returns-in-Less-clause-room g t c = c.change_or_take-side.ensures.room
+
+pub returns-else-has_lapsed-clause-room : goal.returns-else-has_lapsed-clause-room
+returns-else-has_lapsed-clause-room g t c = up_to _ _ refl
+
+pub returns-else-is_below-clause-room : goal.returns-else-is_below-clause-room
+returns-else-is_below-clause-room g t c = up_to _ _ refl

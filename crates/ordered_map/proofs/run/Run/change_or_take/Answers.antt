@@ -85,4 +85,3 @@ invariant_of-self g c = run_less _ _ c.self.invariant (ap (λ n. n + 1) (sym c.r
 
 pub invariant_of-self-else-has_lapsed : goal.invariant_of-self-else-has_lapsed
 invariant_of-self-else-has_lapsed g c = run_same _ _ c.self.invariant (sym c.change_value.new.entries.ok.0 ∙ c.change_value.ensures.len ∙ c.self.inside.entries.ok.0) c.change_value.ensures.capacity
-

@@ -36,4 +36,3 @@ remove-requires g c = held_within g.K.Ord.cmp c.args.key.now c.args.self.now _ _
 
 pub invariant_of-self : goal.invariant_of-self
 invariant_of-self g c = run_less _ _ c.self.invariant (ap (λ n. n + 1) (sym c.remove.new.self.ok.0) ∙ c.remove.ensures.len ∙ c.self.inside.entries.ok.0) c.remove.ensures.capacity
-
