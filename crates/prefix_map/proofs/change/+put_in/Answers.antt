@@ -1,4 +1,4 @@
-use Rattle.std.proofs.Common.{◌≡◌, ◌<◌, ◌+◌, ◌++◌, None, sym, ap, subst, ◌∙◌, rules, arith}
+use Rattle.std.proofs.Common.{◌≡◌, ◌<◌, ◌+◌, ◌++◌, None, sym, ap, subst, ◌∙◌, rules, arith, ℕ, ◌≤◌}
 use Rattle.std.specs.Vec.{vec_len}
 use Rattle.std.specs.FinMap.Entries.{find}
 use Rattle.net_types.specs.Keys.{prefix_cmp}
@@ -12,6 +12,12 @@ use Rattle.prefix_map.proofs.StandLemmas.{in_low, in_high}
 use Rattle.prefix_map.proofs.NodeLemmas.{all_in, told_over_low, told_over_high}
 use Rattle.prefix_map.proofs.ForkLemmas.{fork_here, fork_low, fork_high, fork_over_low, fork_over_high, fork_before, fork_after}
 use Rattle.prefix_map.proofs.change.+put_in.Goals as goal
+
+at_most : (a b : ℕ) → a ≡ b → a ≤ b
+at_most a b is = omega (arith, is)
+
+at_least : (n k : ℕ) → n ≤ n + k
+at_least n k = omega arith
 
 pub put_in-requires : goal.put_in-requires
 put_in-requires g t c κs within =
@@ -230,3 +236,66 @@ returns-in-After-clause-entries g t c =
     let kept : IsNode node = subst (λ n. IsNode n) (sym c.deref_mut-node.ensures.value) (subst (λ t. IsTrie t) c.in-Fork.is c.requires.halves) in
     let told = fork_after c.args.trie.now node is kept c.args.key c.in-After.ensures in
     c.put_after.ensures.entries ∙ sym (told.put_is c.args.value)
+
+pub returns-then-eq-clause-room : goal.returns-then-eq-clause-room
+returns-then-eq-clause-room g t c = at_least _ _
+
+pub put_over_low-requires-clause-halves : goal.put_over_low-requires-clause-halves
+put_over_low-requires-clause-halves g t c = subst (λ n. IsNode n) (sym c.deref_mut-node.ensures.value) (subst (λ t. IsTrie t) c.in-Fork.is c.requires.halves)
+
+pub put_over_high-requires-clause-halves : goal.put_over_high-requires-clause-halves
+put_over_high-requires-clause-halves g t c = subst (λ n. IsNode n) (sym c.deref_mut-node.ensures.value) (subst (λ t. IsTrie t) c.in-Fork.is c.requires.halves)
+
+pub common-fork-requires : goal.common-fork-requires
+common-fork-requires g t c = c.in-Before.ensures
+
+pub put_before-requires-clause-key : goal.put_before-requires-clause-key
+put_before-requires-clause-key g t c = c.common-fork.ensures.low
+
+pub common-fork-requires-in-After : goal.common-fork-requires-in-After
+common-fork-requires-in-After g t c = c.in-After.ensures
+
+pub put_after-requires-clause-key : goal.put_after-requires-clause-key
+put_after-requires-clause-key g t c = c.common-fork-in-After.ensures.high
+
+pub returns-in-Empty-clause-room : goal.returns-in-Empty-clause-room
+returns-in-Empty-clause-room g t c = at_least _ _
+
+pub returns-else-eq-clause-room : goal.returns-else-eq-clause-room
+returns-else-eq-clause-room g t c = at_most _ _ (sym c.boxed.ensures.room)
+
+pub returns-in-Same-clause-halves : goal.returns-in-Same-clause-halves
+returns-in-Same-clause-halves g t c = subst (λ n. IsNode n) (sym c.deref_mut-node.ensures.value) (subst (λ t. IsTrie t) c.in-Fork.is c.requires.halves)
+
+pub returns-in-Same-clause-room : goal.returns-in-Same-clause-room
+returns-in-Same-clause-room g t c = at_least _ _
+
+pub returns-in-Low-clause-room : goal.returns-in-Low-clause-room
+returns-in-Low-clause-room g t c = c.put_in.ensures.room
+
+pub returns-in-High-clause-room : goal.returns-in-High-clause-room
+returns-in-High-clause-room g t c = c.put_in-in-High.ensures.room
+
+pub returns-in-OverLow-clause-halves : goal.returns-in-OverLow-clause-halves
+returns-in-OverLow-clause-halves g t c = c.put_over_low.ensures.halves
+
+pub returns-in-OverLow-clause-room : goal.returns-in-OverLow-clause-room
+returns-in-OverLow-clause-room g t c = at_most _ _ c.put_over_low.ensures.room
+
+pub returns-in-OverHigh-clause-halves : goal.returns-in-OverHigh-clause-halves
+returns-in-OverHigh-clause-halves g t c = c.put_over_high.ensures.halves
+
+pub returns-in-OverHigh-clause-room : goal.returns-in-OverHigh-clause-room
+returns-in-OverHigh-clause-room g t c = at_most _ _ c.put_over_high.ensures.room
+
+pub returns-in-Before-clause-halves : goal.returns-in-Before-clause-halves
+returns-in-Before-clause-halves g t c = c.put_before.ensures.halves
+
+pub returns-in-Before-clause-room : goal.returns-in-Before-clause-room
+returns-in-Before-clause-room g t c = at_most _ _ c.put_before.ensures.room
+
+pub returns-in-After-clause-halves : goal.returns-in-After-clause-halves
+returns-in-After-clause-halves g t c = c.put_after.ensures.halves
+
+pub returns-in-After-clause-room : goal.returns-in-After-clause-room
+returns-in-After-clause-room g t c = at_most _ _ c.put_after.ensures.room

@@ -1,10 +1,13 @@
-use Rattle.std.proofs.Common.{◌≡◌, ◌++◌, sym, ap, subst, ◌∙◌}
+use Rattle.std.proofs.Common.{◌≡◌, ◌++◌, sym, ap, subst, ◌∙◌, ℕ, ◌≤◌, arith, refl}
 use Rattle.prefix_map.specs.Entries.{entries_of, node_entries, own}
 use Rattle.prefix_map.specs.Halves.{LiesLow, LiesHigh}
 use Rattle.prefix_map.specs.Tries.{IsTrie, IsNode, AllKeys}
 use Rattle.prefix_map.proofs.ListLemmas.{all_without}
 use Rattle.prefix_map.proofs.ForkLemmas.{fork_here, fork_low, fork_high, fork_over_low, fork_over_high, fork_before, fork_after}
 use Rattle.prefix_map.proofs.change.+take.Goals as goal
+
+at_most : (a b : ℕ) → a ≡ b → a ≤ b
+at_most a b is = omega (arith, is)
 
 pub take_below-returns-in-Same-clause-value : goal.take_below-returns-in-Same-clause-value
 take_below-returns-in-Same-clause-value g t c =
@@ -131,3 +134,52 @@ take_below-returns-in-After-clause-entries g t c =
     let kept : IsNode node = subst (λ n. IsNode n) (sym c.deref_mut-node.ensures.value) (subst (λ t. IsTrie t) c.in-Fork.is c.requires.halves) in
     let told = fork_after c.args.trie.now node is kept c.args.key c.in-After.ensures in
     sym told.without_is
+
+pub take_below-returns-in-Empty-clause-halves : goal.take_below-returns-in-Empty-clause-halves
+take_below-returns-in-Empty-clause-halves g t c = c.requires.halves
+
+pub take_below-returns-in-Empty-clause-room : goal.take_below-returns-in-Empty-clause-room
+take_below-returns-in-Empty-clause-room g t c = at_most _ _ refl
+
+pub take_below-returns-then-eq-clause-room : goal.take_below-returns-then-eq-clause-room
+take_below-returns-then-eq-clause-room g t c = at_most _ _ refl
+
+pub take_below-returns-else-eq-clause-room : goal.take_below-returns-else-eq-clause-room
+take_below-returns-else-eq-clause-room g t c = at_most _ _ refl
+
+pub take_below-returns-in-Same-clause-halves : goal.take_below-returns-in-Same-clause-halves
+take_below-returns-in-Same-clause-halves g t c = subst (λ n. IsNode n) (sym c.deref_mut-node.ensures.value) (subst (λ t. IsTrie t) c.in-Fork.is c.requires.halves)
+
+pub take_below-returns-in-Same-clause-room : goal.take_below-returns-in-Same-clause-room
+take_below-returns-in-Same-clause-room g t c = at_most _ _ refl
+
+pub take_below-returns-in-Low-clause-room : goal.take_below-returns-in-Low-clause-room
+take_below-returns-in-Low-clause-room g t c = c.take_from.ensures.room
+
+pub take_below-returns-in-High-clause-room : goal.take_below-returns-in-High-clause-room
+take_below-returns-in-High-clause-room g t c = c.take_from-in-High.ensures.room
+
+pub take_below-returns-in-OverLow-clause-halves : goal.take_below-returns-in-OverLow-clause-halves
+take_below-returns-in-OverLow-clause-halves g t c = subst (λ n. IsNode n) (sym c.deref_mut-node.ensures.value) (subst (λ t. IsTrie t) c.in-Fork.is c.requires.halves)
+
+pub take_below-returns-in-OverLow-clause-room : goal.take_below-returns-in-OverLow-clause-room
+take_below-returns-in-OverLow-clause-room g t c = at_most _ _ refl
+
+pub take_below-returns-in-OverHigh-clause-halves :
+    goal.take_below-returns-in-OverHigh-clause-halves
+take_below-returns-in-OverHigh-clause-halves g t c = subst (λ n. IsNode n) (sym c.deref_mut-node.ensures.value) (subst (λ t. IsTrie t) c.in-Fork.is c.requires.halves)
+
+pub take_below-returns-in-OverHigh-clause-room : goal.take_below-returns-in-OverHigh-clause-room
+take_below-returns-in-OverHigh-clause-room g t c = at_most _ _ refl
+
+pub take_below-returns-in-Before-clause-halves : goal.take_below-returns-in-Before-clause-halves
+take_below-returns-in-Before-clause-halves g t c = subst (λ n. IsNode n) (sym c.deref_mut-node.ensures.value) (subst (λ t. IsTrie t) c.in-Fork.is c.requires.halves)
+
+pub take_below-returns-in-Before-clause-room : goal.take_below-returns-in-Before-clause-room
+take_below-returns-in-Before-clause-room g t c = at_most _ _ refl
+
+pub take_below-returns-in-After-clause-halves : goal.take_below-returns-in-After-clause-halves
+take_below-returns-in-After-clause-halves g t c = subst (λ n. IsNode n) (sym c.deref_mut-node.ensures.value) (subst (λ t. IsTrie t) c.in-Fork.is c.requires.halves)
+
+pub take_below-returns-in-After-clause-room : goal.take_below-returns-in-After-clause-room
+take_below-returns-in-After-clause-room g t c = at_most _ _ refl
