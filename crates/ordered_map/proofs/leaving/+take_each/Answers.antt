@@ -1,7 +1,9 @@
 -- Both sides, and the entry between them.
-use Rattle.std.proofs.Common.{◌≡◌, ◌≤◌, ◌<◌, ◌+◌, ◌^◌, ◌∷◌, ◌++◌, length, sym, ap, subst, ◌∙◌, rules, arith, IsTrue, refl}
+use Rattle.std.proofs.Common.{◌≡◌, ◌≤◌, ◌<◌, ◌+◌, ◌^◌, ◌∷◌, ◌++◌, length, sym, ap, subst, ◌∙◌, rules, arith, IsTrue, refl, List, [], nat_eq}
+use Rattle.std.proofs.lemmas.Bool.{eqb-true}
 use Rattle.std.specs.Prelude.{true, false}
 use Rattle.std.specs.FinMap.Entries.{is_sorted}
+use Rattle.std.specs.declared.cmp.Ordering.{Ordering}
 use Rattle.ordered_map.specs.Entries.{entries_of, node_entries, without_each}
 use Rattle.ordered_map.specs.Parted.{IsParted}
 use Rattle.ordered_map.specs.Weights.{weigh}
@@ -10,6 +12,13 @@ use Rattle.ordered_map.proofs.SplitLemmas.{length_parts, sorted_back, sorted_fro
 use Rattle.ordered_map.proofs.WeightLemmas.{weigh_parts}
 use Rattle.ordered_map.proofs.SizeLemmas.{still_counted, told_parts, told_then, up_from, up_to}
 use Rattle.ordered_map.proofs.leaving.+take_each.Goals as goal
+
+no_keys : {K X : Type 0} (R : K → K → Ordering) (ks : List K) (es : List (K × X)) → nat_eq (length ks) 0 ≡ true → es ≡ without_each R ks es
+no_keys R [] es none = refl
+no_keys R (k ∷ ks) es none = let same = eqb-true (length (k ∷ ks)) 0 none in absurd (omega (arith, same))
+
+pub returns-then-is_empty-clause-entries : goal.returns-then-is_empty-clause-entries
+returns-then-is_empty-clause-entries g t c = no_keys g.K.Ord.cmp c.args.keys.now (entries_of c.args.tree.now) (sym c.is_empty.ensures ∙ c.if-is_empty.true)
 
 pub take_each-requires : goal.take_each-requires
 take_each-requires g t c κs within =

@@ -1,4 +1,4 @@
-use Rattle.std.proofs.Common.{◌≡◌, sym, ap, ◌∙◌, rules, arith, IsTrue, None}
+use Rattle.std.proofs.Common.{◌≡◌, ◌∷◌, ◌++◌, sym, ap, ◌∙◌, rules, IsTrue, None}
 use Rattle.std.specs.Ordering.{is_lt}
 use Rattle.std.specs.FinMap.Entries.{find, is_sorted}
 use Rattle.ordered_map.specs.Entries.{entries_of}
@@ -25,10 +25,10 @@ pub returns-then-is_lt-clause-entries : goal.returns-then-is_lt-clause-entries
 returns-then-is_lt-clause-entries g t c =
     let forked = forked_at g.K.Ord.cmp (ap entries_of c.in-Fork.is) (sym c.deref_mut.ensures.value ∙ c.in-Full.is) c.requires.rising in
     let same = (sought_left g.K.Ord.cmp c.args.key g.met.K.Ord.total forked (sym c.cmp.ensures ∙ less _ (sym c.is_lt.ensures ∙ c.if-is_lt.true))).put_is c.args.value.now in
-    grind (arith, same)
+    c.rebalance.ensures ∙ ap (λ es. es ++ (c.in-Full.held, c.in-Full.value) ∷ (c.in-Full.others ++ entries_of c.in-Full.right)) c.put_box-side.ensures.entries ∙ sym same
 
 pub returns-else-is_lt-clause-entries : goal.returns-else-is_lt-clause-entries
 returns-else-is_lt-clause-entries g t c =
     let forked = forked_at g.K.Ord.cmp (ap entries_of c.in-Fork.is) (sym c.deref_mut.ensures.value ∙ c.in-Full.is) c.requires.rising in
     let same = (sought_beyond g.K.Ord.cmp c.args.key g.met.K.Ord.total forked (not_smaller g.K.Ord.cmp c.args.key g.met.K.Ord.total forked c.requires.absent (ap is_lt (sym c.cmp.ensures) ∙ sym c.is_lt.ensures ∙ c.if-is_lt.false))).put_is c.args.value.now in
-    grind (arith, same)
+    c.rebalance-else-is_lt.ensures ∙ ap (λ es. entries_of c.in-Full.left ++ (c.in-Full.held, c.in-Full.value) ∷ es) c.put_box_beside-side.ensures.entries ∙ sym same

@@ -1,4 +1,4 @@
-use Rattle.std.proofs.Common.{◌≡◌, ◌∷◌, ◌++◌, sym, ap, ◌∙◌, rules, arith, IsTrue, None}
+use Rattle.std.proofs.Common.{◌≡◌, ◌∷◌, ◌++◌, sym, ap, ◌∙◌, rules, IsTrue, None}
 use Rattle.std.proofs.lemmas.List.{append_assoc}
 use Rattle.std.specs.Ordering.{is_lt}
 use Rattle.std.specs.FinMap.Entries.{find, is_sorted}
@@ -30,14 +30,14 @@ returns-then-is_lt-clause-entries g t c =
     let forked = forked_beside g.K.Ord.cmp c.args.run.now (ap entries_of c.in-Fork.is) (sym c.deref_mut.ensures.value ∙ c.in-Full.is) c.requires.rising in
     let same = (sought_left g.K.Ord.cmp c.args.key g.met.K.Ord.total forked (sym c.cmp.ensures ∙ less _ (sym c.is_lt.ensures ∙ c.if-is_lt.true))).put_is c.args.value.now in
     let both = append_assoc c.put_box_beside-side.new.run (entries_of c.put_box_beside-side.new.tree) ((c.in-Full.held, c.in-Full.value) ∷ (c.in-Full.others ++ entries_of c.in-Full.right)) in
-    grind (arith, same, both)
+    ap (λ es. c.put_box_beside-side.new.run ++ es) c.rebalance.ensures ∙ sym both ∙ ap (λ es. es ++ (c.in-Full.held, c.in-Full.value) ∷ (c.in-Full.others ++ entries_of c.in-Full.right)) c.put_box_beside-side.ensures.entries ∙ sym same
 
 pub returns-else-is_lt-clause-entries : goal.returns-else-is_lt-clause-entries
 returns-else-is_lt-clause-entries g t c =
     let forked = forked_beside g.K.Ord.cmp c.args.run.now (ap entries_of c.in-Fork.is) (sym c.deref_mut.ensures.value ∙ c.in-Full.is) c.requires.rising in
     let same = (sought_beyond g.K.Ord.cmp c.args.key g.met.K.Ord.total forked (not_smaller g.K.Ord.cmp c.args.key g.met.K.Ord.total forked c.requires.absent (ap is_lt (sym c.cmp.ensures) ∙ sym c.is_lt.ensures ∙ c.if-is_lt.false))).put_is c.args.value.now in
     let both = append_assoc c.args.run.now (entries_of c.in-Full.left) ((c.in-Full.held, c.in-Full.value) ∷ (c.put_box_beside-side-else-is_lt.new.run ++ entries_of c.put_box_beside-side-else-is_lt.new.tree)) in
-    grind (arith, same, both)
+    ap (λ es. c.args.run.now ++ es) c.rebalance-else-is_lt.ensures ∙ sym both ∙ ap (λ es. (c.args.run.now ++ entries_of c.in-Full.left) ++ (c.in-Full.held, c.in-Full.value) ∷ es) c.put_box_beside-side-else-is_lt.ensures.entries ∙ sym same
 
 pub put_past-requires : goal.put_past-requires
 put_past-requires g t c =
