@@ -109,8 +109,5 @@ returns-in-Blank-clause-room g t c = up_to _ _ refl
 pub returns-in-Less-clause-room : goal.returns-in-Less-clause-room
 returns-in-Less-clause-room g t c = c.take_from-side.ensures.room
 
-pub returns-in-Equal-clause-room : goal.returns-in-Equal-clause-room
-returns-in-Equal-clause-room g t c = c.take_root.ensures.room
-
 pub returns-else-is_below-clause-room : goal.returns-else-is_below-clause-room
 returns-else-is_below-clause-room g t c = up_to _ _ refl
