@@ -19,3 +19,4 @@ mod ReadAsSpelled
 mod SoundReading
 mod PathSizes
 mod ShortReading
+mod HeadParts
