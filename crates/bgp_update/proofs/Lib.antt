@@ -20,3 +20,4 @@ mod SoundReading
 mod PathSizes
 mod ShortReading
 mod HeadParts
+mod WrittenLists
