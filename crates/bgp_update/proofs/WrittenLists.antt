@@ -1,5 +1,5 @@
 -- Lists that are written item by item.
-use Rattle.std.proofs.Common.{◌≡◌, ℕ, ◌+◌, ◌<◌, List, [], ◌∷◌, ◌++◌, take, length, get_or, flat_map, refl, ap, sym, ◌∙◌, append_assoc}
+use Rattle.std.proofs.Common.{◌≡◌, ℕ, ◌+◌, ◌<◌, List, [], ◌∷◌, ◌++◌, take, length, get_or, flat_map, ap, sym, ◌∙◌, append_assoc}
 use Rattle.std.proofs.lemmas.List.{flat_map_more, take_more}
 use Rattle.net_types.specs.Updates.{long, short}
 

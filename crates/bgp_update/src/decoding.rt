@@ -54,10 +54,7 @@ fn lengths(len: usize, rest: &[u8]) -> Result<(&[u8], usize, &[u8]), UpdateFault
     ensure(withdrawn_len + 23 <= len, Fault::Malformed)?;
     let (withdrawn, rest) = octets(withdrawn_len, rest, Fault::Malformed)?;
     let (attributes_len, rest) = two_octets(rest, Fault::Malformed)?;
-    ensure(
-        withdrawn_len + attributes_len + 23 <= len,
-        Fault::Malformed,
-    )?;
+    ensure(withdrawn_len + attributes_len + 23 <= len, Fault::Malformed)?;
     Ok((withdrawn, attributes_len, rest))
 }
 
