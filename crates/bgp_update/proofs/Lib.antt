@@ -19,3 +19,5 @@ mod ReadAsSpelled
 mod SoundReading
 mod PathSizes
 mod ShortReading
+mod HeadParts
+mod WrittenLists

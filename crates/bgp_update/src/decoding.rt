@@ -10,6 +10,7 @@ ghost use Rattle.net_types.specs.Updates.{canonical};
 ghost use Rattle.net_types.specs.declared.update.Update.{Update as Value};
 ghost use Rattle.net_types.specs.declared.update.Fault.{Fault as Cause};
 ghost use Rattle.bgp_update.specs.Answers.{AreNew, Gives, IsDecoded, head_of};
+ghost use Rattle.bgp_update.specs.Heads.{read_lengths, read_opening};
 ghost use Rattle.net_types.specs.UpdateReading.{decoded, read_head};
 
 use crate::attributes::attributes;
@@ -26,11 +27,10 @@ fn all_ones(octets: &[u8]) -> bool
     octets.iter().all(|octet| *octet == 255)
 }
 
-/// What stands in front of the announced prefixes: withdrawn prefixes and attributes.
-#[tactic(auto, unfolding(net_types::specs::UpdateReading::read_head))]
-fn head(alloc: Global, bytes: &[u8]) -> Result<(Vec<Prefix>, Vec<Attribute>, &[u8]), UpdateFault>
-    ensures reads { Gives (λ x. (head_of x.0.items x.1.items, x.2.now)) result (read_head (length bytes.now) bytes.now) }
-    ensures new { IfOk result (λ x. AreNew no_types x.1.items) }
+/// The length of a message, from its marker, length and type.
+#[tactic(auto, unfolding(crate::specs::Heads::read_opening))]
+fn opening(bytes: &[u8]) -> Result<(usize, &[u8]), UpdateFault>
+    ensures { Gives (λ x. (x.0, x.1.now)) result (read_opening (length bytes.now) bytes.now) }
 {
     let (marker, rest) = octets(16, bytes, Fault::BadHeader)?;
     ensure(all_ones(marker), Fault::BadHeader)?;
@@ -42,11 +42,30 @@ fn head(alloc: Global, bytes: &[u8]) -> Result<(Vec<Prefix>, Vec<Attribute>, &[u
     let (kind, rest) = octet(rest, Fault::BadHeader)?;
     ensure(kind == 2, Fault::NotUpdate)?;
     ensure(23 <= len, Fault::BadHeader)?;
+    Ok((len, rest))
+}
+
+/// The octets of the withdrawn prefixes, and how many octets the attributes take.
+#[tactic(auto, unfolding(crate::specs::Heads::read_lengths))]
+fn lengths(len: usize, rest: &[u8]) -> Result<(&[u8], usize, &[u8]), UpdateFault>
+    ensures { Gives (λ x. ((x.0.now, x.1), x.2.now)) result (read_lengths len rest.now) }
+{
     let (withdrawn_len, rest) = two_octets(rest, Fault::Malformed)?;
     ensure(withdrawn_len + 23 <= len, Fault::Malformed)?;
     let (withdrawn, rest) = octets(withdrawn_len, rest, Fault::Malformed)?;
     let (attributes_len, rest) = two_octets(rest, Fault::Malformed)?;
     ensure(withdrawn_len + attributes_len + 23 <= len, Fault::Malformed)?;
+    Ok((withdrawn, attributes_len, rest))
+}
+
+/// What stands in front of the announced prefixes: withdrawn prefixes and attributes.
+#[tactic(auto, unfolding(crate::specs::Heads::read_parts))]
+fn head(alloc: Global, bytes: &[u8]) -> Result<(Vec<Prefix>, Vec<Attribute>, &[u8]), UpdateFault>
+    ensures reads { Gives (λ x. (head_of x.0.items x.1.items, x.2.now)) result (read_head (length bytes.now) bytes.now) }
+    ensures new { IfOk result (λ x. AreNew no_types x.1.items) }
+{
+    let (len, rest) = opening(bytes)?;
+    let (withdrawn, attributes_len, rest) = lengths(len, rest)?;
     let withdrawn = prefixes(alloc, withdrawn)?;
     let (inner, rest) = octets(attributes_len, rest, Fault::Malformed)?;
     let all = attributes(alloc, inner)?;

@@ -19,3 +19,4 @@ pub mod TightLemmas
 pub mod SameRules
 mod LentLemmas
 pub mod GatheredItems
+mod LoopLemmas

@@ -1,6 +1,6 @@
 //! Rules over ports to leave by, as rules of the table.
 
-ghost use Rattle.std.specs.Prelude.{◌≡◌, ◌++◌, IfOk, OnOk};
+ghost use Rattle.std.specs.Prelude.{◌≡◌, ◌++◌, ◌∷◌, [], IfOk, OnOk};
 ghost use Rattle.block_build.specs.Rules.{action_at, actions_in, actions_of, rule_of, rules_of};
 
 use crate::turned::Turned;
@@ -51,6 +51,23 @@ fn held(actions: Actions, rules: usize) -> Result<Actions, Memory>
     }
 }
 
+/// Puts the rule of a line last, one of so many.
+fn push_rule(
+    rules: &mut Vec<Rule>,
+    turned: &mut Turned,
+    x: Line,
+    count: usize,
+) -> Result<(), Memory>
+    ensures { OnOk result (rules.new.items ≡ rules.old.items ++ rule_of x ∷ []) }
+{
+    let actions = held(turned.actions(&x.results)?, count)?;
+    rules.push(Rule {
+        cube: x.cube,
+        actions,
+    })?;
+    Ok(())
+}
+
 /// The rules of the table. Each line goes as its rule comes.
 pub(crate) fn rules_of(alloc: Global, xs: Vec<Line>) -> Result<Vec<Rule>, Memory>
     ensures { IfOk result (λ v. v.items ≡ rules_of xs.items) }
@@ -59,11 +76,7 @@ pub(crate) fn rules_of(alloc: Global, xs: Vec<Line>) -> Result<Vec<Rule>, Memory
     let count = xs.len();
     let mut rules = Vec::with_capacity(alloc, count)?;
     for x in xs {
-        let actions = held(turned.actions(&x.results)?, count)?;
-        rules.push(Rule {
-            cube: x.cube,
-            actions,
-        })?;
+        push_rule(&mut rules, &mut turned, x, count)?;
     }
     Ok(rules)
 }
