@@ -379,6 +379,11 @@ def four_each(n):
     return "(" + settings("srcport", range(4 * n + 1, 4 * n + 5)) + ")"
 
 
+def followed_by_tests(policy, first):
+    """A policy before tests by `!` of source ports one after another, as many as there is room for."""
+    return policy + "".join(f">>match(!srcport={port})" for port in range(first, first + (8192 - len(policy)) // len(">>match(!srcport=5000)")))
+
+
 def nine_each(n):
     """Nine ways to set two fields that no other number has."""
     return "(" + settings("srcport", range(3 * n, 3 * n + 3)) + ")>>(" + settings("dstport", range(3)) + ")"
@@ -392,6 +397,7 @@ ASSIGNED = assigned(32, 32)
 FROM = "|".join(tests_of("srcip", nets(190)))
 TOWARDS = "|".join(tests_of("dstip", nets(190)))
 MANY_PORTS = "+".join(f"fwd({port})" for port in range(5, 200))
+FOUR_EACH = "(" + denied(15, four_each) + ")"
 SLOWEST = [
     ("out, 65536 meets of four fields", exchange_of_three, ("out", "A"), four_fields(1, 15, ">>fwd(C)")),
     ("in, 65536 meets of four fields", exchange_of_three, ("in", "B"), four_fields(1, 15, ">>fwd(2)")),
@@ -429,14 +435,12 @@ SLOWEST = [
      f"{ASSIGNED}>>match(({FROM})&({TOWARDS}))>>fwd(2)"),
     ("in, 1024 assignments before 12 sources and 12 destinations, each before a port of its own, no routes", ports_without_routes, ("in", "B"),
      ASSIGNED + ">>(" + "+".join(f"match({test})>>fwd({n + 5})" for n, test in enumerate(tests_of("srcip", nets(12)) + tests_of("dstip", nets(12)))) + ")"),
+    ("in, 60 tests by `!` of four fields, each before 4 assignments, before 92 tests by `!` of other ports, no routes", ports_without_routes, ("in", "B"),
+     followed_by_tests(FOUR_EACH, 5000)),
+    ("in, the same before tests by `!` of ports that are set, no routes", ports_without_routes, ("in", "B"), followed_by_tests(FOUR_EACH, 1)),
     ("in, 992 assignments before 245 ports, all before a test by `!`, no routes", ports_without_routes, ("in", "B"),
      "(" + assigned(31, 32) + ">>(" + "+".join(f"fwd({port})" for port in range(5, 250)) + "))>>match(!srcip=1.0.0.0/8)"),
 ]
-
-AFTER = "(" + denied(15, four_each) + ")"
-AFTER += "".join(f">>match(!srcport={port})" for port in range(5000, 5000 + (8192 - len(AFTER)) // len(">>match(!srcport=5000)")))
-# a policy that is accepted, where some 225 results of each of 65536 cubes, which differ, go through 92 tests one after another
-LONGEST = ("in, 60 tests by `!` of four fields, each before 4 assignments, before 92 tests by `!`", ports_without_routes, ("in", "B"), AFTER)
 
 # a policy that is accepted, and the reply to which has 248000 actions in each of 65536 rules
 ENDLESS = ("in, 65536 meets and 992 assignments before 250 ports", exchange_of_many_ports, ("in", "B"), BEFORE_PORTS)
