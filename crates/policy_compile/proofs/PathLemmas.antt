@@ -16,10 +16,9 @@ use Rattle.net_types.proofs.SetLemmas
 use Rattle.net_types.proofs.CubeLemmas.{has-pull, has-pulled, has_option}
 use Rattle.net_types.proofs.MeetLemmas.{behind-Member}
 use Rattle.net_types.proofs.PolicyLemmas.{has-test_cube, holds-plain}
-use Rattle.classifier.specs.Items.{Item, add_all}
+use Rattle.classifier.specs.Items.{Item}
 use Rattle.classifier.specs.Meaning.{carried, Follows}
 use Rattle.classifier.proofs.ResultLemmas.{apply-followed_by}
-use Rattle.classifier.proofs.DecideLemmas.{same_add_all}
 use Rattle.classifier.proofs.SumLemmas.{union-append}
 use Rattle.policy_compile.specs.Paths.{within_found, taken_into, where_plain, pred_at, part_at, Decided, sets_of, AreVisits}
 use Rattle.policy_compile.specs.Lists.{IsSplit, after_item}
@@ -124,9 +123,9 @@ visits-lost pid_of p m items lost = record { means = λ h l d. SetLemmas.same_eq
 
 -- a policy that makes one packet of each, by an assignment and a location
 pub visits-after : (pid_of : List ℕ → Option Pid) (p : model.Policy) (m : Cube) (items : List Item) (set : Assign) (loc : Loc) → ((h : Headers) (l : Loc) → den pid_of p h l ≡ (apply set h, arrived l loc) ∷ [])
-    → mods p ≡ set ∷ [] → AreVisits pid_of p m items [] (add_all [] (map (after_item set loc) items))
-visits-after pid_of p m items set loc one sets =
-    visits-same pid_of p m items [] (map (after_item set loc) items) (add_all [] (map (after_item set loc) items)) (record {
+    → mods p ≡ set ∷ [] → (made : List Item) (used : Assign) → used ≡ set → SameMembers made (map (after_item used loc) items) → AreVisits pid_of p m items [] made
+visits-after pid_of p m items set loc one sets made used is same =
+    visits-same pid_of p m items [] (map (after_item set loc) items) made (record {
       means = λ h l d. SetLemmas.same_eq (each h l items);
       assigns = λ a k.
           let of_one = SetLemmas.map-Member (λ (i : Item). i.0) (map (after_item set loc) items) a k in
@@ -138,7 +137,7 @@ visits-after pid_of p m items set loc one sets =
             next_stands = subst (Member set) (sym sets) (inl refl);
             is = of_one.is ∙ ap (λ (i : Item). i.0) from.is;
           });
-    }) (same_add_all [] (map (after_item set loc) items))
+    }) (subst (λ (a : Assign). SameMembers made (map (after_item a loc) items)) is same)
   where
     each : (h : Headers) (l : Loc) (xs : List Item) → map (carried h l) (map (after_item set loc) xs) ≡ union_over (λ (x : Packet). den pid_of p x.0 x.1) (map (carried h l) xs)
     each h l [] = refl

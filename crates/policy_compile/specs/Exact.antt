@@ -17,7 +17,7 @@ use Rattle.net_types.proofs.PrefixLemmas.{prefix_ext}
 use Rattle.net_types.proofs.WidthTests.{ip_right}
 use Rattle.classifier.specs.Gathered.{assign_eq}
 use Rattle.classifier.proofs.ItemLemmas.{option_eq_exact}
-use Rattle.policy_compile.specs.declared.lists.Pair.{Pair}
+use Rattle.policy_compile.specs.declared.ropes.Pair.{Pair}
 use Rattle.policy_compile.specs.declared.lists.Next.{Next}
 use Rattle.policy_compile.specs.declared.lists.Tested.{Tested}
 use Rattle.policy_compile.specs.declared.near.Near.{Near}
@@ -107,6 +107,9 @@ locs_exact Nowhere Stay e = absurd (false≢true e)
 locs_exact Nowhere (To y) e = absurd (false≢true e)
 locs_exact Nowhere (Out y) e = absurd (false≢true e)
 locs_exact Nowhere Nowhere e = refl
+
+pub number_exact : (a b : ℕ) → nat_eq a b ≡ true → a ≡ b
+number_exact a b e = eqb-true a b e
 
 pub pair_exact : (a b : Pair) → (nat_eq a.first b.first && nat_eq a.second b.second) ≡ true → a ≡ b
 pair_exact a b e =

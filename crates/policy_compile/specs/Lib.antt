@@ -6,6 +6,7 @@ pub mod Parts
 pub mod Cells
 pub mod Paths
 pub mod Near
+pub mod Ropes
 pub mod Lists
 pub mod Summed
 pub mod Exact

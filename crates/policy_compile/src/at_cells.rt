@@ -35,7 +35,7 @@ fn results_at<N: Names>(
         *lists = Lists::new(alloc)?;
     }
     let number = made_of(alloc, lists, tree, names, cube, BEGUN)?;
-    let results = lists.table[number].copy()?;
+    let results = lists.results(number)?;
     Ok(results)
 }
 

@@ -16,6 +16,7 @@ mod parts;
 mod paths;
 mod policies;
 mod preds;
+mod ropes;
 mod sets;
 mod sums;
 mod width;

@@ -1,18 +1,19 @@
-//! Lists of results with numbers, and what was made of them: so a list that many cubes share is made once, and gone through
-//! once for each test and each assignment.
+//! Lists of results with numbers, and what was made of them: so a list that many cubes share, and each part of it, is made once,
+//! and gone through once for each test and each assignment.
 
-ghost use Rattle.std.specs.Prelude.{◌≡◌, ◌<◌, ◌++◌, [], length, map, IfOk, OnOk};
+ghost use Rattle.std.specs.Prelude.{◌≡◌, ◌<◌, ◌++◌, [], length, map, IfOk, IfSome, OnOk};
 ghost use Rattle.net_types.specs.declared.headers.Assign.{Assign as AnyAssign};
 ghost use Rattle.net_types.specs.Sets.{Member, SameMembers};
 ghost use Rattle.classifier.specs.Items.{add_all};
 ghost use Rattle.classifier.specs.Numbered.{list_at};
-ghost use Rattle.policy_compile.specs.Exact.{next_exact, pair_exact, tested_exact};
+ghost use Rattle.policy_compile.specs.Exact.{next_exact, number_exact, pair_exact, tested_exact};
 ghost use Rattle.policy_compile.specs.Near.{is_taken};
 ghost use Rattle.policy_compile.specs.Paths.{taken_into};
-ghost use Rattle.policy_compile.specs.Lists.{AreInside, AreLists, IsNew, IsSplit, after_item, items_of, told};
+ghost use Rattle.policy_compile.specs.Lists.{AreInside, AreLists, IsNew, IsSplit, after_item, items_of, passes, told};
 
 use crate::memo::{Asked, Memo};
 use crate::near::{Near, is_taken, near_of};
+use crate::ropes::{Pair, Ropes, Shape};
 use classifier::{Gathering, Results, Unions};
 use net_types::{Assign, Cube, Loc, Memory, TryCopy};
 use std::alloc::Global;
@@ -29,12 +30,8 @@ const MOST: usize = 8388608;
 /// So many results are copied, which is no more work than to share them.
 const FEW: usize = 16;
 
-/// Two lists.
-#[derive(Clone, Copy, Debug, PartialEq, Eq, Hash)]
-pub struct Pair {
-    pub first: usize,
-    pub second: usize,
-}
+/// So many results of two lists are put into one list, and more are left in the two.
+const SOME: usize = 64;
 
 impl Asked for Pair {
     ghost exact = { pair_exact };
@@ -64,6 +61,23 @@ impl Asked for Tested {
     ghost exact = { tested_exact };
 }
 
+impl Tested {
+    /// The same test of another list.
+    fn of(self, list: usize) -> Tested
+        ensures { result ≡ record { list = list; cube = self.cube; near = self.near } }
+    {
+        Tested {
+            list,
+            cube: self.cube,
+            near: self.near,
+        }
+    }
+}
+
+impl Asked for usize {
+    ghost exact = { number_exact };
+}
+
 /// The results of a list that pass a test, and the others.
 #[derive(Clone, Copy, Debug, PartialEq, Eq)]
 pub struct Halves {
@@ -75,14 +89,17 @@ pub struct Halves {
 #[derive(Drop)]
 pub struct Lists {
     alloc: Global,
-    pub table: Vec<Results>,
+    pub table: Ropes,
     unions: Unions,
     sums: Memo<Pair, usize>,
     afters: Memo<Next, usize>,
     splits: Memo<Tested, Halves>,
+    // the results of sums, each once, and where those of a list stand
+    flat: Vec<Results>,
+    flats: Memo<usize, usize>,
     // how many results the lists have
     held: usize,
-    ghost are: { AreLists table.items sums.noted.items afters.noted.items splits.noted.items },
+    ghost are: { AreLists table sums.noted.items afters.noted.items splits.noted.items flat.items flats.noted.items },
 }
 
 /// What is done after each of the results, each once.
@@ -121,7 +138,7 @@ impl Lists {
     pub fn new(alloc: Global) -> Result<Lists, Memory> {
         let mut begun = Results::new(alloc);
         begun.push((Assign::none(), Loc::Stay))?;
-        let mut table = Vec::new(alloc);
+        let mut table = Ropes::new(alloc);
         table.push(Results::new(alloc))?;
         table.push(begun)?;
         Ok(Lists {
@@ -131,6 +148,8 @@ impl Lists {
             sums: Memo::new(alloc),
             afters: Memo::new(alloc),
             splits: Memo::new(alloc),
+            flat: Vec::new(alloc),
+            flats: Memo::new(alloc),
             held: 0,
         })
     }
@@ -141,7 +160,8 @@ impl Lists {
             .sums
             .len()
             .saturating_add(self.afters.len())
-            .saturating_add(self.splits.len());
+            .saturating_add(self.splits.len())
+            .saturating_add(self.flats.len());
         let weight = self
             .held
             .saturating_add(self.table.len())
@@ -151,8 +171,8 @@ impl Lists {
 
     /// The number of a list, which is put last.
     fn put(&mut self, list: Results) -> Result<usize, Memory>
-        ensures known { IfOk result (IsNew self.old.table.items self.new.table.items) }
-        ensures is { IfOk result (λ n. list_at self.new.table.items n ≡ list) }
+        ensures known { IfOk result (IsNew self.old.table self.new.table) }
+        ensures is { IfOk result (λ n. list_at self.new.table n ≡ list) }
     {
         let number = self.table.len();
         self.held = self.held.saturating_add(list.len());
@@ -167,25 +187,125 @@ impl Lists {
 
     /// The number of a list: that of one which may be the same, where it is, and else it is put last.
     fn number_of(&mut self, list: Results, like: usize) -> Result<usize, Memory>
-        requires like { like < length self.old.table.items }
-        ensures known { IfOk result (IsNew self.old.table.items self.new.table.items) }
-        ensures is { IfOk result (λ n. list_at self.new.table.items n ≡ list) }
+        requires like { like < length self.old.table }
+        ensures known { IfOk result (IsNew self.old.table self.new.table) }
+        ensures is { IfOk result (λ n. list_at self.new.table n ≡ list) }
     {
         if list.is_empty() {
             return Ok(NONE);
         }
-        if list.equals(&self.table[like]) {
-            return Ok(like);
+        if let Shape::Items(items) = self.table.shape(like) {
+            if list.equals(items) {
+                return Ok(like);
+            }
         }
         self.put(list)
     }
 
+    /// The results of two lists as one list, where they are few.
+    fn few_of(&mut self, pair: Pair) -> Result<Option<Results>, Memory>
+        requires first { pair.first < length self.old.table }
+        requires second { pair.second < length self.old.table }
+        ensures same { self.new.table ≡ self.old.table }
+        ensures both { IfOk result (λ few. IfSome few (λ r. SameMembers r (list_at self.old.table pair.first ++ list_at self.old.table pair.second))) }
+    {
+        let Shape::Items(one) = self.table.shape(pair.first) else {
+            return Ok(None);
+        };
+        let Shape::Items(other) = self.table.shape(pair.second) else {
+            return Ok(None);
+        };
+        if one.len().saturating_add(other.len()) > SOME {
+            return Ok(None);
+        }
+        let both = self.unions.union(one, other)?;
+        Ok(Some(both))
+    }
+
+    /// The number of the sum of two lists, which is put last.
+    fn put_sum(&mut self, pair: Pair) -> Result<usize, Memory>
+        requires first { pair.first < length self.old.table }
+        requires second { pair.second < length self.old.table }
+        ensures known { IfOk result (IsNew self.old.table self.new.table) }
+        ensures is { IfOk result (λ n. list_at self.new.table n ≡ list_at self.old.table pair.first ++ list_at self.old.table pair.second) }
+    {
+        let number = self.table.len();
+        self.table.push_sum(pair)?;
+        Ok(number)
+    }
+
+    /// Keeps the results of a list.
+    fn keep(&mut self, list: usize, results: &Results) -> Result<(), Memory>
+        requires list { list < length self.old.table }
+        requires same { SameMembers results.now (list_at self.old.table list) }
+        ensures { self.new.table ≡ self.old.table }
+    {
+        let place = self.flat.len();
+        self.held = self.held.saturating_add(results.len());
+        self.flat.push(results.copy()?)?;
+        self.flats.note(list, place)?;
+        Ok(())
+    }
+
+    /// The results of a list, each once.
+    pub fn results(&mut self, list: usize) -> Result<Results, Memory>
+        requires list { list < length self.old.table }
+        ensures table { self.new.table ≡ self.old.table }
+        ensures same { IfOk result (λ r. SameMembers r (list_at self.old.table list)) }
+    {
+        let pair = match self.table.shape(list) {
+            Shape::Items(items) => return items.copy(),
+            Shape::Sum(pair) => *pair,
+        };
+        if let Some(place) = self.flats.find(&list) {
+            return self.flat[place].copy();
+        }
+        let first = self.results(pair.first)?;
+        let second = self.results(pair.second)?;
+        let both = self.unions.union(&first, &second)?;
+        self.keep(list, &both)?;
+        Ok(both)
+    }
+
+    /// A list, or one with the same results of which each stands once, where that is far shorter.
+    fn settled(&mut self, list: usize) -> Result<usize, Memory>
+        requires { list < length self.old.table }
+        ensures known { IfOk result (IsNew self.old.table self.new.table) }
+        ensures same { IfOk result (λ n. SameMembers (list_at self.new.table n) (list_at self.old.table list)) }
+    {
+        if !self.table.is_crowded(list) {
+            return Ok(list);
+        }
+        let results = self.results(list)?;
+        if self.table.is_shorter(list, results.len()) {
+            let number = self.put(results)?;
+            return Ok(number);
+        }
+        Ok(list)
+    }
+
+    /// The results of two lists, which weren't joined before.
+    fn joined(&mut self, pair: Pair) -> Result<usize, Memory>
+        requires first { pair.first < length self.old.table }
+        requires second { pair.second < length self.old.table }
+        ensures known { IfOk result (IsNew self.old.table self.new.table) }
+        ensures both { IfOk result (λ n. SameMembers (list_at self.new.table n) (list_at self.old.table pair.first ++ list_at self.old.table pair.second)) }
+    {
+        if let Some(few) = self.few_of(pair)? {
+            let number = self.number_of(few, pair.first)?;
+            return Ok(number);
+        }
+        let sum = self.put_sum(pair)?;
+        let number = self.settled(sum)?;
+        Ok(number)
+    }
+
     /// The results of both lists.
     pub fn sum(&mut self, first: usize, second: usize) -> Result<usize, Memory>
-        requires first { first < length self.old.table.items }
-        requires second { second < length self.old.table.items }
-        ensures known { IfOk result (IsNew self.old.table.items self.new.table.items) }
-        ensures both { IfOk result (λ n. SameMembers (list_at self.new.table.items n) (list_at self.old.table.items first ++ list_at self.old.table.items second)) }
+        requires first { first < length self.old.table }
+        requires second { second < length self.old.table }
+        ensures known { IfOk result (IsNew self.old.table self.new.table) }
+        ensures both { IfOk result (λ n. SameMembers (list_at self.new.table n) (list_at self.old.table first ++ list_at self.old.table second)) }
     {
         if first == NONE {
             return Ok(second);
@@ -197,17 +317,16 @@ impl Lists {
         if let Some(number) = self.sums.find(&pair) {
             return Ok(number);
         }
-        let both = self.unions.union(&self.table[first], &self.table[second])?;
-        let number = self.number_of(both, first)?;
+        let number = self.joined(pair)?;
         self.sums.note(pair, number)?;
         Ok(number)
     }
 
     /// The results of all lists. Those of each half are joined first.
     pub fn sum_all(&mut self, numbers: &[usize]) -> Result<usize, Memory>
-        requires inside { AreInside self.old.table.items numbers.now }
-        ensures known { IfOk result (IsNew self.old.table.items self.new.table.items) }
-        ensures all { IfOk result (λ n. SameMembers (list_at self.new.table.items n) (items_of self.old.table.items numbers.now)) }
+        requires inside { AreInside self.old.table numbers.now }
+        ensures known { IfOk result (IsNew self.old.table self.new.table) }
+        ensures all { IfOk result (λ n. SameMembers (list_at self.new.table n) (items_of self.old.table numbers.now)) }
     {
         if numbers.len() < 2 {
             return Ok(numbers.first().copied().unwrap_or(NONE));
@@ -218,29 +337,95 @@ impl Lists {
         self.sum(first, second)
     }
 
+    /// What is done after each result of a list, which isn't noted.
+    #[cycle(after)]
+    fn made_after(&mut self, next: Next) -> Result<usize, Memory>
+        requires list { next.list < length self.old.table }
+        ensures known { IfOk result (IsNew self.old.table self.new.table) }
+        ensures after { IfOk result (λ n. SameMembers (list_at self.new.table n) (map (after_item next.set next.loc) (list_at self.old.table next.list))) }
+    {
+        match self.table.shape(next.list) {
+            Shape::Items(results) => {
+                let after = after_each(self.alloc, results, &next.set, next.loc)?;
+                let number = self.put(after)?;
+                Ok(number)
+            }
+            Shape::Sum(pair) => {
+                let pair = *pair;
+                let first = self.after(pair.first, next.set, next.loc)?;
+                let second = self.after(pair.second, next.set, next.loc)?;
+                let number = self.sum(first, second)?;
+                Ok(number)
+            }
+        }
+    }
+
     /// What is done after each result of a list.
+    #[cycle(after)]
     pub fn after(&mut self, list: usize, set: Assign, loc: Loc) -> Result<usize, Memory>
-        requires list { list < length self.old.table.items }
-        ensures known { IfOk result (IsNew self.old.table.items self.new.table.items) }
-        ensures after { IfOk result (λ n. list_at self.new.table.items n ≡ add_all [] (map (after_item set loc) (list_at self.old.table.items list))) }
+        requires list { list < length self.old.table }
+        ensures known { IfOk result (IsNew self.old.table self.new.table) }
+        ensures after { IfOk result (λ n. SameMembers (list_at self.new.table n) (map (after_item set loc) (list_at self.old.table list))) }
     {
         let next = Next { list, set, loc };
         if let Some(number) = self.afters.find(&next) {
             return Ok(number);
         }
-        let after = after_each(self.alloc, &self.table[list], &set, loc)?;
-        let number = self.put(after)?;
+        let number = self.made_after(next)?;
         self.afters.note(next, number)?;
         Ok(number)
     }
 
+    /// The results of a list that pass a test, and the others, which aren't noted.
+    #[cycle(halves)]
+    fn made_halves(&mut self, tested: Tested) -> Result<Halves, Memory>
+        requires list { tested.list < length self.old.table }
+        ensures kept { IfOk result (λ h. IsNew self.old.table self.new.table h.kept) }
+        ensures lost { IfOk result (λ h. IsNew self.old.table self.new.table h.lost) }
+        ensures split { IfOk result (λ h. IsSplit (passes tested) (list_at self.old.table tested.list) (list_at self.new.table h.kept) (list_at self.new.table h.lost)) }
+    {
+        match self.table.shape(tested.list) {
+            Shape::Items(results) => {
+                let kept = halved(self.alloc, results, tested.near, &tested.cube, true)?;
+                let lost = halved(self.alloc, results, tested.near, &tested.cube, false)?;
+                let kept = self.number_of(kept, tested.list)?;
+                let lost = self.number_of(lost, tested.list)?;
+                Ok(Halves { kept, lost })
+            }
+            Shape::Sum(pair) => {
+                let pair = *pair;
+                let near = self.halves(tested.of(pair.first))?;
+                let far = self.halves(tested.of(pair.second))?;
+                let kept = self.sum(near.kept, far.kept)?;
+                let lost = self.sum(near.lost, far.lost)?;
+                Ok(Halves { kept, lost })
+            }
+        }
+    }
+
+    /// The results of a list that pass a test, and the others.
+    #[cycle(halves)]
+    fn halves(&mut self, tested: Tested) -> Result<Halves, Memory>
+        requires list { tested.list < length self.old.table }
+        ensures kept { IfOk result (λ h. IsNew self.old.table self.new.table h.kept) }
+        ensures lost { IfOk result (λ h. IsNew self.old.table self.new.table h.lost) }
+        ensures split { IfOk result (λ h. IsSplit (passes tested) (list_at self.old.table tested.list) (list_at self.new.table h.kept) (list_at self.new.table h.lost)) }
+    {
+        if let Some(halves) = self.splits.find(&tested) {
+            return Ok(halves);
+        }
+        let halves = self.made_halves(tested)?;
+        self.splits.note(tested, halves)?;
+        Ok(halves)
+    }
+
     /// The results of a list behind which the packets of a cube pass a test, and the others.
     pub fn split(&mut self, list: usize, cube: &Cube, test: &Cube) -> Result<Halves, Memory>
-        requires list { list < length self.old.table.items }
-        ensures kept { IfOk result (λ h. IsNew self.old.table.items self.new.table.items h.kept) }
-        ensures lost { IfOk result (λ h. IsNew self.old.table.items self.new.table.items h.lost) }
-        ensures split { IfOk result (λ h. IsSplit (λ i. taken_into cube.now i.0 (Some test.now)) (list_at self.old.table.items list)
-            (list_at self.new.table.items h.kept) (list_at self.new.table.items h.lost)) }
+        requires list { list < length self.old.table }
+        ensures kept { IfOk result (λ h. IsNew self.old.table self.new.table h.kept) }
+        ensures lost { IfOk result (λ h. IsNew self.old.table self.new.table h.lost) }
+        ensures split { IfOk result (λ h. IsSplit (λ i. taken_into cube.now i.0 (Some test.now)) (list_at self.old.table list)
+            (list_at self.new.table h.kept) (list_at self.new.table h.lost)) }
     {
         if list == BEGUN {
             if cube::within(cube, test) {
@@ -255,20 +440,11 @@ impl Lists {
             });
         }
         let near = near_of(cube, test);
-        let tested = Tested {
+        let halves = self.halves(Tested {
             list,
             cube: *test,
             near,
-        };
-        if let Some(halves) = self.splits.find(&tested) {
-            return Ok(halves);
-        }
-        let kept = halved(self.alloc, &self.table[list], near, test, true)?;
-        let lost = halved(self.alloc, &self.table[list], near, test, false)?;
-        let kept = self.number_of(kept, list)?;
-        let lost = self.number_of(lost, list)?;
-        let halves = Halves { kept, lost };
-        self.splits.note(tested, halves)?;
+        })?;
         Ok(halves)
     }
 }

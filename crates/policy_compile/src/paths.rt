@@ -24,11 +24,11 @@ fn split_by_parts(
     pred: &Pred<'_>,
     list: usize,
 ) -> Result<Halves, Memory>
-    requires list { list < length lists.old.table.items }
-    ensures kept { IfOk result (λ h. IsNew lists.old.table.items lists.new.table.items h.kept) }
-    ensures lost { IfOk result (λ h. IsNew lists.old.table.items lists.new.table.items h.lost) }
-    ensures split { IfOk result (λ h. IsSplit (λ i. part_at cube.now i.0 (pred_of pred.now)) (list_at lists.old.table.items list)
-        (list_at lists.new.table.items h.kept) (list_at lists.new.table.items h.lost)) }
+    requires list { list < length lists.old.table }
+    ensures kept { IfOk result (λ h. IsNew lists.old.table lists.new.table h.kept) }
+    ensures lost { IfOk result (λ h. IsNew lists.old.table lists.new.table h.lost) }
+    ensures split { IfOk result (λ h. IsSplit (λ i. part_at cube.now i.0 (pred_of pred.now)) (list_at lists.old.table list)
+        (list_at lists.new.table h.kept) (list_at lists.new.table h.lost)) }
 {
     match pred {
         Pred::Yes => Ok(Halves {
@@ -70,11 +70,11 @@ fn split_by_parts(
 /// The results of a list behind which a predicate holds in a cube, and the others. Each of its atoms, there, holds the cube or meets none of it.
 #[cycle(holding)]
 fn split(lists: &mut Lists, cube: &Cube, pred: &Pred<'_>, list: usize) -> Result<Halves, Memory>
-    requires list { list < length lists.old.table.items }
-    ensures kept { IfOk result (λ h. IsNew lists.old.table.items lists.new.table.items h.kept) }
-    ensures lost { IfOk result (λ h. IsNew lists.old.table.items lists.new.table.items h.lost) }
-    ensures split { IfOk result (λ h. IsSplit (λ i. pred_at cube.now i.0 (pred_of pred.now)) (list_at lists.old.table.items list)
-        (list_at lists.new.table.items h.kept) (list_at lists.new.table.items h.lost)) }
+    requires list { list < length lists.old.table }
+    ensures kept { IfOk result (λ h. IsNew lists.old.table lists.new.table h.kept) }
+    ensures lost { IfOk result (λ h. IsNew lists.old.table lists.new.table h.lost) }
+    ensures split { IfOk result (λ h. IsSplit (λ i. pred_at cube.now i.0 (pred_of pred.now)) (list_at lists.old.table list)
+        (list_at lists.new.table h.kept) (list_at lists.new.table h.lost)) }
 {
     if list == NONE {
         return Ok(Halves {
@@ -105,10 +105,10 @@ fn forwarded<N: Names>(
     names: &N,
     list: usize,
 ) -> Result<usize, Memory>
-    requires list { list < length lists.old.table.items }
-    ensures known { IfOk result (IsNew lists.old.table.items lists.new.table.items) }
+    requires list { list < length lists.old.table }
+    ensures known { IfOk result (IsNew lists.old.table lists.new.table) }
     ensures made { IfOk result (λ n. (m : AnyCube) (span : AnySpan) →
-        AreVisits (N.pid_of names.now) (Fwd (target_of target.entry) span) m (list_at lists.old.table.items list) [] (list_at lists.new.table.items n)) }
+        AreVisits (N.pid_of names.now) (Fwd (target_of target.entry) span) m (list_at lists.old.table list) [] (list_at lists.new.table n)) }
 {
     match target {
         Target::Number(port) => {
@@ -135,9 +135,9 @@ pub fn made_of<N: Names>(
     cube: &Cube,
     list: usize,
 ) -> Result<usize, Memory>
-    requires list { list < length lists.old.table.items }
-    ensures known { IfOk result (IsNew lists.old.table.items lists.new.table.items) }
-    ensures made { IfOk result (λ n. AreVisits (N.pid_of names.now) (policy_of tree.now) cube.now (list_at lists.old.table.items list) [] (list_at lists.new.table.items n)) }
+    requires list { list < length lists.old.table }
+    ensures known { IfOk result (IsNew lists.old.table lists.new.table) }
+    ensures made { IfOk result (λ n. AreVisits (N.pid_of names.now) (policy_of tree.now) cube.now (list_at lists.old.table list) [] (list_at lists.new.table n)) }
 {
     if list == NONE {
         return Ok(NONE);
@@ -187,12 +187,12 @@ fn push_made<N: Names>(
     cube: &Cube,
     list: usize,
 ) -> Result<(), Memory>
-    requires list { list < length lists.old.table.items }
-    requires inside { AreInside lists.old.table.items numbers.old.items }
-    ensures grown { OnOk result (IsGrown lists.old.table.items lists.new.table.items) }
-    ensures inside { OnOk result (AreInside lists.new.table.items numbers.new.items) }
-    ensures made { OnOk result (AreVisits (N.pid_of names.now) (policy_of tree.now) cube.now (list_at lists.old.table.items list)
-        (items_of lists.old.table.items numbers.old.items) (items_of lists.new.table.items numbers.new.items)) }
+    requires list { list < length lists.old.table }
+    requires inside { AreInside lists.old.table numbers.old.items }
+    ensures grown { OnOk result (IsGrown lists.old.table lists.new.table) }
+    ensures inside { OnOk result (AreInside lists.new.table numbers.new.items) }
+    ensures made { OnOk result (AreVisits (N.pid_of names.now) (policy_of tree.now) cube.now (list_at lists.old.table list)
+        (items_of lists.old.table numbers.old.items) (items_of lists.new.table numbers.new.items)) }
 {
     match tree.node() {
         Node::Both(first, second) => {

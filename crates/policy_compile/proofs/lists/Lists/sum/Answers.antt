@@ -1,14 +1,14 @@
-use Rattle.std.proofs.Common.{◌≡◌, ◌∙◌, ◌++◌, arith, ap, subst}
+use Rattle.std.proofs.Common.{◌≡◌, ◌++◌, arith, ap, subst, ◌∙◌}
 use Rattle.net_types.specs.Sets.{SameMembers}
 use Rattle.classifier.specs.Numbered.{list_at}
-use Rattle.policy_compile.specs.declared.lists.Pair.{Pair}
-use Rattle.policy_compile.proofs.ListsLemmas.{made-same, new-old, same-beside_none, same-itself, sum-noted, summed-made, summed-same}
+use Rattle.policy_compile.specs.declared.ropes.Pair.{Pair}
+use Rattle.policy_compile.proofs.ListsLemmas.{new-old, same-beside_none, same-itself, same-of_told, sum-noted, summed-made}
 use Rattle.policy_compile.proofs.lists.Lists.sum.Goals as goal
 use Rattle.policy_compile.proofs.lists.Lists.sum.Goals.{then-second-eq-NONE-via-then-second-eq-NONE, then-second-eq-NONE-via-else-second-eq-NONE+then-first-second}
 
 pub returns-then-second-eq-NONE-clause-both : goal.returns-then-second-eq-NONE-clause-both
 returns-then-second-eq-NONE-clause-both c =
-    let lists = c.args.self.now.table.items in
+    let lists = c.args.self.now.table in
     let first = list_at lists c.args.first in
     elim c.then-second-eq-NONE.branch [
       | then-second-eq-NONE-via-then-second-eq-NONE w ↦
@@ -21,24 +21,16 @@ returns-then-second-eq-NONE-clause-both c =
 
 pub returns-in-Some-clause-known : goal.returns-in-Some-clause-known
 returns-in-Some-clause-known c =
-    new-old c.args.self.now.table.items c.in-Some.number (c.args.self.now.are.sums_are (record { key = record { first = c.args.first; second = c.args.second }; value = c.in-Some.number }) c.in-Some.ensures).inside
+    new-old c.args.self.now.table c.in-Some.number (c.args.self.now.are.sums_are (record { key = record { first = c.args.first; second = c.args.second }; value = c.in-Some.number }) c.in-Some.ensures).inside
 
 pub returns-in-Some-clause-both : goal.returns-in-Some-clause-both
-returns-in-Some-clause-both c =
-    let pair : Pair = record { first = c.args.first; second = c.args.second } in
-    summed-same c.args.self.now.table.items pair c.in-Some.number (c.args.self.now.are.sums_are (record { key = pair; value = c.in-Some.number }) c.in-Some.ensures)
+returns-in-Some-clause-both c = same-of_told (c.args.self.now.are.sums_are (record { key = record { first = c.args.first; second = c.args.second }; value = c.in-Some.number }) c.in-Some.ensures).is
 
-pub invariant_of-self-3 : goal.invariant_of-self-3
-invariant_of-self-3 c =
+pub invariant_of-self : goal.invariant_of-self
+invariant_of-self c =
     let pair : Pair = record { first = c.args.first; second = c.args.second } in
-    let old = c.args.self.now.table.items in
-    let new = c.number_of.new.self in
-    let is = summed-made old new.table.items pair c.in_ok-number.number c.index.result.now c.index-2.result.now c.in_ok-number.ensures.known c.requires.first c.requires.second c.index.ensures c.index-2.ensures
-    (c.in_ok-number.ensures.is ∙ c.in_ok-both.ensures) in
-    record { are = sum-noted new.table.items new.sums.noted.items c.note.new.self.noted.items new.afters.noted.items new.splits.noted.items pair c.in_ok-number.number c.note.ensures is new.are }
-
-pub returns-clause-both : goal.returns-clause-both
-returns-clause-both c =
-    let pair : Pair = record { first = c.args.first; second = c.args.second } in
-    made-same c.args.self.now.table.items c.number_of.new.self.table.items pair c.in_ok-number.number c.index.result.now c.index-2.result.now c.requires.first c.requires.second c.index.ensures c.index-2.ensures
-    (c.in_ok-number.ensures.is ∙ c.in_ok-both.ensures)
+    let new = c.joined.new.self in
+    record {
+      are = sum-noted new.table new.sums.noted.items new.afters.noted.items new.splits.noted.items new.flat.items new.flats.noted.items new.are c.note.new.self.noted.items pair c.in_ok-number.number c.note.ensures
+          (summed-made c.args.self.now.table new.table pair c.in_ok-number.number c.in_ok-number.ensures.known c.requires.first c.requires.second c.in_ok-number.ensures.both);
+    }
