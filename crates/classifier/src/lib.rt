@@ -29,6 +29,7 @@ pub use join::Join;
 pub use line::{Line, Lines};
 pub use numbered::Numbered;
 pub use ops::{choose, negate, parallel, sequence, single, test, tighten};
+pub use prints::print_of_pair;
 pub use product::product_within;
 pub use results::Results;
 pub use run::Run;

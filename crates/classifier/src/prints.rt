@@ -1,4 +1,4 @@
-//! Numbers that tell lists of results apart. Nothing rests on them but how soon lists that differ are seen to.
+//! Numbers that tell results, and lists of them, apart. Nothing rests on them but how soon those that differ are seen to.
 
 use net_types::{Assign, Ip, Loc};
 
@@ -38,8 +38,8 @@ fn place(loc: Loc) -> u64 {
     }
 }
 
-/// The number of one pair.
-fn print_of_pair(pair: &(Assign, Loc)) -> u64 {
+/// A number by which most pairs differ. Nothing rests on it but how soon two that differ are told apart.
+pub fn print_of_pair(pair: &(Assign, Loc)) -> u64 {
     let set = &pair.0;
     let addresses = address(set.src)
         .wrapping_mul(SRC)

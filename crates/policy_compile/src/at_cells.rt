@@ -34,6 +34,7 @@ fn results_at<N: Names>(
     if lists.is_full() {
         *lists = Lists::new(alloc)?;
     }
+    lists.begin();
     let number = made_of(alloc, lists, tree, names, cube, BEGUN)?;
     let results = lists.results(number)?;
     Ok(results)

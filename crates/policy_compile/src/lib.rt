@@ -16,6 +16,7 @@ mod parts;
 mod paths;
 mod policies;
 mod preds;
+mod prints;
 mod ropes;
 mod sets;
 mod sums;

@@ -13,8 +13,9 @@ ghost use Rattle.policy_compile.specs.Lists.{AreInside, AreLists, IsNew, IsSplit
 
 use crate::memo::{Asked, Memo};
 use crate::near::{Near, is_taken, near_of};
+use crate::prints::{print_of_cube, print_of_near};
 use crate::ropes::{Pair, Ropes, Shape};
-use classifier::{Gathering, Results, Unions};
+use classifier::{Gathering, Results, Unions, print_of_pair, push_all};
 use net_types::{Assign, Cube, Loc, Memory, TryCopy};
 use std::alloc::Global;
 
@@ -25,7 +26,7 @@ pub const NONE: usize = 0;
 pub const BEGUN: usize = 1;
 
 /// So many results, or what takes as much memory, are kept at once.
-const MOST: usize = 8388608;
+const MOST: usize = 16777216;
 
 /// So many results are copied, which is no more work than to share them.
 const FEW: usize = 16;
@@ -33,12 +34,21 @@ const FEW: usize = 16;
 /// So many results of two lists are put into one list, and more are left in the two.
 const SOME: usize = 64;
 
+// an odd number without a pattern
+const LIST: u64 = 0xA24B_AED4_963E_E407;
+
 impl Asked for Pair {
     ghost exact = { pair_exact };
+
+    fn print(&self) -> u64 {
+        (self.first as u64)
+            .wrapping_mul(LIST)
+            .wrapping_add(self.second as u64)
+    }
 }
 
 /// A list, and what is done after each of its results.
-#[derive(Clone, Copy, Debug, PartialEq, Eq, Hash)]
+#[derive(Clone, Copy, Debug, PartialEq, Eq)]
 pub struct Next {
     pub list: usize,
     pub set: Assign,
@@ -47,10 +57,16 @@ pub struct Next {
 
 impl Asked for Next {
     ghost exact = { next_exact };
+
+    fn print(&self) -> u64 {
+        (self.list as u64)
+            .wrapping_mul(LIST)
+            .wrapping_add(print_of_pair(&(self.set, self.loc)))
+    }
 }
 
 /// A list, and a test of the packets of a cube.
-#[derive(Clone, Copy, Debug, PartialEq, Eq, Hash)]
+#[derive(Clone, Copy, Debug, PartialEq, Eq)]
 pub struct Tested {
     pub list: usize,
     pub cube: Cube,
@@ -59,6 +75,11 @@ pub struct Tested {
 
 impl Asked for Tested {
     ghost exact = { tested_exact };
+
+    fn print(&self) -> u64 {
+        let test = print_of_cube(&self.cube).wrapping_add(print_of_near(self.near));
+        (self.list as u64).wrapping_mul(LIST).wrapping_add(test)
+    }
 }
 
 impl Tested {
@@ -76,6 +97,10 @@ impl Tested {
 
 impl Asked for usize {
     ghost exact = { number_exact };
+
+    fn print(&self) -> u64 {
+        *self as u64
+    }
 }
 
 /// The results of a list that pass a test, and the others.
@@ -99,6 +124,8 @@ pub struct Lists {
     flats: Memo<usize, usize>,
     // how many results the lists have
     held: usize,
+    // how many lists there were when the present cube was begun
+    known: usize,
     ghost are: { AreLists table sums.noted.items afters.noted.items splits.noted.items flat.items flats.noted.items },
 }
 
@@ -151,7 +178,28 @@ impl Lists {
             flat: Vec::new(alloc),
             flats: Memo::new(alloc),
             held: 0,
+            known: 0,
         })
+    }
+
+    /// Begins the next cube, which shares the lists so far.
+    pub fn begin(&mut self)
+        ensures { self.new.table ≡ self.old.table }
+    {
+        self.known = self.table.len();
+    }
+
+    /// Whether a list was made in this cube of two that were known before. Most likely no other cube has it, and what is made of
+    /// it is soon made once more of what is noted of the two.
+    fn is_alone(&self, list: usize) -> bool
+        requires { list < length self.now.table }
+    {
+        match self.table.shape(list) {
+            Shape::Items(_) => false,
+            Shape::Sum(pair) => {
+                list >= self.known && pair.first < self.known && pair.second < self.known
+            }
+        }
     }
 
     /// Whether the lists and what is noted take so much memory that they should be made anew.
@@ -222,15 +270,15 @@ impl Lists {
         Ok(Some(both))
     }
 
-    /// The number of the sum of two lists, which is put last.
-    fn put_sum(&mut self, pair: Pair) -> Result<usize, Memory>
+    /// The number of the sum of two lists, which has so many different results at least and is put last.
+    fn put_sum(&mut self, pair: Pair, least: usize) -> Result<usize, Memory>
         requires first { pair.first < length self.old.table }
         requires second { pair.second < length self.old.table }
         ensures known { IfOk result (IsNew self.old.table self.new.table) }
         ensures is { IfOk result (λ n. list_at self.new.table n ≡ list_at self.old.table pair.first ++ list_at self.old.table pair.second) }
     {
         let number = self.table.len();
-        self.table.push_sum(pair)?;
+        self.table.push_sum(pair, least)?;
         Ok(number)
     }
 
@@ -247,7 +295,20 @@ impl Lists {
         Ok(())
     }
 
-    /// The results of a list, each once.
+    /// The results of two lists, each once. A few are put behind the others in their place.
+    fn both(&mut self, first: Results, second: &Results) -> Result<Results, Memory>
+        ensures table { self.new.table ≡ self.old.table }
+        ensures both { IfOk result (λ both. both ≡ add_all first second.now) }
+    {
+        if second.len() > SOME {
+            return self.unions.union(&first, second);
+        }
+        let mut both = first;
+        push_all(self.alloc, &mut both, second)?;
+        Ok(both)
+    }
+
+    /// The results of a list, each once. Those of a list of this cube alone aren't kept.
     pub fn results(&mut self, list: usize) -> Result<Results, Memory>
         requires list { list < length self.old.table }
         ensures table { self.new.table ≡ self.old.table }
@@ -262,8 +323,10 @@ impl Lists {
         }
         let first = self.results(pair.first)?;
         let second = self.results(pair.second)?;
-        let both = self.unions.union(&first, &second)?;
-        self.keep(list, &both)?;
+        let both = self.both(first, &second)?;
+        if list < self.known {
+            self.keep(list, &both)?;
+        }
         Ok(both)
     }
 
@@ -284,8 +347,8 @@ impl Lists {
         Ok(list)
     }
 
-    /// The results of two lists, which weren't joined before.
-    fn joined(&mut self, pair: Pair) -> Result<usize, Memory>
+    /// The results of two lists, which weren't joined before and have so many different results at least.
+    fn joined(&mut self, pair: Pair, least: usize) -> Result<usize, Memory>
         requires first { pair.first < length self.old.table }
         requires second { pair.second < length self.old.table }
         ensures known { IfOk result (IsNew self.old.table self.new.table) }
@@ -295,13 +358,13 @@ impl Lists {
             let number = self.number_of(few, pair.first)?;
             return Ok(number);
         }
-        let sum = self.put_sum(pair)?;
+        let sum = self.put_sum(pair, least)?;
         let number = self.settled(sum)?;
         Ok(number)
     }
 
-    /// The results of both lists.
-    pub fn sum(&mut self, first: usize, second: usize) -> Result<usize, Memory>
+    /// The results of both lists, which have so many different ones at least.
+    fn sum_with(&mut self, first: usize, second: usize, least: usize) -> Result<usize, Memory>
         requires first { first < length self.old.table }
         requires second { second < length self.old.table }
         ensures known { IfOk result (IsNew self.old.table self.new.table) }
@@ -317,9 +380,29 @@ impl Lists {
         if let Some(number) = self.sums.find(&pair) {
             return Ok(number);
         }
-        let number = self.joined(pair)?;
+        let number = self.joined(pair, least)?;
         self.sums.note(pair, number)?;
         Ok(number)
+    }
+
+    /// The results of both lists.
+    pub fn sum(&mut self, first: usize, second: usize) -> Result<usize, Memory>
+        requires first { first < length self.old.table }
+        requires second { second < length self.old.table }
+        ensures known { IfOk result (IsNew self.old.table self.new.table) }
+        ensures both { IfOk result (λ n. SameMembers (list_at self.new.table n) (list_at self.old.table first ++ list_at self.old.table second)) }
+    {
+        let number = self.sum_with(first, second, 0)?;
+        Ok(number)
+    }
+
+    /// So many different results a part of a list has at least, where the rest is two lists.
+    fn least_without(&self, list: usize, first: usize, second: usize) -> usize {
+        let rest = self
+            .table
+            .weight(first)
+            .saturating_add(self.table.weight(second));
+        self.table.least(list).saturating_sub(rest)
     }
 
     /// The results of all lists. Those of each half are joined first.
@@ -368,6 +451,10 @@ impl Lists {
         ensures after { IfOk result (λ n. SameMembers (list_at self.new.table n) (map (after_item set loc) (list_at self.old.table list))) }
     {
         let next = Next { list, set, loc };
+        if self.is_alone(list) {
+            let number = self.made_after(next)?;
+            return Ok(number);
+        }
         if let Some(number) = self.afters.find(&next) {
             return Ok(number);
         }
@@ -396,8 +483,10 @@ impl Lists {
                 let pair = *pair;
                 let near = self.halves(tested.of(pair.first))?;
                 let far = self.halves(tested.of(pair.second))?;
-                let kept = self.sum(near.kept, far.kept)?;
-                let lost = self.sum(near.lost, far.lost)?;
+                let least = self.least_without(tested.list, near.lost, far.lost);
+                let kept = self.sum_with(near.kept, far.kept, least)?;
+                let least = self.least_without(tested.list, near.kept, far.kept);
+                let lost = self.sum_with(near.lost, far.lost, least)?;
                 Ok(Halves { kept, lost })
             }
         }
@@ -411,6 +500,10 @@ impl Lists {
         ensures lost { IfOk result (λ h. IsNew self.old.table self.new.table h.lost) }
         ensures split { IfOk result (λ h. IsSplit (passes tested) (list_at self.old.table tested.list) (list_at self.new.table h.kept) (list_at self.new.table h.lost)) }
     {
+        if self.is_alone(tested.list) {
+            let halves = self.made_halves(tested)?;
+            return Ok(halves);
+        }
         if let Some(halves) = self.splits.find(&tested) {
             return Ok(halves);
         }

@@ -7,10 +7,12 @@ ghost use Rattle.net_types.specs.Sets.{Member};
 use net_types::Memory;
 use std::alloc::Global;
 use std::collections::HashMap;
-use std::hash::Hash;
 
 /// What can be asked: values that are equal are one.
-pub trait Asked: Copy + Eq + Hash + Drop {
+pub trait Asked: Copy + Eq + Drop {
+    /// A number by which most questions differ. Nothing rests on it but how soon an answer is found.
+    fn print(&self) -> u64;
+
     /// The test of equality is exact.
     ghost exact: { (a b : Self) → Self.eq a b ≡ true → a ≡ b };
 }
@@ -24,10 +26,10 @@ pub struct Noted<K, V> {
 
 /// Answers that were noted.
 #[derive(Drop)]
-pub struct Memo<K: Eq + Hash, V> {
+pub struct Memo<K, V> {
     pub noted: Vec<Noted<K, V>>,
-    // where what was asked stands
-    places: HashMap<K, usize>,
+    // where what was asked last by a print stands
+    places: HashMap<u64, usize>,
 }
 
 impl<K: Asked, V: Copy + Drop> Memo<K, V> {
@@ -45,7 +47,7 @@ impl<K: Asked, V: Copy + Drop> Memo<K, V> {
     pub fn find(&self, key: &K) -> Option<V>
         ensures { IfSome result (λ value. Member (record { key = key.now; value = value }) self.now.noted.items) }
     {
-        let place = *self.places.get(key)?;
+        let place = *self.places.get(&key.print())?;
         let noted = self.noted.get(place)?;
         if noted.key == *key {
             Some(noted.value)
@@ -65,7 +67,7 @@ impl<K: Asked, V: Copy + Drop> Memo<K, V> {
     {
         let place = self.noted.len();
         self.noted.push(Noted { key, value })?;
-        self.places.insert(key, place)?;
+        self.places.insert(key.print(), place)?;
         Ok(())
     }
 }

@@ -7,7 +7,7 @@ ghost use Rattle.policy_compile.specs.Near.{near_of, is_taken, takes_address, ta
 use net_types::{Assign, Cube, Ip, Prefix};
 
 /// Which fields of a cube lie within those of a tested one.
-#[derive(Clone, Copy, Debug, PartialEq, Eq, Hash)]
+#[derive(Clone, Copy, Debug, PartialEq, Eq)]
 pub struct Near {
     pub inport: bool,
     pub src: bool,

@@ -167,7 +167,8 @@ fn parts_of_both_before<N: Names>(
 
 /// What `whole_before` does. Where the classifier is one rule, it goes behind each part of a sum, which has fewer results than
 /// the sum. The end of a chain is put before the classifier first where that is one rule or the end is simple: so a chain of
-/// such ends goes over the rules of what stands before them once.
+/// such ends goes over the rules of what stands before them once. Where chains are put together from their ends, it is so with
+/// every sum and every chain.
 #[cycle(sums)]
 fn before<N: Names>(
     alloc: Global,
@@ -181,7 +182,7 @@ fn before<N: Names>(
     let is_one = next.lines().len() == 1;
     match tree.node() {
         Node::Then(first, second) => {
-            if is_one || is_simple(second) {
+            if is_one || is_simple(second) || pairs.goes_backward() {
                 let later = before(alloc, pairs, second, next, names)?;
                 let chained = before(alloc, pairs, first, &later, names)?;
                 return Ok(chained);
@@ -190,7 +191,7 @@ fn before<N: Names>(
             Ok(chained)
         }
         Node::Both(first, second) => {
-            if is_one {
+            if is_one || pairs.goes_backward() {
                 let parts = parts_of_both_before(alloc, pairs, first, second, next, names)?;
                 let either = sum_all(alloc, pairs, &parts)?;
                 return Ok(either);
@@ -253,6 +254,26 @@ fn compiled<N: Names>(
     }
 }
 
+/// What `compile` does, with its three promises as one, where chains that are put together from their beginnings meet or give
+/// too much: from their ends, and where they do so too, cube by cube.
+fn compiled_backward<N: Names>(
+    alloc: Global,
+    tree: &Tree<'_>,
+    names: &N,
+) -> Result<Classifier, Memory>
+    ensures { IfOk result (λ c. IsCompiled (N.pid_of names.now) (policy_of tree.now) c) }
+{
+    let mut pairs = Pairs::backward();
+    match compiled(alloc, &mut pairs, tree, names) {
+        Ok(made) => Ok(made),
+        Err(Stop::Memory) => Err(Memory),
+        Err(Stop::Pairs) => {
+            let made = compiled_at_cells(alloc, tree, names)?;
+            Ok(made)
+        }
+    }
+}
+
 /// The classifier that makes of each packet what the policy makes of it. A name that is nobody's leads nowhere.
 pub fn compile<N: Names>(alloc: Global, tree: &Tree<'_>, names: &N) -> Result<Classifier, Memory>
     // It gives the same set of packets as the policy, of all headers and locations.
@@ -268,6 +289,10 @@ pub fn compile<N: Names>(alloc: Global, tree: &Tree<'_>, names: &N) -> Result<Cl
         Ok(made) => Ok(made),
         Err(Stop::Memory) => Err(Memory),
         Err(Stop::Pairs) => {
+            if pairs.has_choice() {
+                let made = compiled_backward(alloc, tree, names)?;
+                return Ok(made);
+            }
             let made = compiled_at_cells(alloc, tree, names)?;
             Ok(made)
         }

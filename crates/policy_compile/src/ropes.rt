@@ -14,7 +14,7 @@ use std::marker::Model;
 const MANY: usize = 4096;
 
 /// Two lists.
-#[derive(Clone, Copy, Debug, PartialEq, Eq, Hash)]
+#[derive(Clone, Copy, Debug, PartialEq, Eq)]
 pub struct Pair {
     pub first: usize,
     pub second: usize,
@@ -126,8 +126,18 @@ impl Ropes {
         Ok(())
     }
 
-    /// Puts the sum of two lists last.
-    pub fn push_sum(&mut self, pair: Pair) -> Result<(), Memory>
+    /// How many results a list has, where one that stands in several parts counts in each.
+    pub fn weight(&self, list: usize) -> usize {
+        self.size(list).weight
+    }
+
+    /// So many different results a list has at least.
+    pub fn least(&self, list: usize) -> usize {
+        self.size(list).least
+    }
+
+    /// Puts the sum of two lists last, which has so many different results at least.
+    pub fn push_sum(&mut self, pair: Pair, least: usize) -> Result<(), Memory>
         requires first { pair.first < length self.old }
         requires second { pair.second < length self.old }
         ensures ok { OnOk result (self.new ≡ self.old ++ (list_at self.old pair.first ++ list_at self.old pair.second) ∷ []) }
@@ -137,7 +147,7 @@ impl Ropes {
         let second = self.size(pair.second);
         self.sizes.push(Size {
             weight: first.weight.saturating_add(second.weight),
-            least: first.least.max(second.least),
+            least: first.least.max(second.least).max(least),
         })?;
         self.shapes.push(Shape::Sum(pair))?;
         Ok(())

@@ -1,4 +1,4 @@
-//! Sums of classifiers, as long as the pairs of rules that they meet are few enough.
+//! Sums of classifiers, as long as the pairs of rules that they meet and what they give are few enough.
 
 ghost use Rattle.std.specs.Prelude.{◌≡◌, ◌++◌, IfOk};
 ghost use Rattle.net_types.specs.declared.cube.Cube.{Cube as AnyCube};
@@ -99,7 +99,7 @@ fn sum_of(alloc: Global, pairs: &mut Pairs, parts: &[Classifier]) -> Result<Sum,
     let (front, back) = parts.split_at(parts.len() / 2);
     let left = sum_of(alloc, pairs, front)?;
     let right = sum_of(alloc, pairs, back)?;
-    pairs.take_sum(left.whole().lines(), right.whole().lines())?;
+    pairs.take_sum(alloc, left.whole().lines(), right.whole().lines())?;
     let all = joined(alloc, left, right)?;
     Ok(all)
 }

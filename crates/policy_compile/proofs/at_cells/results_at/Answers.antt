@@ -12,4 +12,4 @@ returns g c =
     let m = c.args.cube.now in
     let made = list_at c.made_of.new.lists.table c.in_ok-number.number in
     visits-same pid_of p m (begun ∷ []) [] made c.in_ok-results.results
-    (subst (λ items. AreVisits pid_of p m items [] made) c.if-is_full.lists.are.begun c.in_ok-number.ensures.made) c.in_ok-results.ensures.same
+    (subst (λ items. AreVisits pid_of p m items [] made) c.begin.new.self.are.begun c.in_ok-number.ensures.made) c.in_ok-results.ensures.same

@@ -18,11 +18,11 @@ after-returns-in-Some-clause-after t c =
 pub after-invariant_of-self : goal.after-invariant_of-self
 after-invariant_of-self t c =
     let next : Next = record { list = c.args.list; set = c.args.set; loc = c.args.loc } in
-    let new = c.made_after.new.self in
-    let number = c.in_ok-number.number in
+    let new = c.made_after-2.new.self in
+    let number = c.in_ok-number-2.number in
     record {
       are = after-noted new.table new.sums.noted.items new.afters.noted.items new.splits.noted.items new.flat.items new.flats.noted.items new.are c.note.new.self.noted.items next number c.note.ensures
-          (after-made c.args.self.now.table new.table next number c.in_ok-number.ensures.known c.requires.list c.in_ok-number.ensures.after);
+          (after-made c.args.self.now.table new.table next number c.in_ok-number-2.ensures.known c.requires.list c.in_ok-number-2.ensures.after);
     }
 
 pub made_after-returns-in_ok-number-in-Items-clause-after : goal.made_after-returns-in_ok-number-in-Items-clause-after

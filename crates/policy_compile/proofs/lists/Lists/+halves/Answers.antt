@@ -20,11 +20,11 @@ halves-returns-in-Some-clause-split t c =
 
 pub halves-invariant_of-self : goal.halves-invariant_of-self
 halves-invariant_of-self t c =
-    let new = c.made_halves.new.self in
-    let made = c.in_ok-halves.ensures in
+    let new = c.made_halves-2.new.self in
+    let made = c.in_ok-halves-2.ensures in
     record {
-      are = split-noted new.table new.sums.noted.items new.afters.noted.items new.splits.noted.items new.flat.items new.flats.noted.items new.are c.note.new.self.noted.items c.args.tested c.in_ok-halves.halves c.note.ensures
-          (halves-made c.args.self.now.table new.table c.args.tested c.in_ok-halves.halves c.requires.list made.kept made.lost made.split);
+      are = split-noted new.table new.sums.noted.items new.afters.noted.items new.splits.noted.items new.flat.items new.flats.noted.items new.are c.note.new.self.noted.items c.args.tested c.in_ok-halves-2.halves c.note.ensures
+          (halves-made c.args.self.now.table new.table c.args.tested c.in_ok-halves-2.halves c.requires.list made.kept made.lost made.split);
     }
 
 pub made_halves-returns-in_ok-lost-in-Items-2-clause-kept : goal.made_halves-returns-in_ok-lost-in-Items-2-clause-kept
@@ -49,9 +49,9 @@ made_halves-returns-in_ok-lost-in-Sum-clause-kept t c =
     let old = c.args.self.now.table in
     let one = c.halves.new.self.table in
     let two = c.halves-in-Sum.new.self.table in
-    let three = c.sum.new.self.table in
+    let three = c.sum_with.new.self.table in
     let kept = c.in_ok-kept-in-Sum in
-    new-later old three c.sum-in-Sum.new.self.table kept.kept
+    new-later old three c.sum_with-in-Sum.new.self.table kept.kept
     (new-before old two three kept.kept (grown-trans old one two c.in_ok-near-in-Sum.ensures.kept.grown c.in_ok-far-in-Sum.ensures.kept.grown) kept.ensures.known) c.in_ok-lost-in-Sum.ensures.known.grown
 
 pub made_halves-returns-in_ok-lost-in-Sum-clause-lost : goal.made_halves-returns-in_ok-lost-in-Sum-clause-lost
@@ -59,8 +59,8 @@ made_halves-returns-in_ok-lost-in-Sum-clause-lost t c =
     let old = c.args.self.now.table in
     let one = c.halves.new.self.table in
     let two = c.halves-in-Sum.new.self.table in
-    let three = c.sum.new.self.table in
-    new-before old three c.sum-in-Sum.new.self.table c.in_ok-lost-in-Sum.lost
+    let three = c.sum_with.new.self.table in
+    new-before old three c.sum_with-in-Sum.new.self.table c.in_ok-lost-in-Sum.lost
     (grown-trans old two three (grown-trans old one two c.in_ok-near-in-Sum.ensures.kept.grown c.in_ok-far-in-Sum.ensures.kept.grown) c.in_ok-kept-in-Sum.ensures.known.grown) c.in_ok-lost-in-Sum.ensures.known
 
 pub made_halves-returns-in_ok-lost-in-Sum-clause-split : goal.made_halves-returns-in_ok-lost-in-Sum-clause-split
@@ -73,6 +73,6 @@ made_halves-returns-in_ok-lost-in-Sum-clause-split t c =
     let far = c.in_ok-far-in-Sum in
     let first = subst (λ x. IsSplit (passes x) (list_at lists x.list) (list_at one near.near.kept) (list_at one near.near.lost)) c.of.ensures near.ensures.split in
     let second = subst (λ x. IsSplit (passes x) (list_at one x.list) (list_at two far.far.kept) (list_at two far.far.lost)) c.of-in-Sum.ensures far.ensures.split in
-    halves-of_sum lists one two c.sum.new.self.table c.sum-in-Sum.new.self.table (passes tested) tested.list c.in-Sum.pair near.near.kept near.near.lost far.far.kept far.far.lost c.in_ok-kept-in-Sum.kept c.in_ok-lost-in-Sum.lost
+    halves-of_sum lists one two c.sum_with.new.self.table c.sum_with-in-Sum.new.self.table (passes tested) tested.list c.in-Sum.pair near.near.kept near.near.lost far.far.kept far.far.lost c.in_ok-kept-in-Sum.kept c.in_ok-lost-in-Sum.lost
     (subst (IsShape lists tested.list) c.in-Sum.is c.shape.ensures) c.requires.list near.ensures.kept near.ensures.lost first far.ensures.kept far.ensures.lost second
     c.in_ok-kept-in-Sum.ensures.known c.in_ok-kept-in-Sum.ensures.both c.in_ok-lost-in-Sum.ensures.known c.in_ok-lost-in-Sum.ensures.both

@@ -26,11 +26,11 @@ keep-requires-clause-same t c =
     let lists = c.args.self.now.table in
     let mid = c.results.new.self.table in
     let between = c.in_ok-first.ensures.table in
-    flat-sum lists mid c.results-2.new.self.table c.args.list c.in-Sum.pair c.in_ok-first.first c.in_ok-second.second c.in_ok-both.both
-    (subst (IsShape lists c.args.list) c.in-Sum.is c.shape.ensures) between (c.in_ok-second.ensures.table ∙ between) c.in_ok-first.ensures.same c.in_ok-second.ensures.same c.in_ok-both.ensures
+    flat-sum lists mid c.both.new.self.table c.args.list c.in-Sum.pair c.in_ok-first.first c.in_ok-second.second c.in_ok-both.both
+    (subst (IsShape lists c.args.list) c.in-Sum.is c.shape.ensures) between (c.in_ok-both.ensures.table ∙ c.in_ok-second.ensures.table ∙ between) c.in_ok-first.ensures.same c.in_ok-second.ensures.same c.in_ok-both.ensures.both
 
 pub returns-clause-same : goal.returns-clause-same
 returns-clause-same t c =
     let lists = c.args.self.now.table in
     flat-sum lists c.results.new.self.table lists c.args.list c.in-Sum.pair c.in_ok-first.first c.in_ok-second.second c.in_ok-both.both
-    (subst (IsShape lists c.args.list) c.in-Sum.is c.shape.ensures) c.in_ok-first.ensures.table refl c.in_ok-first.ensures.same c.in_ok-second.ensures.same c.in_ok-both.ensures
+    (subst (IsShape lists c.args.list) c.in-Sum.is c.shape.ensures) c.in_ok-first.ensures.table refl c.in_ok-first.ensures.same c.in_ok-second.ensures.same c.in_ok-both.ensures.both

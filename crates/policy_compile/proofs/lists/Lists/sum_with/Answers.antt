@@ -3,8 +3,8 @@ use Rattle.net_types.specs.Sets.{SameMembers}
 use Rattle.classifier.specs.Numbered.{list_at}
 use Rattle.policy_compile.specs.declared.ropes.Pair.{Pair}
 use Rattle.policy_compile.proofs.ListsLemmas.{new-old, same-beside_none, same-itself, same-of_told, sum-noted, summed-made}
-use Rattle.policy_compile.proofs.lists.Lists.sum.Goals as goal
-use Rattle.policy_compile.proofs.lists.Lists.sum.Goals.{then-second-eq-NONE-via-then-second-eq-NONE, then-second-eq-NONE-via-else-second-eq-NONE+then-first-second}
+use Rattle.policy_compile.proofs.lists.Lists.sum_with.Goals as goal
+use Rattle.policy_compile.proofs.lists.Lists.sum_with.Goals.{then-second-eq-NONE-via-then-second-eq-NONE, then-second-eq-NONE-via-else-second-eq-NONE+then-first-second}
 
 pub returns-then-second-eq-NONE-clause-both : goal.returns-then-second-eq-NONE-clause-both
 returns-then-second-eq-NONE-clause-both c =
