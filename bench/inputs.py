@@ -384,6 +384,36 @@ def followed_by_tests(policy, first):
     return policy + "".join(f">>match(!srcport={port})" for port in range(first, first + (8192 - len(policy)) // len(">>match(!srcport=5000)")))
 
 
+def tests_not(field, values):
+    """Tests by `!` of the values of a field, one after another, behind something."""
+    return "".join(f">>match(!{field}={value})" for value in values)
+
+
+def narrower(last):
+    """The prefixes 0.0.0.0/2 to the last, each within the one before."""
+    return [f"0.0.0.0/{length}" for length in range(2, last + 1)]
+
+
+def within_one(field, last):
+    """One test of the prefixes 0.0.0.0/1 to the last of a field."""
+    return "match(" + "|".join(tests_of(field, ["0.0.0.0/1", *narrower(last)])) + ")"
+
+
+def ports(first, end):
+    """Forwards to the ports from one to before another."""
+    return "+".join(f"fwd({port})" for port in range(first, end))
+
+
+def cut(policy, pieces, last):
+    """A policy, as many of the pieces behind it as there is room for, and the last one."""
+    text = policy
+    for piece in pieces:
+        if len(text) + len(piece) + len(last) > 8192:
+            break
+        text += piece
+    return text + last
+
+
 def nine_each(n):
     """Nine ways to set two fields that no other number has."""
     return "(" + settings("srcport", range(3 * n, 3 * n + 3)) + ")>>(" + settings("dstport", range(3)) + ")"
@@ -440,6 +470,63 @@ SLOWEST = [
     ("in, the same before tests by `!` of ports that are set, no routes", ports_without_routes, ("in", "B"), followed_by_tests(FOUR_EACH, 1)),
     ("in, 992 assignments before 245 ports, all before a test by `!`, no routes", ports_without_routes, ("in", "B"),
      "(" + assigned(31, 32) + ">>(" + "+".join(f"fwd({port})" for port in range(5, 250)) + "))>>match(!srcip=1.0.0.0/8)"),
+]
+
+# policies of which a part gives far more than the whole, or which meet far more put together from one end than from the other
+SET = assigned(31, 32)
+LITTLE = ">>match(srcport=1,dstport=1,srcip=1.0.0.0/8,dstip=1.0.0.0/8)"
+THIRTY = ">>".join("match(" + "|".join(tests_of(field, values)) + ")" for field, values in (("srcport", range(1, 11)), ("dstport", range(1, 11)),
+                   ("srcip", nets(10))))
+SLOWEST += [
+    ("in, 60 tests by `!`, each before 4 assignments, before 4 others, before 50 ports, before tests that leave little, no routes", ports_without_routes, ("in", "B"),
+     FOUR_EACH + ">>(" + settings("dstport", range(1, 5)) + ")>>(" + ports(5, 55) + ")" + tests_not("srcport", range(5000, 5018)) + ">>match(srcport=1)"),
+    ("in, the 60 tests and 60 times `pass`, before four ports, before tests that leave little, no routes", ports_without_routes, ("in", "B"),
+     "(" + denied(15, four_each) + "+pass" * 60 + ")>>(" + ports(5, 9) + ")" + LITTLE),
+    ("in, thirty sums with one more port behind the 60 tests, no routes", ports_without_routes, ("in", "B"),
+     "(" * 30 + FOUR_EACH + "".join(f">>pass+fwd({port}))" for port in range(5, 35))),
+    ("in, 992 assignments before the same before 250 ports and a test by `!`, no routes", ports_without_routes, ("in", "B"),
+     f"{SET}>>(({SET}>>({PORTS}))+match(!srcip=1.0.0.0/8))"),
+    ("in, 65536 meets before that, before tests that leave little, no routes", ports_without_routes, ("in", "B"),
+     f"{grid_of(15)}>>(({SET}>>({PORTS}))+match(!srcip=1.0.0.0/8)){LITTLE}"),
+    ("in, prefixes within prefixes before four assignments before tests by `!` of such prefixes, no routes", ports_without_routes, ("in", "B"),
+     "(" + within_one("srcip", 31) + "+" + within_one("dstip", 31) + ")>>(modify(srcport=99)+modify(dstport=99)+modify(srcip=99.0.0.0)+modify(dstip=99.0.0.0))"
+     + tests_not("srcip", narrower(31)) + tests_not("dstip", narrower(31)) + tests_not("srcport", range(1, 8)) + tests_not("dstport", range(1, 8))),
+    ("in, 992 assignments and two more before tests of what is set, no routes", ports_without_routes, ("in", "B"),
+     SET + ">>modify(srcip=1.1.1.1,dstip=1.1.1.1)" + "".join(">>match(" + "|".join(tests_of(field, values)) + ")" for field, values in
+     (("srcport", range(1, 41)), ("dstport", range(1, 41)), ("srcip", nets(100)), ("dstip", nets(100))))),
+    ("in, 900 times `pass` before 992 assignments before 250 ports, no routes", ports_without_routes, ("in", "B"),
+     "(" + "+".join(["pass"] * 900) + f")>>({SET}>>({PORTS}))"),
+    ("in, tests of thirty values before 600 times `pass` before 65536 meets, no routes", ports_without_routes, ("in", "B"),
+     f"({THIRTY})>>(" + "+".join(["pass"] * 600) + f")>>({grid_of(15)})"),
+]
+
+# policies that are accepted and take more than ten seconds or 2 GB to be compiled, though their rules give less than 32 million
+# results: what most cubes have in their lists is their own, and goes through much
+ONE_EACH = "(" + denied(15, lambda n: f"modify(srcport={n})") + ")"
+EITHER = ">>".join("match(" + "|".join(tests_of(field, values)) + ")" for field, values in (("dstport", range(1, 13)), ("srcip", nets(12)), ("dstip", nets(12))))
+WIDER = ">>".join("match(" + "|".join(tests_of(field, values)) + ")" for field, values in (("dstport", range(1, 16)), ("srcip", nets(15)), ("dstip", nets(15))))
+BESIDE_PORTS = twice(within(20)) + f"+{SET}>>({PORTS})"
+PAIRED = [(one, other) for one in range(1, 32) for other in range(1, 33)]
+BEYOND = [
+    ("in, `pass` and a port before 60 tests by `!`, each before 4 assignments, no routes", "(pass+fwd(5))>>" + FOUR_EACH),
+    ("in, `pass` before 58 tests by `!`, each before 9 assignments, no routes", "pass>>(" + denied(13, nine_each) + ")"),
+    ("in, 260 times `pass` before the 60 tests, no routes", "pass>>" * 260 + FOUR_EACH),
+    ("in, prefixes within prefixes beside 992 assignments before 250 ports before 58 tests by `!`, no routes",
+     BESIDE_PORTS + tests_not("srcport", range(1, 29)) + tests_not("dstport", range(30))),
+    ("in, the same before tests by `!` of both ports, no routes",
+     cut(BESIDE_PORTS, [f">>match(!(srcport={one},dstport={other}))" for one, other in PAIRED], LITTLE)),
+    ("in, the same before sums of two such tests, no routes",
+     cut(BESIDE_PORTS, [f">>(match(!(srcport={one},dstport={other}))+match(!(srcport={one},dstport={other + 1})))" for one in range(1, 31)
+                        for other in range(0, 30, 2)], LITTLE)),
+    ("in, `pass` and a port before 60 tests by `!`, each before an assignment, before 250 tests by `!`, no routes",
+     followed_by_tests("(pass+fwd(5))>>" + ONE_EACH, 5000)),
+    ("in, 60 tests by `!`, each before two assignments, before 36 tests, before a test of 120 values that are set, no routes",
+     "(" + denied(15, lambda n: "(" + settings("srcport", (n + 1, n + 61)) + ")") + f")>>({EITHER})>>match(" + "|".join(tests_of("srcport", range(1, 121))) + ")"),
+    ("in, 60 tests by `!`, each before an assignment, before 36 tests, before tests by `!`, no routes",
+     followed_by_tests(f"{ONE_EACH}>>({EITHER})", 5000)),
+    ("in, the 60 tests before ten ports before 45 tests before a port, no routes", f"{FOUR_EACH}>>({TEN_PORTS})>>({WIDER})>>fwd(2)"),
+    ("in, `pass` and a port before 60 tests by `!`, each before an assignment, before sums of two tests by `!`, no routes",
+     cut("(pass+fwd(5))>>" + ONE_EACH, [f">>(match(!srcport={2 * n})+match(!srcport={2 * n + 1}))" for n in range(200)], "")),
 ]
 
 # a policy that is accepted, and the reply to which has 248000 actions in each of 65536 rules
