@@ -127,13 +127,13 @@ cubes-composed xs ys =
 
 -- ---- assignments
 
-each-assign : (P : Assign → Type 0) (xs : List Line) → EachLine (λ z. (item : Item) → Member item z.results → P item.0) xs → (m : Assign) → Member m (assigns_of xs) → P m
+pub each-assign : (P : Assign → Type 0) (xs : List Line) → EachLine (λ z. (item : Item) → Member item z.results → P item.0) xs → (m : Assign) → Member m (assigns_of xs) → P m
 each-assign P xs f m h =
     let s = SetLemmas.union-Member (λ (z : Line). map (λ (i : Item). i.0) z.results) xs m h in
     let i = SetLemmas.map-Member (λ (i : Item). i.0) s.of.results m s.gives in
     subst P (sym i.is) (f s.of s.stands i.of i.stands)
 
-joined-cases : (join : Join) (xs ys : List Item) (i : Item) → Member i (joined join xs ys) → Member i xs ⊎ Member i ys
+pub joined-cases : (join : Join) (xs ys : List Item) (i : Item) → Member i (joined join xs ys) → Member i xs ⊎ Member i ys
 joined-cases Union xs ys i h = SetLemmas.Member-append_cases xs ys i ((same_add_all xs ys).onto i h)
 joined-cases Otherwise [] ys i h = inr h
 joined-cases Otherwise (x ∷ xs) ys i h = inl h

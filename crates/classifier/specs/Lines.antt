@@ -61,6 +61,12 @@ abbrev pub product : Join → List Line → List Line → List Line
 product join [] ys = []
 product join (x ∷ xs) ys = row join x ys ++ product join xs ys
 
+-- each line of the first list with the items of the line that has its place in the second
+abbrev pub aligned : List Line → List Line → List Line
+aligned [] ys = []
+aligned (x ∷ xs) [] = []
+aligned (x ∷ xs) (y ∷ ys) = line (add_all x.results y.results) x.cube ∷ aligned xs ys
+
 -- ---- one list after another
 
 -- an assignment and a location, and then another

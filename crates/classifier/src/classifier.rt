@@ -37,7 +37,7 @@ impl Classifier {
     }
 
     /// A classifier of the same rules.
-    pub(crate) fn twin(&self) -> Result<Classifier, Memory>
+    pub fn twin(&self) -> Result<Classifier, Memory>
         ensures { IfOk result (λ c. lines_of c ≡ lines_of self.now) }
     {
         let lines = self.lines.copy()?;

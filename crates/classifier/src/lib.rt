@@ -2,6 +2,7 @@
 #![tactic(auto)]
 
 mod afters;
+mod aligned;
 mod classifier;
 mod composition;
 mod filters;
@@ -23,6 +24,7 @@ mod sum;
 mod tight;
 mod unions;
 
+pub use aligned::are_aligned;
 pub use classifier::Classifier;
 pub use gathering::{Gathering, push_all};
 pub use join::Join;

@@ -1,9 +1,10 @@
 -- Chains whose brackets stand otherwise.
 use Rattle.std.proofs.Common.{◌≡◌, ℕ, Option, List, [], ◌∷◌, ◌++◌, map, refl, inl, inr, sym, ap, ◌∙◌, subst}
+use Rattle.std.proofs.lemmas.List.{append-nil}
 use Rattle.net_types.specs.declared.address.Pid.{Pid}
 use Rattle.net_types.specs.declared.cube.Cube.{Cube}
 use Rattle.net_types.specs.declared.headers.Assign.{Assign}
-use Rattle.net_types.specs.Headers.{followed_by}
+use Rattle.net_types.specs.Headers.{followed_by, no_change}
 use Rattle.net_types.specs.Meets.{behind}
 use Rattle.net_types.specs.Sets.{Member, union_over}
 use Rattle.net_types.specs.Policies as model
@@ -11,10 +12,13 @@ use Rattle.net_types.specs.Policies.{Packet, den, mods, atoms}
 use Rattle.net_types.proofs.SetLemmas
 use Rattle.net_types.proofs.MeetLemmas.{IsMeet-wider, IsMeet-member, Member-behind, behind-Member}
 use Rattle.classifier.specs.declared.classifier.Classifier.{Classifier}
+use Rattle.classifier.specs.Classifiers.{lines_of}
+use Rattle.classifier.specs.Meaning as lines
 use Rattle.classifier.specs.Compiled.{IsCompiled}
+use Rattle.classifier.proofs.CompileLemmas.{pull-no_change}
 use Rattle.classifier.proofs.SumLemmas.{union-append}
 use Rattle.policy_compile.proofs.AtomLemmas.{behind-onto}
-use Rattle.classifier.proofs.DecideLemmas.{or_assoc}
+use Rattle.classifier.proofs.DecideLemmas.{or_assoc, or_none}
 
 -- what a function gives of each of what another gives
 union-union : {A B C : Type 0} (f : B → List C) (g : A → List B) (xs : List A) → union_over (λ x. union_over f (g x)) xs ≡ union_over f (union_over g xs)
@@ -86,3 +90,25 @@ compiled-regrouped pid_of p q r c f = record {
       (λ a m. IsMeet-member (atoms (model.Then (model.Then p q) r)) a (atoms-regrouped p q r a m)) x (f.cubes x k);
   assigns = λ m k. mods-regrouped (mods p) (mods q) (mods r) m (f.assigns m k);
 }
+
+-- nothing, and then an assignment
+followed-none : (m : Assign) → followed_by no_change m ≡ m
+followed-none m =
+    let src = or_none m.src in
+    let dst = or_none m.dst in
+    let sport = or_none m.sport in
+    let dport = or_none m.dport in
+    rw (src, dst, sport, dport) refl
+
+-- a policy behind the packet as it is, by the same rules
+pub compiled-passed : (pid_of : List ℕ → Option Pid) (q : model.Policy) (a c : Classifier) → lines_of c ≡ lines_of a → IsCompiled pid_of q a → IsCompiled pid_of (model.Then model.Pass q) c
+compiled-passed pid_of q a c e f =
+    let before = no_change ∷ [] in
+    record {
+      means = λ h l. SetLemmas.same_trans (SetLemmas.same_eq (ap (λ xs. lines.meaning xs h l) e)) (SetLemmas.same_trans (f.means h l) (SetLemmas.same_eq (sym (append-nil (den pid_of q h l)))));
+      cubes = λ x k. IsMeet-wider (atoms q) (behind before (atoms q))
+          (λ d stands. IsMeet-member (behind before (atoms q)) d (behind-Member before (atoms q) no_change d d (inl refl) stands (pull-no_change d)))
+          x (f.cubes x (subst (λ xs. Member x (lines.cubes_of xs)) e k));
+      assigns = λ m k. subst (λ n. Member n (in_turn before (mods q))) (followed-none m)
+          (turn-to before (mods q) no_change m (inl refl) (f.assigns m (subst (λ xs. Member m (lines.assigns_of xs)) e k)));
+    }

@@ -1,6 +1,6 @@
 //! How many pairs of rules the operations on classifiers may meet, and how many results a sum may give.
 
-use classifier::Line;
+use classifier::{Line, are_aligned};
 use net_types::Memory;
 use std::alloc::Global;
 use std::collections::HashSet;
@@ -89,12 +89,16 @@ impl Pairs {
         Ok(())
     }
 
-    /// Takes those of a sum of two lists of rules, and its results.
+    /// Takes those of a sum of two lists of rules, and its results. Where the cubes of both are the same in the same order, each
+    /// rule is joined with one alone.
     pub fn take_sum(&mut self, alloc: Global, xs: &[Line], ys: &[Line]) -> Result<(), Stop> {
-        self.take(xs.len().saturating_mul(ys.len()))?;
-        let first = spread_of(alloc, xs)?;
-        let second = spread_of(alloc, ys)?;
-        let joined = first.joined_with(second);
+        let joined = if are_aligned(xs, ys) {
+            self.take(xs.len())?;
+            results_of(xs).saturating_add(results_of(ys))
+        } else {
+            self.take(xs.len().saturating_mul(ys.len()))?;
+            spread_of(alloc, xs)?.joined_with(spread_of(alloc, ys)?)
+        };
         if joined > self.results {
             return Err(Stop::Pairs);
         }
@@ -171,6 +175,15 @@ impl Spread {
         }
         joined
     }
+}
+
+/// How many results some rules have together.
+fn results_of(lines: &[Line]) -> usize {
+    let mut results = 0usize;
+    for line in lines {
+        results = results.saturating_add(line.results.len());
+    }
+    results
 }
 
 /// What some rules give. Lists are told apart by their prints.

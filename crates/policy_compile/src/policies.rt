@@ -165,10 +165,10 @@ fn parts_of_both_before<N: Names>(
     Ok(spread)
 }
 
-/// What `whole_before` does. Where the classifier is one rule, it goes behind each part of a sum, which has fewer results than
-/// the sum. The end of a chain is put before the classifier first where that is one rule or the end is simple: so a chain of
-/// such ends goes over the rules of what stands before them once. Where chains are put together from their ends, it is so with
-/// every sum and every chain.
+/// What `whole_before` does. `pass` before a classifier is that classifier. Where the classifier is one rule, it goes behind each
+/// part of a sum, which has fewer results than the sum. The end of a chain is put before the classifier first where that is one
+/// rule or the end is simple: so a chain of such ends goes over the rules of what stands before them once. Where chains are put
+/// together from their ends, it is so with every sum and every chain.
 #[cycle(sums)]
 fn before<N: Names>(
     alloc: Global,
@@ -181,6 +181,10 @@ fn before<N: Names>(
 {
     let is_one = next.lines().len() == 1;
     match tree.node() {
+        Node::Pass => {
+            let same = next.twin()?;
+            Ok(same)
+        }
         Node::Then(first, second) => {
             if is_one || is_simple(second) || pairs.goes_backward() {
                 let later = before(alloc, pairs, second, next, names)?;

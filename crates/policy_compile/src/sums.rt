@@ -12,7 +12,7 @@ ghost use Rattle.classifier.specs.Sums.{IsSum};
 ghost use Rattle.policy_compile.specs.Summed.{whole_of};
 
 use crate::pairs::{Pairs, Stop};
-use classifier::{Classifier, Numbered, parallel, parallel_all};
+use classifier::{Classifier, Numbered, are_aligned, parallel, parallel_all};
 use net_types::Memory;
 use std::alloc::Global;
 
@@ -67,7 +67,8 @@ impl Sum {
     }
 }
 
-/// What either gives.
+/// What either gives. Where the cubes of both are the same in the same order, the results have numbers, by which each rule is
+/// joined with one alone.
 fn joined(alloc: Global, a: Sum, b: Sum) -> Result<Sum, Memory>
     ensures union { IfOk result (λ s. (h : AnyHeaders) (l : AnyLoc) →
         SameMembers (meaning (whole_of s) h l) (meaning (whole_of a) h l ++ meaning (whole_of b) h l)) }
@@ -76,9 +77,9 @@ fn joined(alloc: Global, a: Sum, b: Sum) -> Result<Sum, Memory>
     ensures assigns { IfOk result (λ s. (m : AnyAssign) → Member m (assigns_of (whole_of s)) →
         Member m (assigns_of (whole_of a) ++ assigns_of (whole_of b))) }
 {
-    if a.most().saturating_add(b.most()) <= FEW {
-        let front = a.whole();
-        let back = b.whole();
+    let front = a.whole();
+    let back = b.whole();
+    if a.most().saturating_add(b.most()) <= FEW && !are_aligned(front.lines(), back.lines()) {
         let both = parallel(alloc, front, back)?;
         return Ok(Sum::Few(both));
     }

@@ -10,7 +10,7 @@ use Rattle.policy_syntax.specs.Views.{policy_of, pred_of}
 use Rattle.classifier.specs.Compiled.{IsCompiled}
 use Rattle.classifier.specs.Sums.{IsSum}
 use Rattle.policy_compile.specs.Parts.{AreParts}
-use Rattle.policy_compile.proofs.ChainLemmas.{compiled-regrouped}
+use Rattle.policy_compile.proofs.ChainLemmas.{compiled-passed, compiled-regrouped}
 use Rattle.policy_compile.proofs.PartLemmas.{parts-one, parts-both, parts-spread, compiled-parts}
 use Rattle.classifier.proofs.CompileLemmas
 use Rattle.policy_compile.proofs.policies.+sums.Goals as goal
@@ -67,6 +67,12 @@ pub whole_before-returns : goal.whole_before-returns
 whole_before-returns g t c = λ q h.
     let f = c.in_ok-chained.ensures in
     CompileLemmas.compiled-then (g.N.Names.pid_of c.args.names.now) (policy_of c.args.tree.now) q c.in_ok-whole.whole c.args.next.now c.in_ok-chained.chained c.in_ok-whole.ensures h f.chain f.cubes f.assigns
+
+pub before-returns-in_ok-same-in-Pass : goal.before-returns-in_ok-same-in-Pass
+before-returns-in_ok-same-in-Pass g t c = λ q h.
+    let pid_of = g.N.Names.pid_of c.args.names.now in
+    subst (λ p. IsCompiled pid_of (model.Then p q) c.in_ok-same-in-Pass.same) c.in-Pass.ensures
+    (compiled-passed pid_of q c.args.next.now c.in_ok-same-in-Pass.same c.in_ok-same-in-Pass.ensures h)
 
 pub before-returns-then-is_one : goal.before-returns-then-is_one
 before-returns-then-is_one g t c = λ q h.

@@ -5,8 +5,8 @@ use Rattle.classifier.specs.Classifiers.{assigns_of}
 use Rattle.policy_compile.specs.Summed.{whole_of}
 use Rattle.policy_compile.proofs.sums.joined.Goals as goal
 
-pub returns-then-saturating_add-le-FEW-clause-assigns : goal.returns-then-saturating_add-le-FEW-clause-assigns
-returns-then-saturating_add-le-FEW-clause-assigns c = λ m h.
+pub returns-then-not-are_aligned-clause-assigns : goal.returns-then-not-are_aligned-clause-assigns
+returns-then-not-are_aligned-clause-assigns c = λ m h.
     subst (λ (x : Classifier). Member m (assigns_of x ++ assigns_of (whole_of c.args.b))) c.whole-front.ensures
     (subst (λ (y : Classifier). Member m (assigns_of c.whole-front.result.now ++ assigns_of y)) c.whole-back.ensures (c.in_ok-both.ensures.assigns m h))
 
