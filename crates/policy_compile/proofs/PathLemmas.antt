@@ -1,5 +1,5 @@
 -- What the paths of a policy make within a cube, part by part.
-use Rattle.std.proofs.Common.{◌≡◌, ℕ, Bool, true, false, not, ◌&&◌, ◌||◌, cond, Option, Some, None, List, [], ◌∷◌, ◌++◌, map, append_assoc, refl, inl, inr, sym, ap, ◌∙◌, subst}
+use Rattle.std.proofs.Common.{◌≡◌, ◌↔◌, ℕ, Bool, true, false, not, ◌&&◌, ◌||◌, cond, Option, Some, None, List, [], ◌∷◌, ◌++◌, map, append_assoc, refl, inl, inr, sym, ap, ◌∙◌, subst}
 use Rattle.net_types.specs.declared.address.Pid.{Pid}
 use Rattle.net_types.specs.declared.cube.Cube.{Cube}
 use Rattle.net_types.specs.declared.headers.Headers.{Headers}
@@ -21,8 +21,7 @@ use Rattle.classifier.specs.Meaning.{carried, Follows}
 use Rattle.classifier.proofs.ResultLemmas.{apply-followed_by}
 use Rattle.classifier.proofs.SumLemmas.{union-append}
 use Rattle.policy_compile.specs.Paths.{within_found, taken_into, where_plain, pred_at, part_at, Decided, sets_of, AreVisits}
-use Rattle.policy_compile.specs.Lists.{IsSplit, after_item}
-use Rattle.policy_compile.proofs.SplitLemmas.{split-ext}
+use Rattle.policy_compile.specs.Paths.{after_item}
 use Rattle.policy_compile.proofs.AtomLemmas.{pull_found, pull-followed}
 use Rattle.policy_compile.proofs.ChainLemmas.{followed-regrouped}
 
@@ -74,13 +73,6 @@ pred_at-is m set (model.Is test span) = refl
 pred_at-is m set (model.Not p) = refl
 pred_at-is m set (model.And p q) = refl
 pred_at-is m set (model.Or p q) = refl
-
--- a predicate splits items as its one cube does, where it is a conjunction of plain tests, and else as its parts do
-pub split-plain : (m : Cube) (p : model.Pred) (found : Option Cube) (items kept lost : List Item) → plain p ≡ Some found → IsSplit (λ i. taken_into m i.0 found) items kept lost → IsSplit (λ i. pred_at m i.0 p) items kept lost
-split-plain m p found items kept lost e = split-ext (λ i. taken_into m i.0 found) (λ i. pred_at m i.0 p) items kept lost (λ i. sym (ap (λ o. where_plain m i.0 o (part_at m i.0 p)) e) ∙ pred_at-is m i.0 p)
-
-pub split-parts : (m : Cube) (p : model.Pred) (items kept lost : List Item) → plain p ≡ None → IsSplit (λ i. part_at m i.0 p) items kept lost → IsSplit (λ i. pred_at m i.0 p) items kept lost
-split-parts m p items kept lost e = split-ext (λ i. part_at m i.0 p) (λ i. pred_at m i.0 p) items kept lost (λ i. sym (ap (λ o. where_plain m i.0 o (part_at m i.0 p)) e) ∙ pred_at-is m i.0 p)
 
 -- ---- items made of items
 
@@ -157,12 +149,12 @@ visits-unchanged pid_of m items = record {
     each (x ∷ xs) = ap (λ ys. x ∷ ys) (each xs)
 
 -- a test leaves those of the items behind which it holds
-pub visits-kept : (pid_of : List ℕ → Option Pid) (p : model.Pred) (m : Cube) (items kept lost : List Item) → IsSplit (λ i. pred_at m i.0 p) items kept lost → AreVisits pid_of (model.Match p) m items [] kept
-visits-kept pid_of p m items kept lost f = record {
+pub visits-kept : (pid_of : List ℕ → Option Pid) (p : model.Pred) (m : Cube) (items kept : List Item) → ((i : Item) → Member i kept ↔ (Member i items × (pred_at m i.0 p ≡ true))) → AreVisits pid_of (model.Match p) m items [] kept
+visits-kept pid_of p m items kept kept_are = record {
   means = λ h l d. record {
     onto = λ y k.
         let i = SetLemmas.map-Member (carried h l) kept y k in
-        let both = (f.kept_are i.of).0 i.stands in
+        let both = (kept_are i.of).0 i.stands in
         let holding : holds p (apply i.of.0 h) ≡ true = sym ((decided m i.of.0 h p).whole (d i.of both.0)) ∙ both.1 in
         SetLemmas.Member-union makes (map (carried h l) items) (carried h l i.of) y (SetLemmas.Member-map (carried h l) items i.of both.0)
         (subst (λ b. Member y (cond b (carried h l i.of ∷ []) [])) (sym holding) (inl i.is));
@@ -178,7 +170,7 @@ visits-kept pid_of p m items kept lost f = record {
       inr (record {
         before = i.of.0;
         next = no_change;
-        before_stands = SetLemmas.Member-map (λ (j : Item). j.0) items i.of ((f.kept_are i.of).0 i.stands).0;
+        before_stands = SetLemmas.Member-map (λ (j : Item). j.0) items i.of ((kept_are i.of).0 i.stands).0;
         next_stands = inl refl;
         is = i.is;
       });
@@ -188,7 +180,7 @@ visits-kept pid_of p m items kept lost f = record {
     makes x = den pid_of (model.Match p) x.0 x.1
 
     back_by : (h : Headers) (l : Loc) (y : Packet) (i : Item) → Member i items → (b : Bool) → pred_at m i.0 p ≡ b → Member y (cond b (carried h l i ∷ []) []) → Member y (map (carried h l) kept)
-    back_by h l y i stands true is (inl e) = subst (λ z. Member z (map (carried h l) kept)) (sym e) (SetLemmas.Member-map (carried h l) kept i ((f.kept_are i).1 (stands, is)))
+    back_by h l y i stands true is (inl e) = subst (λ z. Member z (map (carried h l) kept)) (sym e) (SetLemmas.Member-map (carried h l) kept i ((kept_are i).1 (stands, is)))
     back_by h l y i stands true is (inr none) = elim none [ ]
     back_by h l y i stands false is none = elim none [ ]
 

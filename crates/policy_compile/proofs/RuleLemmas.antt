@@ -23,25 +23,10 @@ use Rattle.classifier.specs.Classifiers.{lines_of, meaning}
 use Rattle.classifier.specs.Compiled.{IsCompiled}
 use Rattle.classifier.proofs.DecideLemmas.{decide-add_lines, or_none}
 use Rattle.classifier.proofs.LineLemmas.{EachLine, each-add_lines}
-use Rattle.classifier.proofs.ShapeLemmas.{cubes-push}
 use Rattle.policy_compile.specs.Cells.{first_of, AreCells}
 use Rattle.classifier.specs.Items.{Item}
-use Rattle.policy_compile.specs.Paths.{taken_into, within_found, Decided, sets_of, AreVisits, AreAt, begun}
+use Rattle.policy_compile.specs.Paths.{taken_into, within_found, Decided, sets_of, AreAt}
 use Rattle.classifier.proofs.CompileLemmas.{pull-no_change}
-
--- ---- rules put last
-
-pub at-none : (pid_of : List ℕ → Option Pid) (p : model.Policy) → AreAt pid_of p [] []
-at-none pid_of p = record { cubes_are = refl; gives = λ x k. elim k [ ] }
-
-pub at-more : (pid_of : List ℕ → Option Pid) (p : model.Policy) (cubes : List Cube) (xs : List Line) (x : Line) (c : Cube) → AreAt pid_of p cubes xs → x.cube ≡ c → AreVisits pid_of p x.cube (begun ∷ []) [] x.results → AreAt pid_of p (cubes ++ c ∷ []) (xs ++ x ∷ [])
-at-more pid_of p cubes xs x c f e v = record {
-  cubes_are = cubes-push xs x ∙ ap (λ ks. ks ++ x.cube ∷ []) f.cubes_are ∙ ap (λ d. cubes ++ d ∷ []) e;
-  gives = λ y k. elim (SetLemmas.Member-append_cases xs (x ∷ []) y k) [
-    | inl old ↦ f.gives y old
-    | inr new ↦ elim new [ inl same ↦ subst (λ (z : Line). AreVisits pid_of p z.cube (begun ∷ []) [] z.results) (sym same) v | inr none ↦ elim none [ ] ]
-  ];
-}
 
 -- ---- the rule that decides
 

@@ -1,8 +1,7 @@
--- What is asked of the lists is one where it is equal, field by field.
-use Rattle.std.specs.Prelude.{◌≡◌, ℕ, nat_eq, Bool, true, false, ◌&&◌, Option}
+-- What is asked is one where it is equal, field by field.
+use Rattle.std.specs.Prelude.{◌≡◌, ℕ, nat_eq, Bool, true, ◌&&◌, Option}
 use Rattle.std.specs.Option.{option_eq}
 use Rattle.std.proofs.Common.{refl, ap}
-use Rattle.std.proofs.Math.Bool.{beq}
 use Rattle.std.proofs.lemmas.Bool.{and_parts, eqb-true, false≢true}
 use Rattle.net_types.specs.declared.prefix.Prefix.{Prefix}
 use Rattle.net_types.specs.declared.cube.Cube.{Cube}
@@ -17,10 +16,9 @@ use Rattle.net_types.proofs.PrefixLemmas.{prefix_ext}
 use Rattle.net_types.proofs.WidthTests.{ip_right}
 use Rattle.classifier.specs.Gathered.{assign_eq}
 use Rattle.classifier.proofs.ItemLemmas.{option_eq_exact}
-use Rattle.policy_compile.specs.declared.ropes.Pair.{Pair}
-use Rattle.policy_compile.specs.declared.lists.Next.{Next}
-use Rattle.policy_compile.specs.declared.lists.Tested.{Tested}
-use Rattle.policy_compile.specs.declared.near.Near.{Near}
+use Rattle.policy_compile.specs.declared.columns.Pair.{Pair}
+use Rattle.policy_compile.specs.declared.columns.Key.{Key}
+use Rattle.policy_compile.specs.declared.stages.Tested.{Tested as Stage}
 
 -- ---- the tests, field by field
 
@@ -31,16 +29,7 @@ abbrev cube_eq : Cube → Cube → Bool
 cube_eq a b =
     option_eq same_port a.inport b.inport && (prefix_eq a.src b.src && (prefix_eq a.dst b.dst && (option_eq nat_eq a.proto b.proto && (option_eq nat_eq a.sport b.sport && option_eq nat_eq a.dport b.dport))))
 
-abbrev near_eq : Near → Near → Bool
-near_eq a b = beq a.inport b.inport && (beq a.src b.src && (beq a.dst b.dst && (beq a.proto b.proto && (beq a.sport b.sport && beq a.dport b.dport))))
-
 -- ---- they are exact
-
-bools_exact : (a b : Bool) → beq a b ≡ true → a ≡ b
-bools_exact true true e = refl
-bools_exact true false e = absurd (false≢true e)
-bools_exact false true e = absurd (false≢true e)
-bools_exact false false e = refl
 
 values_exact : (a b : Option ℕ) → option_eq nat_eq a b ≡ true → a ≡ b
 values_exact a b e = option_eq_exact nat_eq eqb-true a b e
@@ -59,7 +48,7 @@ assigns_exact a b e =
 prefixes_exact : (a b : Prefix) → prefix_eq a b ≡ true → a ≡ b
 prefixes_exact a b e = let p = and_parts (nat_eq a.address.0 b.address.0) _ e in prefix_ext a b (eqb-true a.address.0 b.address.0 p.0) (eqb-true a.len b.len p.1)
 
-cubes_exact : (a b : Cube) → cube_eq a b ≡ true → a ≡ b
+pub cubes_exact : (a b : Cube) → cube_eq a b ≡ true → a ≡ b
 cubes_exact a b e =
     let p1 = and_parts (option_eq same_port a.inport b.inport) _ e in
     let p2 = and_parts (prefix_eq a.src b.src) _ p1.1 in
@@ -72,21 +61,6 @@ cubes_exact a b e =
     let proto = values_exact a.proto b.proto p4.0 in
     let sport = values_exact a.sport b.sport p5.0 in
     let dport = values_exact a.dport b.dport p5.1 in
-    λ i. record { inport = inport i; src = src i; dst = dst i; proto = proto i; sport = sport i; dport = dport i }
-
-nears_exact : (a b : Near) → near_eq a b ≡ true → a ≡ b
-nears_exact a b e =
-    let p1 = and_parts (beq a.inport b.inport) _ e in
-    let p2 = and_parts (beq a.src b.src) _ p1.1 in
-    let p3 = and_parts (beq a.dst b.dst) _ p2.1 in
-    let p4 = and_parts (beq a.proto b.proto) _ p3.1 in
-    let p5 = and_parts (beq a.sport b.sport) _ p4.1 in
-    let inport = bools_exact a.inport b.inport p1.0 in
-    let src = bools_exact a.src b.src p2.0 in
-    let dst = bools_exact a.dst b.dst p3.0 in
-    let proto = bools_exact a.proto b.proto p4.0 in
-    let sport = bools_exact a.sport b.sport p5.0 in
-    let dport = bools_exact a.dport b.dport p5.1 in
     λ i. record { inport = inport i; src = src i; dst = dst i; proto = proto i; sport = sport i; dport = dport i }
 
 -- the test of locations is that which is derived
@@ -108,9 +82,6 @@ locs_exact Nowhere (To y) e = absurd (false≢true e)
 locs_exact Nowhere (Out y) e = absurd (false≢true e)
 locs_exact Nowhere Nowhere e = refl
 
-pub number_exact : (a b : ℕ) → nat_eq a b ≡ true → a ≡ b
-number_exact a b e = eqb-true a b e
-
 pub pair_exact : (a b : Pair) → (nat_eq a.first b.first && nat_eq a.second b.second) ≡ true → a ≡ b
 pair_exact a b e =
     let p = and_parts (nat_eq a.first b.first) _ e in
@@ -118,20 +89,16 @@ pair_exact a b e =
     let second = eqb-true a.second b.second p.1 in
     λ i. record { first = first i; second = second i }
 
-pub next_exact : (a b : Next) → (nat_eq a.list b.list && (assign_eq a.set b.set && derived.eq a.loc b.loc)) ≡ true → a ≡ b
-next_exact a b e =
-    let p1 = and_parts (nat_eq a.list b.list) _ e in
-    let p2 = and_parts (assign_eq a.set b.set) _ p1.1 in
-    let list = eqb-true a.list b.list p1.0 in
-    let set = assigns_exact a.set b.set p2.0 in
-    let loc = locs_exact a.loc b.loc p2.1 in
-    λ i. record { list = list i; set = set i; loc = loc i }
+pub key_exact : (a b : Key) → (assign_eq a.set b.set && derived.eq a.loc b.loc) ≡ true → a ≡ b
+key_exact a b e =
+    let p = and_parts (assign_eq a.set b.set) _ e in
+    let set = assigns_exact a.set b.set p.0 in
+    let loc = locs_exact a.loc b.loc p.1 in
+    λ i. record { set = set i; loc = loc i }
 
-pub tested_exact : (a b : Tested) → (nat_eq a.list b.list && (cube_eq a.cube b.cube && near_eq a.near b.near)) ≡ true → a ≡ b
-tested_exact a b e =
-    let p1 = and_parts (nat_eq a.list b.list) _ e in
-    let p2 = and_parts (cube_eq a.cube b.cube) _ p1.1 in
-    let list = eqb-true a.list b.list p1.0 in
-    let cube = cubes_exact a.cube b.cube p2.0 in
-    let near = nears_exact a.near b.near p2.1 in
-    λ i. record { list = list i; cube = cube i; near = near i }
+pub stage_exact : (a b : Stage) → (nat_eq a.places b.places && assign_eq a.set b.set) ≡ true → a ≡ b
+stage_exact a b e =
+    let p = and_parts (nat_eq a.places b.places) _ e in
+    let places = eqb-true a.places b.places p.0 in
+    let set = assigns_exact a.set b.set p.1 in
+    λ i. record { places = places i; set = set i }

@@ -5,8 +5,7 @@ pub mod Measures
 pub mod Parts
 pub mod Cells
 pub mod Paths
-pub mod Near
-pub mod Ropes
-pub mod Lists
+pub mod Columns
+pub mod Given
 pub mod Summed
 pub mod Exact

@@ -6,7 +6,7 @@ use Rattle.net_types.specs.declared.headers.Headers.{Headers}
 use Rattle.net_types.specs.declared.headers.Loc.{Loc}
 use Rattle.net_types.specs.declared.headers.Loc.TheVariants.{Stay}
 use Rattle.net_types.specs.declared.headers.Assign.{Assign}
-use Rattle.net_types.specs.Headers.{apply, no_change}
+use Rattle.net_types.specs.Headers.{apply, arrived, followed_by, no_change}
 use Rattle.net_types.specs.Cubes.{has, pull_cube, lies_within_cube}
 use Rattle.net_types.specs.Sets.{Member, SameMembers, union_over}
 use Rattle.net_types.specs.Policies.{Packet, Pred, Yes, Is, Not, And, Or, Policy, den, mods, atoms, test_cube, plain, one_more}
@@ -63,6 +63,10 @@ pub record AreVisits (pid_of : List ℕ → Option Pid) (p : Policy) (m : Cube) 
   pub means : (h : Headers) (l : Loc) → ((i : Item) → Member i items → Decided m i.0 (atoms p) h)
       → SameMembers (map (carried h l) new) (map (carried h l) old ++ union_over (λ (x : Packet). den pid_of p x.0 x.1) (map (carried h l) items))
   pub assigns : (a : Assign) → Member a (sets_of new) → Member a (sets_of old) ⊎ Follows (sets_of items) (mods p) a
+
+-- what is done after an item
+abbrev pub after_item : Assign → Loc → Item → Item
+after_item set loc i = (followed_by i.0 set, arrived i.1 loc)
 
 -- nothing is done yet
 abbrev pub begun : Item

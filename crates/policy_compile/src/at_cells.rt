@@ -1,6 +1,6 @@
-//! Policies compiled cube by cube.
+//! Policies compiled by the meets of their atoms.
 
-ghost use Rattle.std.specs.Prelude.{◌≡◌, ◌∷◌, [], IfOk};
+ghost use Rattle.std.specs.Prelude.{◌≡◌, [], IfOk};
 ghost use Rattle.policy_syntax.specs.Views.{policy_of};
 ghost use Rattle.net_types.specs.Cubes.{everything};
 ghost use Rattle.classifier.specs.Classifiers.{lines_of};
@@ -8,37 +8,19 @@ ghost use Rattle.classifier.specs.Lines.{add_lines};
 ghost use Rattle.net_types.specs.Sets.{Member};
 ghost use Rattle.classifier.specs.Meaning.{cubes_of};
 ghost use Rattle.classifier.specs.Compiled.{IsCompiled};
-ghost use Rattle.policy_compile.specs.Paths.{AreAt, AreVisits, begun};
+ghost use Rattle.policy_compile.specs.Paths.{AreAt};
 
 use crate::atoms::atoms_of;
 use crate::cells::cells_of;
-use crate::lists::{BEGUN, Lists};
-use crate::paths::made_of;
-use classifier::{Classifier, Line, Results, push_lines};
-use net_types::{Cube, Items, Memory, TryCopy};
+use crate::outcomes::Within;
+use crate::rows::rows_of;
+use crate::stages::{begun, made_of};
+use classifier::{Classifier, Line, push_lines};
+use net_types::{Cube, Items, Memory};
 use policy_isolate::Names;
 use policy_syntax::Tree;
 use std::alloc::Global;
 use std::collections::HashSet;
-
-/// What a policy makes of the packets of a cube.
-fn results_at<N: Names>(
-    alloc: Global,
-    lists: &mut Lists,
-    tree: &Tree<'_>,
-    names: &N,
-    cube: &Cube,
-) -> Result<Results, Memory>
-    ensures { IfOk result (λ r. AreVisits (N.pid_of names.now) (policy_of tree.now) cube.now (begun ∷ []) [] r) }
-{
-    if lists.is_full() {
-        *lists = Lists::new(alloc)?;
-    }
-    lists.begin();
-    let number = made_of(alloc, lists, tree, names, cube, BEGUN)?;
-    let results = lists.results(number)?;
-    Ok(results)
-}
 
 /// The rule of each cube.
 fn lines_at<N: Names>(
@@ -49,15 +31,10 @@ fn lines_at<N: Names>(
 ) -> Result<Vec<Line>, Memory>
     ensures { IfOk result (λ v. AreAt (N.pid_of names.now) (policy_of tree.now) cubes.now v.items) }
 {
-    let mut lists = Lists::new(alloc)?;
-    let mut lines = Vec::new(alloc);
-    for cube in cubes {
-        let results = results_at(alloc, &mut lists, tree, names, cube)?;
-        lines.push(Line {
-            cube: *cube,
-            results,
-        })?;
-    }
+    let mut within = Within::new(alloc, cubes)?;
+    let columns = begun(alloc, &within)?;
+    let made = made_of(alloc, &mut within, tree, names, &columns)?;
+    let lines = rows_of(alloc, cubes, &made)?;
     Ok(lines)
 }
 

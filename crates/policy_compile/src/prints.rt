@@ -1,6 +1,5 @@
-//! Numbers that tell what was asked apart. Nothing rests on them but how soon an answer is found.
+//! Numbers that tell cubes apart. Nothing rests on them but how soon an answer is found.
 
-use crate::near::Near;
 use net_types::{Cube, PortNo, Prefix};
 
 // odd numbers without a pattern, one for each field of a cube
@@ -55,15 +54,4 @@ pub fn print_of_cube(cube: &Cube) -> u64 {
         .wrapping_mul(INPORT)
         .wrapping_add(protocol(cube.proto).wrapping_mul(PROTO));
     addresses.wrapping_add(ports).wrapping_add(others)
-}
-
-/// One more bit.
-fn then(bits: u64, bit: bool) -> u64 {
-    bits.wrapping_mul(2).wrapping_add(bit as u64)
-}
-
-/// The number of what was told of a cube's fields.
-pub fn print_of_near(near: Near) -> u64 {
-    let inside = then(then(near.inport as u64, near.src), near.dst);
-    then(then(then(inside, near.proto), near.sport), near.dport)
 }
