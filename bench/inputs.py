@@ -500,14 +500,13 @@ SLOWEST += [
      f"({THIRTY})>>(" + "+".join(["pass"] * 600) + f")>>({grid_of(15)})"),
 ]
 
-# policies that are accepted and take more than ten seconds or 2 GB to be compiled, though their rules give less than 32 million
-# results: what most cubes have in their lists is their own, and goes through much
+# parts of policies that the operations don't compile, neither from the front nor from the end
 ONE_EACH = "(" + denied(15, lambda n: f"modify(srcport={n})") + ")"
 EITHER = ">>".join("match(" + "|".join(tests_of(field, values)) + ")" for field, values in (("dstport", range(1, 13)), ("srcip", nets(12)), ("dstip", nets(12))))
 WIDER = ">>".join("match(" + "|".join(tests_of(field, values)) + ")" for field, values in (("dstport", range(1, 16)), ("srcip", nets(15)), ("dstip", nets(15))))
 BESIDE_PORTS = twice(within(20)) + f"+{SET}>>({PORTS})"
 PAIRED = [(one, other) for one in range(1, 32) for other in range(1, 33)]
-BEYOND = [
+BY_COLUMNS = [
     ("in, `pass` and a port before 60 tests by `!`, each before 4 assignments, no routes", "(pass+fwd(5))>>" + FOUR_EACH),
     ("in, `pass` before 58 tests by `!`, each before 9 assignments, no routes", "pass>>(" + denied(13, nine_each) + ")"),
     ("in, 260 times `pass` before the 60 tests, no routes", "pass>>" * 260 + FOUR_EACH),
@@ -528,6 +527,7 @@ BEYOND = [
     ("in, `pass` and a port before 60 tests by `!`, each before an assignment, before sums of two tests by `!`, no routes",
      cut("(pass+fwd(5))>>" + ONE_EACH, [f">>(match(!srcport={2 * n})+match(!srcport={2 * n + 1}))" for n in range(200)], "")),
 ]
+SLOWEST += [(name, ports_without_routes, ("in", "B"), policy) for name, policy in BY_COLUMNS]
 
 # a policy that is accepted, and the reply to which has 248000 actions in each of 65536 rules
 ENDLESS = ("in, 65536 meets and 992 assignments before 250 ports", exchange_of_many_ports, ("in", "B"), BEFORE_PORTS)
