@@ -1,23 +1,24 @@
 -- The results of each cube.
-use Rattle.std.proofs.Common.{Bool, ◌≡◌, ◌<◌, ◌+◌, ◌&&◌, ◌∷◌, ◌++◌, [], slice_set, take, arith, ℕ, zero, suc, true, false, cond, Some, List, length, Option, inl, inr, refl, sym, ap, ◌∙◌, subst}
+use Rattle.std.proofs.Common.{◌≤◌, Bool, ◌≡◌, ◌<◌, ◌+◌, ◌&&◌, ◌∷◌, ◌++◌, [], slice_set, take, arith, ℕ, zero, suc, true, false, cond, Some, List, length, Option, inl, inr, refl, sym, ap, ◌∙◌, subst}
 use Rattle.std.proofs.Common.{slice_index_or as get_or}
 use Rattle.std.specs.List.{slice_get}
-use Rattle.std.proofs.lemmas.List.{append-nil}
+use Rattle.std.proofs.lemmas.Bool.{cases_Bool}
+use Rattle.std.proofs.lemmas.List.{append-nil, append_assoc, length_push}
 use Rattle.net_types.specs.declared.address.Pid.{Pid}
 use Rattle.net_types.specs.declared.cube.Cube.{Cube}
 use Rattle.net_types.specs.Policies.{Policy}
-use Rattle.net_types.specs.Sets.{Member, SameMembers}
+use Rattle.net_types.specs.Sets.{HasNoRepeats, Member, SameMembers}
 use Rattle.net_types.proofs.SetLemmas
 use Rattle.classifier.specs.declared.line.Line.{Line}
 use Rattle.classifier.specs.Meaning.{cubes_of}
-use Rattle.classifier.specs.Items.{Item, add}
+use Rattle.classifier.specs.Items.{Item, add, add_all, is_among}
 use Rattle.classifier.proofs.DecideLemmas.{same_add_all}
 use Rattle.policy_compile.specs.declared.columns.Column.{Column}
 use Rattle.policy_compile.specs.declared.columns.Columns.{Columns}
 use Rattle.policy_compile.specs.declared.rows.Row.{Row}
 use Rattle.place_sets.specs.Places.{has_place}
 use Rattle.policy_compile.specs.Columns.{Places, given, set_at}
-use Rattle.policy_compile.specs.Given.{AreMade, AreRows, AreUsed, IsRow, given_of, marks_at}
+use Rattle.policy_compile.specs.Given.{AreMade, AreRows, AreUsed, IsRow, given_of, items_of, marks_at}
 use Rattle.policy_compile.specs.Paths.{AreAt, AreVisits, begun}
 use Rattle.policy_compile.proofs.ColumnLemmas.{given-pushed}
 use Rattle.policy_compile.proofs.PathLemmas.{visits-same}
@@ -125,3 +126,48 @@ lines-more P [] x old new zero y e = let same : x ≡ y = cc in subst (P zero) s
 lines-more P [] x old new (suc k) y e = absurd (cc)
 lines-more P (z ∷ xs) x old new zero y e = old zero y e
 lines-more P (z ∷ xs) x old new (suc k) y e = lines-more (λ j. P (suc j)) xs x (λ j v f. old (suc j) v f) new k y e
+
+-- ---- items that differ
+
+given-stands : (sets : List Places) (cs : List Column) (k : ℕ) (i : Item) → Member i (given sets cs k) → Member i (items_of cs)
+given-stands sets [] k i m = m
+given-stands sets (c ∷ cs) k i m = by (set_at sets c.set k) (λ n. given-stands sets cs k i n) m
+  where
+    by : (b : Bool) → (Member i (given sets cs k) → Member i (items_of cs)) → Member i (cond b (c.item ∷ given sets cs k) (given sets cs k)) → Member i (items_of (c ∷ cs))
+    by true later (inl e) = inl e
+    by true later (inr n) = inr (later n)
+    by false later n = inr (later n)
+
+pub given-distinct : (sets : List Places) (cs : List Column) (k : ℕ) → HasNoRepeats (items_of cs) → HasNoRepeats (given sets cs k)
+given-distinct sets [] k d = d
+given-distinct sets (c ∷ cs) k d = by (set_at sets c.set k) (given-distinct sets cs k d.1)
+  where
+    by : (b : Bool) → HasNoRepeats (given sets cs k) → HasNoRepeats (cond b (c.item ∷ given sets cs k) (given sets cs k))
+    by true later = (λ m. d.0 (given-stands sets cs k c.item m), later)
+    by false later = later
+
+pub add_all-pushed : (xs ys : List Item) (y : Item) → add_all xs (ys ++ y ∷ []) ≡ add (add_all xs ys) y
+add_all-pushed xs [] y = refl
+add_all-pushed xs (z ∷ ys) y = add_all-pushed (add xs z) ys y
+
+add-longest : (xs ys : List Item) → length (add_all xs ys) ≤ length xs + length ys
+add-longest xs [] = omega (arith)
+add-longest xs (y ∷ ys) = elim (cases_Bool (is_among xs y)) [
+  | inl there ↦ let rest = add-longest xs ys in rw there (omega (arith, rest))
+  | inr absent ↦ let rest = add-longest (xs ++ y ∷ []) ys in let one = length_push xs y in rw absent (omega (arith, rest, one))
+]
+
+add-whole : (xs ys : List Item) → length (add_all xs ys) ≡ length xs + length ys → add_all xs ys ≡ xs ++ ys
+add-whole xs [] e = sym (append-nil xs)
+add-whole xs (y ∷ ys) e = elim (cases_Bool (is_among xs y)) [
+  | inl there ↦ absurd (let known : length (add_all xs ys) ≡ length xs + suc (length ys) = sym (ap (λ b. length (add_all (cond b xs (xs ++ y ∷ [])) ys)) there) ∙ e in
+      let most = add-longest xs ys in omega (arith, known, most))
+  | inr absent ↦
+      let known : length (add_all (xs ++ y ∷ []) ys) ≡ length xs + suc (length ys) = sym (ap (λ b. length (add_all (cond b xs (xs ++ y ∷ [])) ys)) absent) ∙ e in
+      let one = length_push xs y in
+      ap (λ b. add_all (cond b xs (xs ++ y ∷ [])) ys) absent ∙ add-whole (xs ++ y ∷ []) ys (omega (arith, known, one)) ∙ append_assoc xs (y ∷ []) ys
+]
+
+-- where adding one after another leaves all, they differ
+pub all-distinct : (xs all : List Item) → all ≡ add_all [] xs → length all ≡ length xs → HasNoRepeats all → HasNoRepeats xs
+all-distinct xs all e long d = subst HasNoRepeats (e ∙ add-whole [] xs (let k : length (add_all [] xs) ≡ length xs = sym (ap length e) ∙ long in omega (arith, k))) d

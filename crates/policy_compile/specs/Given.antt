@@ -1,5 +1,5 @@
 -- Columns with their sets, and what policies make of them.
-use Rattle.std.specs.Prelude.{◌≡◌, ◌&&◌, ℕ, Bool, true, length, Option, Some, List, [], ◌∷◌}
+use Rattle.std.specs.Prelude.{◌≡◌, ◌&&◌, ℕ, Bool, true, length, map, Option, Some, List, [], ◌∷◌}
 use Rattle.std.specs.List.{slice_get}
 use Rattle.net_types.specs.declared.address.Pid.{Pid}
 use Rattle.net_types.specs.declared.cube.Cube.{Cube}
@@ -20,6 +20,10 @@ given_of c k = given c.sets.sets.items c.columns.items k
 -- at each place stands what the policy makes in the cube of what was there
 abbrev pub AreMade : (List ℕ → Option Pid) → Policy → List Cube → Columns → Columns → Type 0
 AreMade pid_of p cubes old new = (k : ℕ) (m : Cube) → slice_get cubes k ≡ Some m → AreVisits pid_of p m (given_of old k) [] (given_of new k)
+
+-- the items of the columns
+abbrev pub items_of : List Column → List Item
+items_of columns = map (λ (c : Column). c.item) columns
 
 -- ---- rows
 

@@ -2,11 +2,11 @@
 
 ghost use Rattle.std.specs.Prelude.{◌≡◌, ◌&&◌, ℕ, Some, length, true, IfOk, OnOk};
 ghost use Rattle.std.specs.List.{slice_get};
-ghost use Rattle.net_types.specs.Sets.{SameMembers};
+ghost use Rattle.net_types.specs.Sets.{HasNoRepeats, SameMembers};
 ghost use Rattle.classifier.specs.declared.line.Line.{Line as AnyLine};
 ghost use Rattle.classifier.specs.Meaning.{cubes_of};
 ghost use Rattle.place_sets.specs.Places.{has_place};
-ghost use Rattle.policy_compile.specs.Given.{AreRows, AreUsed, given_of, marks_at};
+ghost use Rattle.policy_compile.specs.Given.{AreRows, AreUsed, given_of, items_of, marks_at};
 
 use crate::columns::Columns;
 use classifier::{Gathering, Line, Results};
@@ -87,8 +87,21 @@ fn are_same(one: &[bool], other: &[bool]) -> bool
     true
 }
 
+/// Whether no two columns have the same result.
+fn are_distinct(alloc: Global, columns: &Columns) -> Result<bool, Memory>
+    ensures { IfOk result (λ b. b ≡ true → HasNoRepeats (items_of columns.now.columns.items)) }
+{
+    let mut gathered = Gathering::new(alloc);
+    for column in columns.columns.iter() {
+        gathered.push(column.item)?;
+    }
+    let all = gathered.into_results();
+    all.known();
+    Ok(all.len() == columns.columns.len())
+}
+
 /// The results that are given at a place, each once.
-fn results_at(alloc: Global, columns: &Columns, place: usize) -> Result<Results, Memory>
+fn gathered_at(alloc: Global, columns: &Columns, place: usize) -> Result<Results, Memory>
     ensures { IfOk result (λ r. SameMembers r (given_of columns.now place)) }
 {
     let mut gathered = Gathering::new(alloc);
@@ -97,7 +110,38 @@ fn results_at(alloc: Global, columns: &Columns, place: usize) -> Result<Results,
             gathered.push(column.item)?;
         }
     }
-    let results = gathered.into_results();
+    Ok(gathered.into_results())
+}
+
+/// The same, where no two columns have the same result.
+fn distinct_at(alloc: Global, columns: &Columns, place: usize) -> Result<Results, Memory>
+    requires { HasNoRepeats (items_of columns.now.columns.items) }
+    ensures { IfOk result (λ r. SameMembers r (given_of columns.now place)) }
+{
+    let mut pairs = Vec::new(alloc);
+    for column in columns.columns.iter() {
+        if columns.sets.sets[column.set].has(place) {
+            pairs.push(column.item)?;
+        }
+    }
+    Ok(Results::from_vec(pairs))
+}
+
+/// The results that are given at a place.
+fn results_at(
+    alloc: Global,
+    columns: &Columns,
+    is_distinct: bool,
+    place: usize,
+) -> Result<Results, Memory>
+    requires { is_distinct ≡ true → HasNoRepeats (items_of columns.now.columns.items) }
+    ensures { IfOk result (λ r. SameMembers r (given_of columns.now place)) }
+{
+    let results = if is_distinct {
+        distinct_at(alloc, columns, place)?
+    } else {
+        gathered_at(alloc, columns, place)?
+    };
     if results.len() > FEW {
         return results.shared();
     }
@@ -109,11 +153,13 @@ fn row_of(
     alloc: Global,
     columns: &Columns,
     used: &[bool],
+    is_distinct: bool,
     rows: &mut Vec<Row>,
     found: &mut HashMap<u64, usize>,
     place: usize,
 ) -> Result<Results, Memory>
     requires used { AreUsed columns.now used.now }
+    requires distinct { is_distinct ≡ true → HasNoRepeats (items_of columns.now.columns.items) }
     requires rows { AreRows columns.now used.now rows.old.items }
     ensures rows { OnOk result (AreRows columns.now used.now rows.new.items) }
     ensures results { IfOk result (λ r. SameMembers r (given_of columns.now place)) }
@@ -128,7 +174,7 @@ fn row_of(
             }
         }
     }
-    let results = results_at(alloc, columns, place)?;
+    let results = results_at(alloc, columns, is_distinct, place)?;
     let kept = results.copy()?;
     let number = rows.len();
     rows.push(Row {
@@ -145,11 +191,20 @@ pub fn rows_of(alloc: Global, cubes: &[Cube], columns: &Columns) -> Result<Vec<L
     ensures gives { IfOk result (λ v. (k : ℕ) (x : AnyLine) → slice_get v.items k ≡ Some x → SameMembers x.results (given_of columns.now k)) }
 {
     let used = used_of(alloc, columns)?;
+    let is_distinct = are_distinct(alloc, columns)?;
     let mut rows = Vec::new(alloc);
     let mut found = HashMap::new(alloc);
     let mut lines = Vec::with_capacity(alloc, cubes.len())?;
     for place in 0..cubes.len() {
-        let results = row_of(alloc, columns, &used, &mut rows, &mut found, place)?;
+        let results = row_of(
+            alloc,
+            columns,
+            &used,
+            is_distinct,
+            &mut rows,
+            &mut found,
+            place,
+        )?;
         lines.push(Line {
             cube: cubes[place],
             results,

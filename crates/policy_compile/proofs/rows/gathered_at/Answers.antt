@@ -8,8 +8,8 @@ use Rattle.net_types.specs.declared.headers.Loc.TheVariants.{Stay}
 use Rattle.policy_compile.specs.declared.columns.Column.{Column}
 use Rattle.policy_compile.proofs.ColumnLemmas.{set-read}
 use Rattle.policy_compile.proofs.RowLemmas.{gathered-less, gathered-more}
-use Rattle.policy_compile.proofs.rows.results_at.Goals as goal
-use Rattle.policy_compile.proofs.rows.results_at.Goals.{then-has+in_ok-push, else-has}
+use Rattle.policy_compile.proofs.rows.gathered_at.Goals as goal
+use Rattle.policy_compile.proofs.rows.gathered_at.Goals.{then-has+in_ok-push, else-has}
 
 -- no column
 abbrev none : Column
