@@ -6,7 +6,6 @@ use Rattle.net_types.specs.declared.cube.Cube.{Cube}
 use Rattle.net_types.specs.Cubes.{lies_within_cube}
 use Rattle.net_types.specs.Policies.{Pred}
 use Rattle.net_types.specs.Sets.{Member}
-use Rattle.classifier.specs.Items.{Item}
 use Rattle.policy_compile.specs.declared.memo.Noted.{Noted}
 use Rattle.policy_compile.specs.declared.columns.Pair.{Pair}
 use Rattle.policy_compile.specs.declared.columns.Column.{Column}
@@ -28,6 +27,15 @@ set_at sets n = has_place (unwrap_or (slice_get sets n) [])
 -- each set of the first keeps its number in the second
 abbrev pub KeepSets : List Places → List Places → Type 0
 KeepSets old new = (n : ℕ) (s : Places) → slice_get old n ≡ Some s → slice_get new n ≡ Some s
+
+-- the second number is that of the same set as the first
+pub record IsCarried (old new : List Places) (n m : ℕ) : Type 0 where
+  pub inside : m < length new
+  pub is : (k : ℕ) → set_at new m k ≡ set_at old n k
+
+-- the same of all that was noted
+abbrev pub AreCarried : List Places → List Places → List (Noted ℕ ℕ) → Type 0
+AreCarried old new noted = (e : Noted ℕ ℕ) → Member e noted → IsCarried old new e.key e.value
 
 -- ---- what a predicate tells of all cubes
 
@@ -61,10 +69,14 @@ pub record AreWithin (cubes : List Cube) (all : Places) (sets : List Places) (fo
 
 -- ---- columns
 
--- the items that are given at a place
-abbrev pub given : List Places → List Column → ℕ → List Item
+-- the keys that are given at a place
+abbrev pub given : List Places → List Column → ℕ → List Key
 given sets [] k = []
-given sets (c ∷ cs) k = if set_at sets c.set k then c.item ∷ given sets cs k else given sets cs k
+given sets (c ∷ cs) k = if set_at sets c.set k then c.key ∷ given sets cs k else given sets cs k
+
+-- the numbers of the keys are below one
+abbrev pub AreBelow : ℕ → List Column → Type 0
+AreBelow n columns = (c : Column) → Member c columns → c.key.number < n
 
 -- the number is that of both sets' places
 pub record IsUnion (sets : List Places) (p : Pair) (n : ℕ) : Type 0 where
@@ -73,9 +85,9 @@ pub record IsUnion (sets : List Places) (p : Pair) (n : ℕ) : Type 0 where
   pub inside : n < length sets
   pub is : (k : ℕ) → set_at sets n k ≡ (set_at sets p.first k || set_at sets p.second k)
 
--- at the place stands a column of the item
+-- at the place stands a column of the key
 abbrev pub IsPlaceOf : List Column → Key → ℕ → Type 0
-IsPlaceOf columns key place = option_map (λ (c : Column). c.item) (slice_get columns place) ≡ Some (key.set, key.loc)
+IsPlaceOf columns key place = option_map (λ (c : Column). c.key) (slice_get columns place) ≡ Some key
 
 -- each column's set is there, and what was noted holds
 pub record AreColumns (sets : List Places) (columns : List Column) (unions : List (Noted Pair ℕ)) (places : List (Noted Key ℕ)) : Type 0 where

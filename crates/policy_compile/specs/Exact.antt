@@ -64,7 +64,7 @@ cubes_exact a b e =
     λ i. record { inport = inport i; src = src i; dst = dst i; proto = proto i; sport = sport i; dport = dport i }
 
 -- the test of locations is that which is derived
-locs_exact : (x y : Loc) → derived.eq x y ≡ true → x ≡ y
+pub locs_exact : (x y : Loc) → derived.eq x y ≡ true → x ≡ y
 locs_exact Stay Stay e = refl
 locs_exact Stay (To y) e = absurd (false≢true e)
 locs_exact Stay (Out y) e = absurd (false≢true e)
@@ -89,12 +89,15 @@ pair_exact a b e =
     let second = eqb-true a.second b.second p.1 in
     λ i. record { first = first i; second = second i }
 
-pub key_exact : (a b : Key) → (assign_eq a.set b.set && derived.eq a.loc b.loc) ≡ true → a ≡ b
+pub key_exact : (a b : Key) → (assign_eq a.set b.set && nat_eq a.number b.number) ≡ true → a ≡ b
 key_exact a b e =
     let p = and_parts (assign_eq a.set b.set) _ e in
     let set = assigns_exact a.set b.set p.0 in
-    let loc = locs_exact a.loc b.loc p.1 in
-    λ i. record { set = set i; loc = loc i }
+    let number = eqb-true a.number b.number p.1 in
+    λ i. record { set = set i; number = number i }
+
+pub number_exact : (a b : ℕ) → nat_eq a b ≡ true → a ≡ b
+number_exact a b e = eqb-true a b e
 
 pub stage_exact : (a b : Stage) → (nat_eq a.places b.places && assign_eq a.set b.set) ≡ true → a ≡ b
 stage_exact a b e =

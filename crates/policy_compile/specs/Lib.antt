@@ -6,6 +6,8 @@ pub mod Parts
 pub mod Cells
 pub mod Paths
 pub mod Columns
+pub mod Groups
+pub mod Covered
 pub mod Given
 pub mod Summed
 pub mod Exact

@@ -15,6 +15,8 @@ use crate::cells::cells_of;
 use crate::outcomes::Within;
 use crate::rows::rows_of;
 use crate::stages::{begun, made_of};
+use crate::groups::one_by_one;
+use crate::locations::locations_of;
 use classifier::{Classifier, Line, push_lines};
 use net_types::{Cube, Items, Memory};
 use policy_isolate::Names;
@@ -31,10 +33,12 @@ fn lines_at<N: Names>(
 ) -> Result<Vec<Line>, Memory>
     ensures { IfOk result (λ v. AreAt (N.pid_of names.now) (policy_of tree.now) cubes.now v.items) }
 {
+    let locations = locations_of(alloc, tree, names)?;
     let mut within = Within::new(alloc, cubes)?;
-    let columns = begun(alloc, &within)?;
-    let made = made_of(alloc, &mut within, tree, names, &columns)?;
-    let lines = rows_of(alloc, cubes, &made)?;
+    let start = begun(alloc, &within, &locations)?;
+    let made = made_of(alloc, &mut within, &locations, tree, names, &start)?;
+    let columns = one_by_one(alloc, &locations, &made)?;
+    let lines = rows_of(alloc, cubes, &locations, &columns)?;
     Ok(lines)
 }
 

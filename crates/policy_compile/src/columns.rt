@@ -1,12 +1,9 @@
-//! Results, with the cubes in which they are given.
+//! Assignments with numbers, each with the set of the places at which it is given.
 
-ghost use Rattle.std.specs.Prelude.{◌≡◌, ◌<◌, ◌||◌, ◌++◌, ◌∷◌, [], ℕ, length, map, if◌then◌else◌, IfOk, OnOk};
-ghost use Rattle.std.specs.Prelude.{Some};
-ghost use Rattle.std.specs.List.{slice_get};
+ghost use Rattle.std.specs.Prelude.{◌≡◌, ◌<◌, ◌||◌, ◌++◌, ◌∷◌, [], ℕ, length, if◌then◌else◌, IfOk, OnOk};
 ghost use Rattle.net_types.specs.Sets.{SameMembers};
-ghost use Rattle.policy_compile.specs.Columns.{AreColumns, IsUnion, KeepSets, given, set_at};
+ghost use Rattle.policy_compile.specs.Columns.{AreBelow, AreColumns, IsUnion, KeepSets, given, set_at};
 ghost use Rattle.policy_compile.specs.Exact.{key_exact, pair_exact};
-ghost use Rattle.policy_compile.specs.Paths.{after_item};
 
 use crate::memo::{Asked, Memo};
 use crate::set_table::SetTable;
@@ -16,6 +13,8 @@ use std::alloc::Global;
 
 // an odd number without a pattern
 const FIRST: u64 = 0xA24B_AED4_963E_E407;
+
+const NUMBER: u64 = 0xD6E8_FEB8_6659_FD93;
 
 /// The numbers of two sets.
 #[derive(Clone, Copy, Debug, PartialEq, Eq)]
@@ -34,29 +33,31 @@ impl Asked for Pair {
     }
 }
 
-/// What a column is found by.
+/// An assignment and a number.
 #[derive(Clone, Copy, Debug, PartialEq, Eq)]
 pub struct Key {
     pub set: Assign,
-    pub loc: Loc,
+    pub number: usize,
 }
 
 impl Asked for Key {
     ghost exact = { key_exact };
 
     fn print(&self) -> u64 {
-        print_of_pair(&(self.set, self.loc))
+        (self.number as u64)
+            .wrapping_mul(NUMBER)
+            .wrapping_add(print_of_pair(&(self.set, Loc::Stay)))
     }
 }
 
-/// An assignment and a location, and the number of the set of the cubes in which they are given.
+/// A key, and the number of the set of places that it has.
 #[derive(Drop)]
 pub struct Column {
-    pub item: (Assign, Loc),
+    pub key: Key,
     pub set: usize,
 }
 
-/// Results, with the sets of the cubes in which they are given. Most results have one column.
+/// Keys, with the sets of the places at which they are given. A key has one column.
 #[derive(Drop)]
 pub struct Columns {
     alloc: Global,
@@ -68,7 +69,7 @@ pub struct Columns {
 }
 
 impl Columns {
-    /// No results.
+    /// No keys.
     pub fn new(alloc: Global) -> Columns
         ensures { (k : ℕ) → given result.sets.sets.items result.columns.items k ≡ [] }
     {
@@ -102,27 +103,24 @@ impl Columns {
         Ok(number)
     }
 
-    /// Puts a result last, with the number of its set.
-    pub fn push(&mut self, item: (Assign, Loc), set: usize) -> Result<(), Memory>
+    /// Puts a key last, with the number of its set.
+    pub fn push(&mut self, key: Key, set: usize) -> Result<(), Memory>
         requires { set < length self.old.sets.sets.items }
-        ensures given { OnOk result ((k : ℕ) → given self.new.sets.sets.items self.new.columns.items k ≡ given self.old.sets.sets.items self.old.columns.items k ++ (if set_at self.old.sets.sets.items set k then item ∷ [] else [])) }
-        ensures columns { OnOk result (self.new.columns.items ≡ self.old.columns.items ++ record { item = item; set = set } ∷ []) }
+        ensures given { OnOk result ((k : ℕ) → given self.new.sets.sets.items self.new.columns.items k ≡ given self.old.sets.sets.items self.old.columns.items k ++ (if set_at self.old.sets.sets.items set k then key ∷ [] else [])) }
+        ensures columns { OnOk result (self.new.columns.items ≡ self.old.columns.items ++ record { key = key; set = set } ∷ []) }
         ensures sets { self.new.sets ≡ self.old.sets }
     {
-        self.columns.push(Column { item, set })?;
+        self.columns.push(Column { key, set })?;
         Ok(())
     }
 
-    /// Adds a result with the number of its set: to the column that it has, or in a new one.
-    fn add(&mut self, item: (Assign, Loc), set: usize) -> Result<(), Memory>
+    /// Adds a key with the number of its set: to the column that it has, or in a new one.
+    pub fn add(&mut self, key: Key, set: usize) -> Result<(), Memory>
         requires { set < length self.old.sets.sets.items }
-        ensures given { OnOk result ((k : ℕ) → SameMembers (given self.new.sets.sets.items self.new.columns.items k) (given self.old.sets.sets.items self.old.columns.items k ++ (if set_at self.old.sets.sets.items set k then item ∷ [] else []))) }
+        ensures given { OnOk result ((k : ℕ) → SameMembers (given self.new.sets.sets.items self.new.columns.items k) (given self.old.sets.sets.items self.old.columns.items k ++ (if set_at self.old.sets.sets.items set k then key ∷ [] else []))) }
         ensures kept { KeepSets self.old.sets.sets.items self.new.sets.sets.items }
+        ensures below { OnOk result ((n : ℕ) → AreBelow n self.old.columns.items → key.number < n → AreBelow n self.new.columns.items) }
     {
-        let key = Key {
-            set: item.0,
-            loc: item.1,
-        };
         match self.places.find(&key) {
             Some(place) => {
                 let known = self.columns[place].set;
@@ -132,22 +130,10 @@ impl Columns {
             }
             None => {
                 let place = self.columns.len();
-                self.push(item, set)?;
+                self.push(key, set)?;
                 self.places.note(key, place)?;
                 Ok(())
             }
         }
-    }
-
-    /// Adds what is done after each result of others.
-    pub fn add_after(&mut self, others: &Columns, set: &Assign, loc: Loc) -> Result<(), Memory>
-        ensures { OnOk result ((k : ℕ) → SameMembers (given self.new.sets.sets.items self.new.columns.items k) (given self.old.sets.sets.items self.old.columns.items k ++ map (after_item set.now loc) (given others.now.sets.sets.items others.now.columns.items k))) }
-    {
-        let numbers = self.sets.put_all(self.alloc, &others.sets.sets)?;
-        for column in others.columns.iter() {
-            let item = (column.item.0.followed_by(set), loc.after(column.item.1));
-            self.add(item, numbers[column.set])?;
-        }
-        Ok(())
     }
 }

@@ -4,9 +4,12 @@
 mod apart;
 mod at_cells;
 mod atoms;
+mod by_print;
 mod cells;
 mod columns;
 mod fields;
+mod groups;
+mod locations;
 mod meets;
 mod memo;
 mod mods;

@@ -3,10 +3,11 @@
 ghost use Rattle.std.specs.Prelude.{◌≡◌, ◌⊎◌, [], IfSome, true};
 ghost use Rattle.policy_compile.specs.declared.memo.Noted.{Noted};
 ghost use Rattle.net_types.specs.Sets.{Member};
+ghost use Rattle.policy_compile.specs.Exact.{number_exact};
 
+use crate::by_print::ByPrint;
 use net_types::Memory;
 use std::alloc::Global;
-use std::collections::HashMap;
 
 /// What can be asked: values that are equal are one.
 pub trait Asked: Copy + Eq + Drop {
@@ -15,6 +16,17 @@ pub trait Asked: Copy + Eq + Drop {
 
     /// The test of equality is exact.
     ghost exact: { (a b : Self) → Self.eq a b ≡ true → a ≡ b };
+}
+
+// an odd number without a pattern
+const SPREAD: u64 = 0x9E37_79B9_7F4A_7C15;
+
+impl Asked for usize {
+    ghost exact = { number_exact };
+
+    fn print(&self) -> u64 {
+        (*self as u64).wrapping_mul(SPREAD)
+    }
 }
 
 /// What was asked, and the answer.
@@ -28,8 +40,7 @@ pub struct Noted<K, V> {
 #[derive(Drop)]
 pub struct Memo<K, V> {
     pub noted: Vec<Noted<K, V>>,
-    // where what was asked last by a print stands
-    places: HashMap<u64, usize>,
+    places: ByPrint,
 }
 
 impl<K: Asked, V: Copy + Drop> Memo<K, V> {
@@ -39,7 +50,7 @@ impl<K: Asked, V: Copy + Drop> Memo<K, V> {
     {
         Memo {
             noted: Vec::new(alloc),
-            places: HashMap::new(alloc),
+            places: ByPrint::new(alloc),
         }
     }
 
@@ -47,13 +58,16 @@ impl<K: Asked, V: Copy + Drop> Memo<K, V> {
     pub fn find(&self, key: &K) -> Option<V>
         ensures { IfSome result (λ value. Member (record { key = key.now; value = value }) self.now.noted.items) }
     {
-        let place = *self.places.get(&key.print())?;
-        let noted = self.noted.get(place)?;
-        if noted.key == *key {
-            Some(noted.value)
-        } else {
-            None
+        let mut next = self.places.last(key.print());
+        for _ in 0..self.noted.len() {
+            let place = next?;
+            let noted = self.noted.get(place)?;
+            if noted.key == *key {
+                return Some(noted.value);
+            }
+            next = self.places.before(place);
         }
+        None
     }
 
     /// How many answers are noted.
@@ -65,9 +79,8 @@ impl<K: Asked, V: Copy + Drop> Memo<K, V> {
     pub fn note(&mut self, key: K, value: V) -> Result<(), Memory>
         ensures { (e : Noted K V) → Member e self.new.noted.items → Member e self.old.noted.items ⊎ (e ≡ record { key = key; value = value }) }
     {
-        let place = self.noted.len();
         self.noted.push(Noted { key, value })?;
-        self.places.insert(key.print(), place)?;
+        self.places.push(key.print())?;
         Ok(())
     }
 }

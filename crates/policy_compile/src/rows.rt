@@ -1,19 +1,19 @@
 //! The results of each cube.
 
-ghost use Rattle.std.specs.Prelude.{◌≡◌, ◌&&◌, ℕ, Some, length, true, IfOk, OnOk};
+ghost use Rattle.std.specs.Prelude.{◌≡◌, ℕ, Some, IfOk};
 ghost use Rattle.std.specs.List.{slice_get};
-ghost use Rattle.net_types.specs.Sets.{HasNoRepeats, SameMembers};
+ghost use Rattle.net_types.specs.Sets.{SameMembers};
 ghost use Rattle.classifier.specs.declared.line.Line.{Line as AnyLine};
 ghost use Rattle.classifier.specs.Meaning.{cubes_of};
-ghost use Rattle.place_sets.specs.Places.{has_place};
-ghost use Rattle.policy_compile.specs.Given.{AreRows, AreUsed, given_of, items_of, marks_at};
+ghost use Rattle.policy_compile.specs.Columns.{given};
+ghost use Rattle.policy_compile.specs.Groups.{alone};
 
+use crate::by_print::ByPrint;
 use crate::columns::Columns;
 use classifier::{Gathering, Line, Results};
-use net_types::{Cube, Memory, TryCopy};
+use net_types::{Assign, Cube, Loc, Memory, TryCopy};
 use place_sets::PlaceSet;
 use std::alloc::Global;
-use std::collections::HashMap;
 
 // an odd number without a pattern
 const MARK: u64 = 0xD6E8_FEB8_6659_FD93;
@@ -21,126 +21,113 @@ const MARK: u64 = 0xD6E8_FEB8_6659_FD93;
 /// So many results are copied, which is no more work than to share them.
 const FEW: usize = 16;
 
-/// Which sets of columns have a place, and the results that are given there.
+/// So many places have their bits in one word.
+const BITS: usize = 64;
+
+/// Numbers of sets, and the results that all of them have.
 #[derive(Drop)]
 pub struct Row {
-    pub marks: Vec<bool>,
+    pub numbers: Vec<usize>,
     pub results: Results,
 }
 
-/// A number by which most marks differ.
-fn print_of(marks: &[bool]) -> u64 {
+/// Rows that were made.
+#[derive(Drop)]
+pub struct Rows {
+    alloc: Global,
+    rows: Vec<Row>,
+    found: ByPrint,
+}
+
+/// A number by which most lists of numbers differ.
+fn print_of(numbers: &[usize]) -> u64 {
     let mut print = 0u64;
-    for mark in marks {
-        print = print.wrapping_mul(MARK).wrapping_add(*mark as u64);
+    for number in numbers {
+        print = (print ^ *number as u64).wrapping_mul(MARK);
+        print ^= print >> 32;
     }
     print
 }
 
-/// Of each set, whether a column has it.
-fn used_of(alloc: Global, columns: &Columns) -> Result<Vec<bool>, Memory>
-    ensures { IfOk result (λ v. AreUsed columns.now v.items) }
-{
-    let mut used = vec![in alloc; false; columns.sets.sets.len()]?;
+/// Of each set the results of the columns that have it.
+fn by_sets(alloc: Global, locations: &[Loc], columns: &Columns) -> Result<Vec<Vec<(Assign, Loc)>>, Memory> {
+    let mut lists = Vec::with_capacity(alloc, columns.sets.sets.len())?;
+    for _ in 0..columns.sets.sets.len() {
+        lists.push(Vec::new(alloc))?;
+    }
     for column in columns.columns.iter() {
-        used[column.set] = true;
-    }
-    Ok(used)
-}
-
-/// Whether a set is used and has a place.
-fn mark_of(used: bool, set: &PlaceSet, place: usize) -> bool
-    ensures { result ≡ (used && has_place set.now place) }
-{
-    used && set.has(place)
-}
-
-/// Of each set that a column has, whether it has a place; of the others, no.
-fn marks_of(
-    alloc: Global,
-    sets: &[PlaceSet],
-    used: &[bool],
-    place: usize,
-) -> Result<Vec<bool>, Memory>
-    requires { length used.now ≡ length sets.now }
-    ensures { IfOk result (λ v. v.items ≡ marks_at sets.now used.now place) }
-{
-    let mut marks = Vec::with_capacity(alloc, sets.len())?;
-    for i in 0..sets.len() {
-        marks.push(mark_of(used[i], &sets[i], place))?;
-    }
-    Ok(marks)
-}
-
-/// Whether the marks are the same.
-fn are_same(one: &[bool], other: &[bool]) -> bool
-    ensures { result ≡ true → one.now ≡ other.now }
-{
-    if one.len() != other.len() {
-        return false;
-    }
-    for i in 0..one.len() {
-        if one[i] != other[i] {
-            return false;
+        if let Some(loc) = locations.get(column.key.number) {
+            lists[column.set].push((column.key.set, *loc))?;
         }
     }
-    true
+    Ok(lists)
 }
 
-/// Whether no two columns have the same result.
-fn are_distinct(alloc: Global, columns: &Columns) -> Result<bool, Memory>
-    ensures { IfOk result (λ b. b ≡ true → HasNoRepeats (items_of columns.now.columns.items)) }
+/// Whether no result stands in two of the lists.
+fn are_distinct(alloc: Global, lists: &[Vec<(Assign, Loc)>]) -> Result<bool, Memory>
 {
     let mut gathered = Gathering::new(alloc);
-    for column in columns.columns.iter() {
-        gathered.push(column.item)?;
-    }
-    let all = gathered.into_results();
-    all.known();
-    Ok(all.len() == columns.columns.len())
-}
-
-/// The results that are given at a place, each once.
-fn gathered_at(alloc: Global, columns: &Columns, place: usize) -> Result<Results, Memory>
-    ensures { IfOk result (λ r. SameMembers r (given_of columns.now place)) }
-{
-    let mut gathered = Gathering::new(alloc);
-    for column in columns.columns.iter() {
-        if columns.sets.sets[column.set].has(place) {
-            gathered.push(column.item)?;
+    let mut count = 0usize;
+    for list in lists {
+        for item in list.iter() {
+            gathered.push(*item)?;
+            count += 1;
         }
     }
-    Ok(gathered.into_results())
+    Ok(gathered.into_results().len() == count)
 }
 
-/// The same, where no two columns have the same result.
-fn distinct_at(alloc: Global, columns: &Columns, place: usize) -> Result<Results, Memory>
-    requires { HasNoRepeats (items_of columns.now.columns.items) }
-    ensures { IfOk result (λ r. SameMembers r (given_of columns.now place)) }
-{
-    let mut pairs = Vec::new(alloc);
-    for column in columns.columns.iter() {
-        if columns.sets.sets[column.set].has(place) {
-            pairs.push(column.item)?;
+/// The numbers of the sets that have results, and places in a word.
+fn near(alloc: Global, sets: &[PlaceSet], lists: &[Vec<(Assign, Loc)>], word: usize) -> Result<Vec<usize>, Memory> {
+    let mut numbers = Vec::new(alloc);
+    for number in 0..sets.len() {
+        if !lists[number].is_empty() && !sets[number].is_empty_at(word) {
+            numbers.push(number)?;
         }
     }
-    Ok(Results::from_vec(pairs))
+    Ok(numbers)
 }
 
-/// The results that are given at a place.
-fn results_at(
-    alloc: Global,
-    columns: &Columns,
-    is_distinct: bool,
-    place: usize,
-) -> Result<Results, Memory>
-    requires { is_distinct ≡ true → HasNoRepeats (items_of columns.now.columns.items) }
-    ensures { IfOk result (λ r. SameMembers r (given_of columns.now place)) }
-{
+/// Those of some sets that have a place.
+fn having(alloc: Global, sets: &[PlaceSet], numbers: &[usize], place: usize) -> Result<Vec<usize>, Memory> {
+    let mut those = Vec::with_capacity(alloc, numbers.len())?;
+    for number in numbers {
+        if sets[*number].has(place) {
+            those.push(*number)?;
+        }
+    }
+    Ok(those)
+}
+
+/// The results of some sets, where no two have one.
+fn joined(alloc: Global, lists: &[Vec<(Assign, Loc)>], numbers: &[usize]) -> Result<Results, Memory> {
+    let mut count = 0usize;
+    for number in numbers {
+        count = count.saturating_add(lists[*number].len());
+    }
+    let mut all = Vec::with_capacity(alloc, count)?;
+    for number in numbers {
+        all.extend_from_slice(&lists[*number])?;
+    }
+    Ok(Results::from_vec(all))
+}
+
+/// The results of some sets.
+fn gathered(alloc: Global, lists: &[Vec<(Assign, Loc)>], numbers: &[usize]) -> Result<Results, Memory> {
+    let mut all = Gathering::new(alloc);
+    for number in numbers {
+        for item in lists[*number].iter() {
+            all.push(*item)?;
+        }
+    }
+    Ok(all.into_results())
+}
+
+fn results_of(alloc: Global, lists: &[Vec<(Assign, Loc)>], is_distinct: bool, numbers: &[usize]) -> Result<Results, Memory> {
     let results = if is_distinct {
-        distinct_at(alloc, columns, place)?
+        joined(alloc, lists, numbers)?
     } else {
-        gathered_at(alloc, columns, place)?
+        gathered(alloc, lists, numbers)?
     };
     if results.len() > FEW {
         return results.shared();
@@ -148,63 +135,52 @@ fn results_at(
     Ok(results)
 }
 
-/// The results that are given at a place. They are made once for all places that the same sets have.
-fn row_of(
-    alloc: Global,
-    columns: &Columns,
-    used: &[bool],
-    is_distinct: bool,
-    rows: &mut Vec<Row>,
-    found: &mut HashMap<u64, usize>,
-    place: usize,
-) -> Result<Results, Memory>
-    requires used { AreUsed columns.now used.now }
-    requires distinct { is_distinct ≡ true → HasNoRepeats (items_of columns.now.columns.items) }
-    requires rows { AreRows columns.now used.now rows.old.items }
-    ensures rows { OnOk result (AreRows columns.now used.now rows.new.items) }
-    ensures results { IfOk result (λ r. SameMembers r (given_of columns.now place)) }
-{
-    let marks = marks_of(alloc, &columns.sets.sets, used, place)?;
-    let print = print_of(&marks);
-    if let Some(number) = found.get(&print) {
-        if let Some(row) = rows.get(*number) {
-            if are_same(&row.marks, &marks) {
-                let same = row.results.copy()?;
-                return Ok(same);
+impl Rows {
+    fn row_of(&mut self, lists: &[Vec<(Assign, Loc)>], is_distinct: bool, numbers: Vec<usize>) -> Result<Results, Memory> {
+        let print = print_of(&numbers);
+        let mut next = self.found.last(print);
+        for _ in 0..self.rows.len() {
+            let Some(place) = next else { break };
+            if let Some(row) = self.rows.get(place) {
+                if row.numbers == numbers {
+                    let same = row.results.copy()?;
+                    return Ok(same);
+                }
             }
+            next = self.found.before(place);
         }
+        let results = results_of(self.alloc, lists, is_distinct, &numbers)?;
+        let kept = results.copy()?;
+        self.rows.push(Row {
+            numbers,
+            results: kept,
+        })?;
+        self.found.push(print)?;
+        Ok(results)
     }
-    let results = results_at(alloc, columns, is_distinct, place)?;
-    let kept = results.copy()?;
-    let number = rows.len();
-    rows.push(Row {
-        marks,
-        results: kept,
-    })?;
-    found.insert(print, number)?;
-    Ok(results)
 }
 
 /// The rule of each cube.
-pub fn rows_of(alloc: Global, cubes: &[Cube], columns: &Columns) -> Result<Vec<Line>, Memory>
+pub fn rows_of(
+    alloc: Global,
+    cubes: &[Cube],
+    locations: &[Loc],
+    columns: &Columns,
+) -> Result<Vec<Line>, Memory>
     ensures cubes { IfOk result (λ v. cubes_of v.items ≡ cubes.now) }
-    ensures gives { IfOk result (λ v. (k : ℕ) (x : AnyLine) → slice_get v.items k ≡ Some x → SameMembers x.results (given_of columns.now k)) }
+    ensures gives { IfOk result (λ v. (k : ℕ) (x : AnyLine) → slice_get v.items k ≡ Some x → SameMembers x.results (alone locations.now (given columns.now.sets.sets.items columns.now.columns.items k))) }
 {
-    let used = used_of(alloc, columns)?;
-    let is_distinct = are_distinct(alloc, columns)?;
-    let mut rows = Vec::new(alloc);
-    let mut found = HashMap::new(alloc);
+    let lists = by_sets(alloc, locations, columns)?;
+    let is_distinct = are_distinct(alloc, &lists)?;
+    let mut rows = Rows { alloc, rows: Vec::new(alloc), found: ByPrint::new(alloc) };
     let mut lines = Vec::with_capacity(alloc, cubes.len())?;
+    let mut nears = Vec::new(alloc);
     for place in 0..cubes.len() {
-        let results = row_of(
-            alloc,
-            columns,
-            &used,
-            is_distinct,
-            &mut rows,
-            &mut found,
-            place,
-        )?;
+        if place % BITS == 0 {
+            nears = near(alloc, &columns.sets.sets, &lists, place / BITS)?;
+        }
+        let numbers = having(alloc, &columns.sets.sets, &nears, place)?;
+        let results = rows.row_of(&lists, is_distinct, numbers)?;
         lines.push(Line {
             cube: cubes[place],
             results,

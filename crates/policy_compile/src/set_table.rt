@@ -1,20 +1,20 @@
 //! Sets of places with numbers.
 
-ghost use Rattle.std.specs.Prelude.{◌≡◌, ℕ, Some, map, IfOk, IfSome};
+ghost use Rattle.std.specs.Prelude.{◌≡◌, ◌<◌, ℕ, Some, length, IfOk, IfSome, OnOk};
 ghost use Rattle.std.specs.List.{slice_get};
-ghost use Rattle.policy_compile.specs.Columns.{KeepSets};
+ghost use Rattle.policy_compile.specs.Columns.{AreCarried, IsCarried, KeepSets};
 
+use crate::by_print::ByPrint;
+use crate::memo::Memo;
 use net_types::Memory;
 use place_sets::PlaceSet;
 use std::alloc::Global;
-use std::collections::HashMap;
 
-/// Sets of places, of which most stand once. The number of a set is its place in the list.
+/// Sets of places, none of which is put in twice. The number of a set is its place in the list.
 #[derive(Drop)]
 pub struct SetTable {
     pub sets: Vec<PlaceSet>,
-    // the number of a set that has this print
-    found: HashMap<u64, usize>,
+    found: ByPrint,
 }
 
 impl SetTable {
@@ -22,7 +22,7 @@ impl SetTable {
     pub fn new(alloc: Global) -> SetTable {
         SetTable {
             sets: Vec::new(alloc),
-            found: HashMap::new(alloc),
+            found: ByPrint::new(alloc),
         }
     }
 
@@ -30,9 +30,16 @@ impl SetTable {
     fn find(&self, print: u64, set: &PlaceSet) -> Option<usize>
         ensures { IfSome result (λ n. slice_get self.now.sets.items n ≡ Some set.now) }
     {
-        let number = *self.found.get(&print)?;
-        let one = self.sets.get(number)?;
-        if one.equals(set) { Some(number) } else { None }
+        let mut next = self.found.last(print);
+        for _ in 0..self.sets.len() {
+            let number = next?;
+            let one = self.sets.get(number)?;
+            if one.equals(set) {
+                return Some(number);
+            }
+            next = self.found.before(number);
+        }
+        None
     }
 
     /// The number of a set, which is put last where no equal one is found.
@@ -45,21 +52,43 @@ impl SetTable {
             return Ok(number);
         }
         let number = self.sets.len();
-        self.found.insert(print, number)?;
+        self.found.push(print)?;
         self.sets.push(set)?;
         Ok(number)
     }
 
-    /// The numbers of sets, in their order.
-    pub fn put_all(&mut self, alloc: Global, others: &[PlaceSet]) -> Result<Vec<usize>, Memory>
-        ensures numbers { IfOk result (λ v. map (λ (n : ℕ). slice_get self.new.sets.items n) v.items ≡ map Some others.now) }
+    /// The same sets with the same numbers.
+    pub fn twin(&self, alloc: Global) -> Result<SetTable, Memory>
+        ensures { IfOk result (λ t. t.sets.items ≡ self.now.sets.items) }
+    {
+        let mut sets = Vec::with_capacity(alloc, self.sets.len())?;
+        let mut found = ByPrint::new(alloc);
+        for set in self.sets.iter() {
+            found.push(set.print())?;
+            sets.push(set.copy(alloc)?)?;
+        }
+        Ok(SetTable { sets, found })
+    }
+
+    /// The number of a set of another table, which is put in where it wasn't asked for before.
+    pub fn carry(
+        &mut self,
+        alloc: Global,
+        asked: &mut Memo<usize, usize>,
+        sets: &[PlaceSet],
+        number: usize,
+    ) -> Result<usize, Memory>
+        requires inside { number < length sets.now }
+        requires asked { AreCarried sets.now self.old.sets.items asked.old.noted.items }
+        ensures number { IfOk result (IsCarried sets.now self.new.sets.items number) }
+        ensures asked { OnOk result (AreCarried sets.now self.new.sets.items asked.new.noted.items) }
         ensures kept { KeepSets self.old.sets.items self.new.sets.items }
     {
-        let mut numbers = Vec::with_capacity(alloc, others.len())?;
-        for set in others {
-            let number = self.put(set.copy(alloc)?)?;
-            numbers.push(number)?;
+        if let Some(known) = asked.find(&number) {
+            return Ok(known);
         }
-        Ok(numbers)
+        let carried = self.put(sets[number].copy(alloc)?)?;
+        asked.note(number, carried)?;
+        Ok(carried)
     }
 }

@@ -4,19 +4,24 @@ ghost use Rattle.std.specs.Prelude.{◌≡◌, ◌<◌, ◌&&◌, ◌∷◌, [],
 ghost use Rattle.std.specs.List.{slice_get};
 ghost use Rattle.net_types.specs.declared.cube.Cube.{Cube as AnyCube};
 ghost use Rattle.net_types.specs.declared.headers.Span.{Span as AnySpan};
+ghost use Rattle.net_types.specs.declared.headers.Loc.TheVariants.{Stay};
 ghost use Rattle.net_types.specs.Policies.{Fwd};
-ghost use Rattle.net_types.specs.Sets.{SameMembers};
+ghost use Rattle.net_types.specs.Sets.{Member, SameMembers};
 ghost use Rattle.policy_syntax.specs.Views.{pred_of, policy_of, target_of};
-ghost use Rattle.policy_compile.specs.Columns.{AreKept, IsInside, IsKept, KeepSets, outcome_at, set_of};
-ghost use Rattle.policy_compile.specs.Given.{AreMade, given_of};
+ghost use Rattle.policy_compile.specs.Columns.{AreBelow, AreKept, IsInside, IsKept, KeepSets, given, outcome_at, set_of};
+ghost use Rattle.policy_compile.specs.Covered.{Covers, IsCovered};
+ghost use Rattle.policy_compile.specs.Groups.{IsClosed, given_by};
+ghost use Rattle.policy_compile.specs.Given.{AreMade};
 ghost use Rattle.place_sets.specs.Places.{has_place};
 ghost use Rattle.policy_compile.specs.Exact.{stage_exact};
 ghost use Rattle.policy_compile.specs.Paths.{after_item};
 ghost use Rattle.policy_compile.specs.Paths.{AreVisits, begun, pred_at};
 
-use crate::columns::Columns;
+use crate::columns::{Columns, Key};
+use crate::groups::{Groups, regrouped};
 use crate::memo::{Asked, Memo};
 use crate::outcomes::{Outcome, Within};
+use crate::set_table::SetTable;
 use classifier::print_of_pair;
 use net_types::{Assign, Loc, Memory};
 use place_sets::PlaceSet;
@@ -103,14 +108,15 @@ fn kept_number(
     Ok(number)
 }
 
-/// The results behind which a predicate holds.
-fn kept(
+/// The keys behind whose assignments a predicate holds.
+fn kept_columns(
     alloc: Global,
     within: &mut Within<'_>,
     columns: &Columns,
     pred: &Pred<'_>,
 ) -> Result<Columns, Memory>
-    ensures kept { IfOk result (λ made. (k : ℕ) (m : AnyCube) → slice_get within.old.cubes.now k ≡ Some m → given_of made k ≡ filter (λ i. pred_at m i.0 (pred_of pred.now)) (given_of columns.now k)) }
+    ensures kept { IfOk result (λ made. (k : ℕ) (m : AnyCube) → slice_get within.old.cubes.now k ≡ Some m → given made.sets.sets.items made.columns.items k ≡ filter (λ key. pred_at m key.set (pred_of pred.now)) (given columns.now.sets.sets.items columns.now.columns.items k)) }
+    ensures below { IfOk result (λ made. (n : ℕ) → AreBelow n columns.now.columns.items → AreBelow n made.columns.items) }
     ensures cubes { within.new.cubes.now ≡ within.old.cubes.now }
 {
     let mut made = Columns::new(alloc);
@@ -118,7 +124,7 @@ fn kept(
     for column in columns.columns.iter() {
         let tested = Tested {
             places: column.set,
-            set: column.item.0,
+            set: column.key.set,
         };
         let number = kept_number(
             alloc,
@@ -130,41 +136,66 @@ fn kept(
             tested,
         )?;
         if let Some(number) = number {
-            made.push(column.item, number)?;
+            made.push(column.key, number)?;
         }
     }
     Ok(made)
 }
 
-/// What is done after each result.
-fn after(alloc: Global, columns: &Columns, set: &Assign, loc: Loc) -> Result<Columns, Memory>
-    ensures { IfOk result (λ made. (k : ℕ) → SameMembers (given_of made k) (map (after_item set.now loc) (given_of columns.now k))) }
+/// The results behind which a predicate holds.
+fn kept(
+    alloc: Global,
+    within: &mut Within<'_>,
+    locations: &[Loc],
+    groups: &Groups,
+    pred: &Pred<'_>,
+) -> Result<Groups, Memory>
+    ensures kept { IfOk result (λ made. (k : ℕ) (m : AnyCube) → slice_get within.old.cubes.now k ≡ Some m → given_by locations.now made k ≡ filter (λ i. pred_at m i.0 (pred_of pred.now)) (given_by locations.now groups.now k)) }
+    ensures cubes { within.new.cubes.now ≡ within.old.cubes.now }
 {
-    let mut made = Columns::new(alloc);
-    made.add_after(columns, set, loc)?;
+    let columns = kept_columns(alloc, within, &groups.columns, pred)?;
+    let ways = groups.ways.twin(alloc)?;
+    Ok(Groups::from_parts(alloc, ways, columns))
+}
+
+/// What is done after each result.
+fn after(
+    alloc: Global,
+    locations: &[Loc],
+    groups: &Groups,
+    set: &Assign,
+    loc: Loc,
+) -> Result<Groups, Memory>
+    requires { IsClosed locations.now loc }
+    ensures { IfOk result (λ made. (k : ℕ) → SameMembers (given_by locations.now made k) (map (after_item set.now loc) (given_by locations.now groups.now k))) }
+{
+    let mut made = Groups::new(alloc);
+    made.add_after(locations, groups, set, loc)?;
     Ok(made)
 }
 
 /// What a forward makes of each result; nothing where a name is nobody's.
 fn forwarded<N: Names>(
     alloc: Global,
+    locations: &[Loc],
     target: Target<'_>,
     names: &N,
-    columns: &Columns,
-) -> Result<Columns, Memory>
-    ensures { IfOk result (λ made. (cubes : List AnyCube) (span : AnySpan) → AreMade (N.pid_of names.now) (Fwd (target_of target.entry) span) cubes columns.now made) }
+    groups: &Groups,
+) -> Result<Groups, Memory>
+    requires { IsCovered (N.pid_of names.now) (target_of target.entry) locations.now }
+    ensures { IfOk result (λ made. (cubes : List AnyCube) (span : AnySpan) → AreMade (N.pid_of names.now) (Fwd (target_of target.entry) span) locations.now cubes groups.now made) }
 {
     match target {
         Target::Number(port) => {
-            let sent = after(alloc, columns, &Assign::none(), Loc::Out(port))?;
+            let sent = after(alloc, locations, groups, &Assign::none(), Loc::Out(port))?;
             Ok(sent)
         }
         Target::Name(name) => match names.find(name) {
             Some(who) => {
-                let sent = after(alloc, columns, &Assign::none(), Loc::To(who))?;
+                let sent = after(alloc, locations, groups, &Assign::none(), Loc::To(who))?;
                 Ok(sent)
             }
-            None => Ok(Columns::new(alloc)),
+            None => Ok(Groups::new(alloc)),
         },
     }
 }
@@ -174,44 +205,47 @@ fn forwarded<N: Names>(
 pub fn made_of<N: Names>(
     alloc: Global,
     within: &mut Within<'_>,
+    locations: &[Loc],
     tree: &Tree<'_>,
     names: &N,
-    columns: &Columns,
-) -> Result<Columns, Memory>
-    ensures made { IfOk result (AreMade (N.pid_of names.now) (policy_of tree.now) within.old.cubes.now columns.now) }
+    groups: &Groups,
+) -> Result<Groups, Memory>
+    requires { Covers (N.pid_of names.now) (policy_of tree.now) locations.now }
+    ensures made { IfOk result (AreMade (N.pid_of names.now) (policy_of tree.now) locations.now within.old.cubes.now groups.now) }
     ensures cubes { within.new.cubes.now ≡ within.old.cubes.now }
 {
     match tree.node() {
-        Node::Drop => Ok(Columns::new(alloc)),
+        Node::Drop => Ok(Groups::new(alloc)),
         Node::Pass => {
-            let same = after(alloc, columns, &Assign::none(), Loc::Stay)?;
+            let same = after(alloc, locations, groups, &Assign::none(), Loc::Stay)?;
             Ok(same)
         }
         Node::Block => {
-            let blocked = after(alloc, columns, &Assign::none(), Loc::Nowhere)?;
+            let blocked = after(alloc, locations, groups, &Assign::none(), Loc::Nowhere)?;
             Ok(blocked)
         }
         Node::Fwd(target, _) => {
-            let sent = forwarded(alloc, target, names, columns)?;
+            let sent = forwarded(alloc, locations, target, names, groups)?;
             Ok(sent)
         }
         Node::Test(pred) => {
-            let left = kept(alloc, within, columns, pred)?;
+            let left = kept(alloc, within, locations, groups, pred)?;
             Ok(left)
         }
         Node::Set(set, _) => {
-            let changed = after(alloc, columns, &set, Loc::Stay)?;
+            let changed = after(alloc, locations, groups, &set, Loc::Stay)?;
             Ok(changed)
         }
         Node::Both(first, second) => {
-            let mut either = Columns::new(alloc);
-            add_made(alloc, within, &mut either, first, names, columns)?;
-            add_made(alloc, within, &mut either, second, names, columns)?;
-            Ok(either)
+            let mut either = Groups::new(alloc);
+            add_made(alloc, within, locations, &mut either, first, names, groups)?;
+            add_made(alloc, within, locations, &mut either, second, names, groups)?;
+            let joined = regrouped(alloc, &either)?;
+            Ok(joined)
         }
         Node::Then(first, second) => {
-            let between = made_of(alloc, within, first, names, columns)?;
-            let chained = made_of(alloc, within, second, names, &between)?;
+            let between = made_of(alloc, within, locations, first, names, groups)?;
+            let chained = made_of(alloc, within, locations, second, names, &between)?;
             Ok(chained)
         }
     }
@@ -222,34 +256,43 @@ pub fn made_of<N: Names>(
 fn add_made<N: Names>(
     alloc: Global,
     within: &mut Within<'_>,
-    either: &mut Columns,
+    locations: &[Loc],
+    either: &mut Groups,
     tree: &Tree<'_>,
     names: &N,
-    columns: &Columns,
+    groups: &Groups,
 ) -> Result<(), Memory>
-    ensures made { OnOk result ((k : ℕ) (m : AnyCube) → slice_get within.old.cubes.now k ≡ Some m → AreVisits (N.pid_of names.now) (policy_of tree.now) m (given_of columns.now k) (given_of either.old k) (given_of either.new k)) }
+    requires { Covers (N.pid_of names.now) (policy_of tree.now) locations.now }
+    ensures made { OnOk result ((k : ℕ) (m : AnyCube) → slice_get within.old.cubes.now k ≡ Some m → AreVisits (N.pid_of names.now) (policy_of tree.now) m (given_by locations.now groups.now k) (given_by locations.now either.old k) (given_by locations.now either.new k)) }
     ensures cubes { within.new.cubes.now ≡ within.old.cubes.now }
 {
     match tree.node() {
         Node::Both(first, second) => {
-            add_made(alloc, within, either, first, names, columns)?;
-            add_made(alloc, within, either, second, names, columns)?;
+            add_made(alloc, within, locations, either, first, names, groups)?;
+            add_made(alloc, within, locations, either, second, names, groups)?;
             Ok(())
         }
         _ => {
-            let made = made_of(alloc, within, tree, names, columns)?;
-            either.add_after(&made, &Assign::none(), Loc::Stay)?;
+            let made = made_of(alloc, within, locations, tree, names, groups)?;
+            either.add_after(locations, &made, &Assign::none(), Loc::Stay)?;
             Ok(())
         }
     }
 }
 
 /// The packet as it is, in all cubes.
-pub fn begun(alloc: Global, within: &Within<'_>) -> Result<Columns, Memory>
-    ensures { IfOk result (λ c. (k : ℕ) (m : AnyCube) → slice_get within.now.cubes.now k ≡ Some m → given_of c k ≡ begun ∷ []) }
+pub fn begun(alloc: Global, within: &Within<'_>, locations: &[Loc]) -> Result<Groups, Memory>
+    requires { slice_get locations.now 0 ≡ Some Stay }
+    ensures { IfOk result (λ g. (k : ℕ) (m : AnyCube) → slice_get within.now.cubes.now k ≡ Some m → given_by locations.now g k ≡ begun ∷ []) }
 {
+    let mut ways = SetTable::new(alloc);
+    let number = ways.put(PlaceSet::first(alloc, 1)?)?;
     let mut columns = Columns::new(alloc);
-    let number = columns.sets.put(within.everywhere()?)?;
-    columns.push((Assign::none(), Loc::Stay), number)?;
-    Ok(columns)
+    let places = columns.sets.put(within.everywhere()?)?;
+    let key = Key {
+        set: Assign::none(),
+        number,
+    };
+    columns.push(key, places)?;
+    Ok(Groups::from_parts(alloc, ways, columns))
 }
