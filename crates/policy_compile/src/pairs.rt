@@ -5,14 +5,14 @@ use net_types::Memory;
 use std::alloc::Global;
 use std::collections::HashSet;
 
-/// So many pairs are some seconds' work.
-const MOST: usize = 16777216;
+/// So many pairs are a second's work or two.
+const MOST: usize = 8388608;
 
 /// So many may be met where chains are put together from their ends, which is tried second.
 const MOST_BACKWARD: usize = 4194304;
 
-/// So many results take some two gigabytes, and some seconds to be joined.
-const MOST_RESULTS: usize = 67108864;
+/// So many results take a second or two to be joined.
+const MOST_RESULTS: usize = 8388608;
 
 /// The results of a list that has more take longer each than a pair of rules.
 const LONG: usize = 1024;
@@ -87,6 +87,11 @@ impl Pairs {
         }
         self.left -= count;
         Ok(())
+    }
+
+    /// Takes one for each rule of a list that is copied.
+    pub fn take_copy(&mut self, xs: &[Line]) -> Result<(), Stop> {
+        self.take(xs.len())
     }
 
     /// Takes those of a sum of two lists of rules, and its results. Where the cubes of both are the same in the same order, each

@@ -182,6 +182,7 @@ fn before<N: Names>(
     let is_one = next.lines().len() == 1;
     match tree.node() {
         Node::Pass => {
+            pairs.take_copy(next.lines())?;
             let same = next.twin()?;
             Ok(same)
         }
