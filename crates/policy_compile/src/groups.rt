@@ -89,6 +89,7 @@ fn moved_number(
 
 impl Groups {
     /// No results.
+    #[inline(never)]
     pub fn new(alloc: Global) -> Groups
         ensures { (locations : List AnyLoc) (k : ℕ) → given_by locations result k ≡ [] }
     {
@@ -113,6 +114,7 @@ impl Groups {
     }
 
     /// Adds what is done after each result of others.
+    #[inline(never)]
     pub fn add_after(
         &mut self,
         locations: &[Loc],
@@ -171,6 +173,7 @@ fn turn(alloc: Global, sets: &[PlaceSet], columns: &Columns) -> Result<Columns, 
 }
 
 /// The same results, where those with the same assignment and cubes are one.
+#[inline(never)]
 pub fn regrouped(alloc: Global, groups: &Groups) -> Result<Groups, Memory>
     ensures { IfOk result (λ made. (locations : List AnyLoc) (k : ℕ) → SameMembers (given_by locations made k) (given_by locations groups.now k)) }
 {

@@ -1,4 +1,5 @@
-//! What the paths of a policy make in all cubes at once.
+//! What the paths of a policy make in all cubes at once. A policy of 8192 octets has chains and sums of over a thousand parts, and
+//! the tree is gone down part by part: so what is done in a part stays out of line, and the way down needs little of the stack.
 
 ghost use Rattle.std.specs.Prelude.{◌≡◌, ◌<◌, ◌&&◌, ◌∷◌, [], ℕ, List, length, map, filter, Some, IfOk, OnOk};
 ghost use Rattle.std.specs.List.{slice_get};
@@ -143,6 +144,7 @@ fn kept_columns(
 }
 
 /// The results behind which a predicate holds.
+#[inline(never)]
 fn kept(
     alloc: Global,
     within: &mut Within<'_>,
@@ -159,6 +161,7 @@ fn kept(
 }
 
 /// What is done after each result.
+#[inline(never)]
 fn after(
     alloc: Global,
     locations: &[Loc],
@@ -175,6 +178,7 @@ fn after(
 }
 
 /// What a forward makes of each result; nothing where a name is nobody's.
+#[inline(never)]
 fn forwarded<N: Names>(
     alloc: Global,
     locations: &[Loc],
@@ -187,13 +191,11 @@ fn forwarded<N: Names>(
 {
     match target {
         Target::Number(port) => {
-            let sent = after(alloc, locations, groups, &Assign::none(), Loc::Out(port))?;
-            Ok(sent)
+            after(alloc, locations, groups, &Assign::none(), Loc::Out(port))
         }
         Target::Name(name) => match names.find(name) {
             Some(who) => {
-                let sent = after(alloc, locations, groups, &Assign::none(), Loc::To(who))?;
-                Ok(sent)
+                after(alloc, locations, groups, &Assign::none(), Loc::To(who))
             }
             None => Ok(Groups::new(alloc)),
         },
@@ -202,6 +204,7 @@ fn forwarded<N: Names>(
 
 /// What a policy makes of the results of each cube.
 #[cycle(stages)]
+#[inline(never)]
 pub fn made_of<N: Names>(
     alloc: Global,
     within: &mut Within<'_>,
@@ -217,42 +220,36 @@ pub fn made_of<N: Names>(
     match tree.node() {
         Node::Drop => Ok(Groups::new(alloc)),
         Node::Pass => {
-            let same = after(alloc, locations, groups, &Assign::none(), Loc::Stay)?;
-            Ok(same)
+            after(alloc, locations, groups, &Assign::none(), Loc::Stay)
         }
         Node::Block => {
-            let blocked = after(alloc, locations, groups, &Assign::none(), Loc::Nowhere)?;
-            Ok(blocked)
+            after(alloc, locations, groups, &Assign::none(), Loc::Nowhere)
         }
         Node::Fwd(target, _) => {
-            let sent = forwarded(alloc, locations, target, names, groups)?;
-            Ok(sent)
+            forwarded(alloc, locations, target, names, groups)
         }
         Node::Test(pred) => {
-            let left = kept(alloc, within, locations, groups, pred)?;
-            Ok(left)
+            kept(alloc, within, locations, groups, pred)
         }
         Node::Set(set, _) => {
-            let changed = after(alloc, locations, groups, &set, Loc::Stay)?;
-            Ok(changed)
+            after(alloc, locations, groups, &set, Loc::Stay)
         }
         Node::Both(first, second) => {
             let mut either = Groups::new(alloc);
             add_made(alloc, within, locations, &mut either, first, names, groups)?;
             add_made(alloc, within, locations, &mut either, second, names, groups)?;
-            let joined = regrouped(alloc, &either)?;
-            Ok(joined)
+            regrouped(alloc, &either)
         }
         Node::Then(first, second) => {
             let between = made_of(alloc, within, locations, first, names, groups)?;
-            let chained = made_of(alloc, within, locations, second, names, &between)?;
-            Ok(chained)
+            made_of(alloc, within, locations, second, names, &between)
         }
     }
 }
 
 /// Adds what each part of a sum makes, however its brackets stand; of another policy what it makes.
 #[cycle(stages)]
+#[inline(never)]
 fn add_made<N: Names>(
     alloc: Global,
     within: &mut Within<'_>,
