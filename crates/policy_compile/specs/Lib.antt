@@ -11,3 +11,4 @@ pub mod Covered
 pub mod Given
 pub mod Summed
 pub mod Exact
+pub mod Seen

@@ -20,6 +20,7 @@ mod policies;
 mod preds;
 mod prints;
 mod rows;
+mod seen;
 mod set_table;
 mod sets;
 mod stages;
