@@ -10,8 +10,7 @@ use Rattle.classifier.specs.Items.{Item}
 use Rattle.policy_compile.specs.declared.memo.Noted.{Noted}
 use Rattle.policy_compile.specs.declared.columns.Key.{Key}
 use Rattle.policy_compile.specs.declared.columns.Column.{Column}
-use Rattle.policy_compile.specs.declared.groups.Groups.{Groups}
-use Rattle.policy_compile.specs.Columns.{Places, given, set_at}
+use Rattle.policy_compile.specs.Columns.{Places, set_at}
 
 -- the locations whose places are in a set
 abbrev pub picked : List Loc → (ℕ → Bool) → List Loc
@@ -25,10 +24,6 @@ with_each set ls = map (λ (l : Loc). (set, l)) ls
 -- a key's assignment with each location of the set that has its number
 abbrev pub ways_of : List Loc → List Places → Key → List Item
 ways_of locations ways key = with_each key.set (picked locations (set_at ways key.number))
-
--- the results that are given at a place
-abbrev pub given_by : List Loc → Groups → ℕ → List Item
-given_by locations g k = union_over (ways_of locations g.ways.sets.items) (given g.columns.sets.sets.items g.columns.columns.items k)
 
 -- ---- what is done after results
 

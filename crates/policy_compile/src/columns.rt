@@ -71,7 +71,8 @@ pub struct Columns {
 impl Columns {
     /// No keys.
     pub fn new(alloc: Global) -> Columns
-        ensures { (k : ℕ) → given result.sets.sets.items result.columns.items k ≡ [] }
+        ensures none { result.columns.items ≡ [] }
+        ensures given { (k : ℕ) → given result.sets.sets.items result.columns.items k ≡ [] }
     {
         Columns {
             alloc,

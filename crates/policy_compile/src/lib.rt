@@ -19,12 +19,15 @@ mod parts;
 mod policies;
 mod preds;
 mod prints;
+mod regroup;
 mod rows;
 mod seen;
 mod set_table;
 mod sets;
+mod singles;
 mod stages;
 mod sums;
+mod ways;
 mod width;
 
 pub use policies::compile;

@@ -11,17 +11,19 @@ ghost use Rattle.net_types.specs.Sets.{Member, SameMembers};
 ghost use Rattle.policy_syntax.specs.Views.{pred_of, policy_of, target_of};
 ghost use Rattle.policy_compile.specs.Columns.{AreBelow, AreKept, IsInside, IsKept, KeepSets, given, outcome_at, set_of};
 ghost use Rattle.policy_compile.specs.Covered.{Covers, IsCovered};
-ghost use Rattle.policy_compile.specs.Groups.{IsClosed, given_by};
-ghost use Rattle.policy_compile.specs.Given.{AreMade};
+ghost use Rattle.policy_compile.specs.Groups.{IsClosed};
+ghost use Rattle.policy_compile.specs.Given.{AreMade, given_by};
 ghost use Rattle.place_sets.specs.Places.{has_place};
 ghost use Rattle.policy_compile.specs.Exact.{stage_exact};
 ghost use Rattle.policy_compile.specs.Paths.{after_item};
 ghost use Rattle.policy_compile.specs.Paths.{AreVisits, begun, pred_at};
 
 use crate::columns::{Columns, Key};
-use crate::groups::{Groups, regrouped};
+use crate::groups::Groups;
 use crate::memo::{Asked, Memo};
 use crate::outcomes::{Outcome, Within};
+use crate::regroup::regrouped;
+use crate::seen::fields_of;
 use crate::set_table::SetTable;
 use classifier::print_of_pair;
 use net_types::{Assign, Loc, Memory};
@@ -33,7 +35,7 @@ use std::alloc::Global;
 // an odd number without a pattern
 const PLACES: u64 = 0xA24B_AED4_963E_E407;
 
-/// An assignment, and the number of a set.
+/// What an assignment sets of the fields that a predicate tests, and the number of a set.
 #[derive(Clone, Copy, Debug, PartialEq, Eq)]
 pub struct Tested {
     pub places: usize,
@@ -122,10 +124,11 @@ fn kept_columns(
 {
     let mut made = Columns::new(alloc);
     let mut asked = Memo::new(alloc);
+    let fields = fields_of(pred);
     for column in columns.columns.iter() {
         let tested = Tested {
             places: column.set,
-            set: column.key.set,
+            set: fields.seen(&column.key.set),
         };
         let number = kept_number(
             alloc,

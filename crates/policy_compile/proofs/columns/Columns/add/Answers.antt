@@ -5,15 +5,16 @@ use Rattle.std.proofs.lemmas.Option.{get_or_from_slice_get, slice_get-get_or}
 use Rattle.net_types.specs.Sets.{SameMembers}
 use Rattle.net_types.proofs.FindLemmas.{slice_get-Member}
 use Rattle.policy_compile.specs.declared.columns.Column.{Column}
-use Rattle.policy_compile.specs.Columns.{given, set_at}
-use Rattle.policy_compile.proofs.ColumnLemmas.{columns-set, given-added, item-read, last-place, place-inside, place-noted}
+use Rattle.policy_compile.specs.declared.columns.Key.{Key}
+use Rattle.policy_compile.specs.Columns.{AreBelow, given, set_at}
+use Rattle.policy_compile.proofs.ColumnLemmas.{below-pushed, below-set, columns-set, given-added, item-read, last-place, place-inside, place-noted}
 use Rattle.policy_compile.proofs.columns.Columns.add.Goals as goal
 
 pub index-requires : goal.index-requires
 index-requires c =
     let old = c.args.self.now in
-    let there = old.are.places_are (record { key = record { set = c.args.item.0; loc = c.args.item.1 }; value = c.in-Some.place }) c.in-Some.ensures in
-    subst (λ n. c.in-Some.place < n) (sym old.columns.ok.0) (place-inside old.columns.items c.in-Some.place c.args.item there)
+    let there = old.are.places_are (record { key = c.args.key; value = c.in-Some.place }) c.in-Some.ensures in
+    subst (λ n. c.in-Some.place < n) (sym old.columns.ok.0) (place-inside old.columns.items c.in-Some.place c.args.key there)
 
 pub union-requires-clause-first : goal.union-requires-clause-first
 union-requires-clause-first c =
@@ -21,8 +22,8 @@ union-requires-clause-first c =
     let cs = old.columns.items in
     let n = c.in-Some.place in
     let x = c.index.result.now in
-    let there = old.are.places_are (record { key = record { set = c.args.item.0; loc = c.args.item.1 }; value = n }) c.in-Some.ensures in
-    let at : slice_get cs n ≡ Some x = slice_get-get_or cs n x (place-inside cs n c.args.item there) ∙ ap Some (sym c.index.ensures) in
+    let there = old.are.places_are (record { key = c.args.key; value = n }) c.in-Some.ensures in
+    let at : slice_get cs n ≡ Some x = slice_get-get_or cs n x (place-inside cs n c.args.key there) ∙ ap Some (sym c.index.ensures) in
     old.are.inside x (slice_get-Member cs n x at)
 
 pub index_mut-requires : goal.index_mut-requires
@@ -30,8 +31,8 @@ index_mut-requires c =
     let old = c.args.self.now in
     let new = c.union.new.self in
     let n = c.in-Some.place in
-    let there = old.are.places_are (record { key = record { set = c.args.item.0; loc = c.args.item.1 }; value = n }) c.in-Some.ensures in
-    subst (λ k. n < k) (sym new.columns.ok.0) (subst (λ (cs : List Column). n < length cs) (sym c.union.ensures.columns) (place-inside old.columns.items n c.args.item there))
+    let there = old.are.places_are (record { key = c.args.key; value = n }) c.in-Some.ensures in
+    subst (λ k. n < k) (sym new.columns.ok.0) (subst (λ (cs : List Column). n < length cs) (sym c.union.ensures.columns) (place-inside old.columns.items n c.args.key there))
 
 pub invariant_of-self : goal.invariant_of-self
 invariant_of-self c =
@@ -40,25 +41,25 @@ invariant_of-self c =
     let n = c.in-Some.place in
     let cs = new.columns.items in
     let x = c.index_mut.result.now in
-    let there = old.are.places_are (record { key = record { set = c.args.item.0; loc = c.args.item.1 }; value = n }) c.in-Some.ensures in
-    let inside : n < length cs = subst (λ (ds : List Column). n < length ds) (sym c.union.ensures.columns) (place-inside old.columns.items n c.args.item there) in
+    let there = old.are.places_are (record { key = c.args.key; value = n }) c.in-Some.ensures in
+    let inside : n < length cs = subst (λ (ds : List Column). n < length ds) (sym c.union.ensures.columns) (place-inside old.columns.items n c.args.key there) in
     let at : slice_get cs n ≡ Some x = slice_get-get_or cs n x inside ∙ ap Some (sym c.index_mut.ensures.value) in
     record {
-      are = columns-set new.sets.sets.items cs new.unions.noted.items new.places.noted.items n (record { item = x.item; set = c.in_ok-both-in-Some.both })
-          c.in_ok-both-in-Some.ensures.union.inside (ap (option_map (λ (d : Column). d.item)) at) new.are;
+      are = columns-set new.sets.sets.items cs new.unions.noted.items new.places.noted.items n (record { key = x.key; set = c.in_ok-both-in-Some.both })
+          c.in_ok-both-in-Some.ensures.union.inside (ap (option_map (λ (d : Column). d.key)) at) new.are;
     }
 
 pub invariant_of-self-in-None : goal.invariant_of-self-in-None
 invariant_of-self-in-None c =
     let old = c.args.self.now in
     let new = c.push.new.self in
-    let x : Column = record { item = c.args.item; set = c.args.set } in
+    let x : Column = record { key = c.args.key; set = c.args.set } in
     let at : slice_get new.columns.items c.len-place.result ≡ Some x =
     ap (λ (cs : List Column). slice_get cs c.len-place.result) c.in_ok-push-in-None.ensures.columns
     ∙ ap (slice_get _) (c.len-place.ensures ∙ old.columns.ok.0) ∙ last-place old.columns.items x in
     record {
-      are = place-noted new.sets.sets.items new.columns.items new.unions.noted.items new.places.noted.items c.note.new.self.noted.items (record { set = c.args.item.0; loc = c.args.item.1 }) c.len-place.result
-          new.are c.note.ensures (ap (option_map (λ (d : Column). d.item)) at);
+      are = place-noted new.sets.sets.items new.columns.items new.unions.noted.items new.places.noted.items c.note.new.self.noted.items (c.args.key) c.len-place.result
+          new.are c.note.ensures (ap (option_map (λ (d : Column). d.key)) at);
     }
 
 pub returns-in_ok-both-in-Some-clause-given : goal.returns-in_ok-both-in-Some-clause-given
@@ -69,12 +70,31 @@ returns-in_ok-both-in-Some-clause-given c = λ k.
     let cs = old.columns.items in
     let x = c.index.result.now in
     let y = c.index_mut.result.now in
-    let there = old.are.places_are (record { key = record { set = c.args.item.0; loc = c.args.item.1 }; value = n }) c.in-Some.ensures in
-    let inside = place-inside cs n c.args.item there in
+    let there = old.are.places_are (record { key = c.args.key; value = n }) c.in-Some.ensures in
+    let inside = place-inside cs n c.args.key there in
     let at : slice_get cs n ≡ Some x = slice_get-get_or cs n x inside ∙ ap Some (sym c.index.ensures) in
-    let was = given old.sets.sets.items cs k ++ cond (set_at old.sets.sets.items c.args.set k) (c.args.item ∷ []) [] in
+    let was = given old.sets.sets.items cs k ++ cond (set_at old.sets.sets.items c.args.set k) (c.args.key ∷ []) [] in
     let same : y ≡ x =
     c.index_mut.ensures.value ∙ ap (λ (ds : List Column). slice_index_or ds n y) c.union.ensures.columns ∙ get_or_from_slice_get cs n x y at in
-    subst (λ (z : Column). SameMembers (given new.sets.sets.items (slice_set new.columns.items n (record { item = z.item; set = c.in_ok-both-in-Some.both })) k) was) (sym same)
-    (subst (λ (ds : List Column). SameMembers (given new.sets.sets.items (slice_set ds n (record { item = x.item; set = c.in_ok-both-in-Some.both })) k) was) (sym c.union.ensures.columns)
-    (given-added old.sets.sets.items new.sets.sets.items cs n x c.args.item c.in_ok-both-in-Some.both c.args.set c.union.ensures.kept old.are.inside c.requires at (item-read cs n c.args.item x there at) c.in_ok-both-in-Some.ensures.union k))
+    subst (λ (z : Column). SameMembers (given new.sets.sets.items (slice_set new.columns.items n (record { key = z.key; set = c.in_ok-both-in-Some.both })) k) was) (sym same)
+    (subst (λ (ds : List Column). SameMembers (given new.sets.sets.items (slice_set ds n (record { key = x.key; set = c.in_ok-both-in-Some.both })) k) was) (sym c.union.ensures.columns)
+    (given-added old.sets.sets.items new.sets.sets.items cs n x c.args.key c.in_ok-both-in-Some.both c.args.set c.union.ensures.kept old.are.inside c.requires at (item-read cs n c.args.key x there at) c.in_ok-both-in-Some.ensures.union k))
+
+pub returns-in_ok-both-in-Some-clause-below : goal.returns-in_ok-both-in-Some-clause-below
+returns-in_ok-both-in-Some-clause-below c = λ n are inside.
+    let old = c.args.self.now in
+    let new = c.union.new.self in
+    let p = c.in-Some.place in
+    let cs = old.columns.items in
+    let x = c.index.result.now in
+    let y = c.index_mut.result.now in
+    let there = old.are.places_are (record { key = c.args.key; value = p }) c.in-Some.ensures in
+    let at : slice_get cs p ≡ Some x = slice_get-get_or cs p x (place-inside cs p c.args.key there) ∙ ap Some (sym c.index.ensures) in
+    let same : y ≡ x =
+    c.index_mut.ensures.value ∙ ap (λ (ds : List Column). slice_index_or ds p y) c.union.ensures.columns ∙ get_or_from_slice_get cs p x y at in
+    below-set n new.columns.items p (record { key = y.key; set = c.in_ok-both-in-Some.both }) (subst (AreBelow n) (sym c.union.ensures.columns) are)
+    (subst (λ (k : Key). k.number < n) (sym (ap (λ (d : Column). d.key) same ∙ item-read cs p c.args.key x there at)) inside)
+
+pub returns-in_ok-note-in-None-clause-below : goal.returns-in_ok-note-in-None-clause-below
+returns-in_ok-note-in-None-clause-below c = λ n are inside.
+    subst (AreBelow n) (sym c.in_ok-push-in-None.ensures.columns) (below-pushed n c.args.self.now.columns.items (record { key = c.args.key; set = c.args.set }) are inside)

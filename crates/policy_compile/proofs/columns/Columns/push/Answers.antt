@@ -6,9 +6,9 @@ use Rattle.policy_compile.proofs.columns.Columns.push.Goals as goal
 pub invariant_of-self : goal.invariant_of-self
 invariant_of-self c =
     let old = c.args.self.now in
-    record { are = columns-if_pushed _ old.sets.sets.items old.columns.items c.push.new.self.items old.unions.noted.items old.places.noted.items (record { item = c.args.item; set = c.args.set }) c.push.ensures.items c.requires old.are }
+    record { are = columns-if_pushed _ old.sets.sets.items old.columns.items c.push.new.self.items old.unions.noted.items old.places.noted.items (record { key = c.args.key; set = c.args.set }) c.push.ensures.items c.requires old.are }
 
 pub returns-clause-given : goal.returns-clause-given
 returns-clause-given c = λ k.
     let old = c.args.self.now in
-    ap (λ cs. given old.sets.sets.items cs k) c.in_ok-push.ensures.items ∙ given-pushed old.sets.sets.items old.columns.items (record { item = c.args.item; set = c.args.set }) k
+    ap (λ cs. given old.sets.sets.items cs k) c.in_ok-push.ensures.items ∙ given-pushed old.sets.sets.items old.columns.items (record { key = c.args.key; set = c.args.set }) k

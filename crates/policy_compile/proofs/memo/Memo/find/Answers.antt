@@ -10,4 +10,4 @@ returns-then-eq g c =
     let read = c.in_ok-noted.ensures.lookup in
     let same : noted.key ≡ c.args.key.now = g.met.K.Asked.exact noted.key c.args.key.now (sym c.eq.ensures ∙ c.if-eq.true) in
     subst (λ key. Member (record { key = key; value = noted.value }) c.args.self.now.noted.items) same
-    (subst (Member noted) c.deref.ensures.value (Member-at c.deref.result.now c.in_ok-place.field-0.now noted noted read.3.0 (sym read.1)))
+    (subst (Member noted) c.deref.ensures.value (Member-at c.deref.result.now c.in_ok-place.place noted noted read.3.0 (sym read.1)))
