@@ -9,5 +9,6 @@ pub mod Columns
 pub mod Groups
 pub mod Covered
 pub mod Given
+pub mod Rows
 pub mod Summed
 pub mod Exact
