@@ -17,11 +17,9 @@ use Rattle.classifier.specs.Meaning.{cubes_of}
 use Rattle.classifier.specs.Items.{Item, add, add_all, is_among}
 use Rattle.classifier.proofs.SumLemmas.{union-append}
 use Rattle.policy_compile.specs.declared.columns.Column.{Column}
-use Rattle.policy_compile.specs.declared.groups.Groups.{Groups}
 use Rattle.policy_compile.specs.declared.rows.Row.{Row}
 use Rattle.policy_compile.specs.Columns.{Places, given, set_at}
-use Rattle.policy_compile.specs.Groups.{alone, given_by, result_of}
-use Rattle.policy_compile.specs.Given.{AreMade}
+use Rattle.policy_compile.specs.Groups.{alone, result_of}
 use Rattle.policy_compile.specs.Paths.{AreAt, AreVisits, begun}
 use Rattle.policy_compile.specs.Rows.{AreLists, AreRows, AreNear, joined, keys_with, list_at}
 use Rattle.policy_compile.proofs.PathLemmas.{visits-same}
@@ -290,15 +288,14 @@ cube-at [] k x e = absurd (cc)
 cube-at (y ∷ xs) zero x e = let same : y ≡ x = cc in ap (λ (z : Line). Some z.cube) same
 cube-at (y ∷ xs) (suc k) x e = cube-at xs k x e
 
--- rules with what is given at the places of their cubes
-pub rules-at : (pid_of : List ℕ → Option Pid) (p : Policy) (locations : List Loc) (cubes : List Cube) (old new : Groups) (xs : List Line) → cubes_of xs ≡ cubes
-    → ((k : ℕ) (m : Cube) → slice_get cubes k ≡ Some m → given_by locations old k ≡ begun ∷ []) → AreMade pid_of p locations cubes old new
-    → ((k : ℕ) (x : Line) → slice_get xs k ≡ Some x → SameMembers x.results (given_by locations new k)) → AreAt pid_of p cubes xs
-rules-at pid_of p locations cubes old new xs same start made gives = record {
+-- rules with what the policy makes at the places of their cubes of what was there
+pub rules-at : (pid_of : List ℕ → Option Pid) (p : Policy) (cubes : List Cube) (old new : ℕ → List Item) (xs : List Line) → cubes_of xs ≡ cubes
+    → ((k : ℕ) (m : Cube) → slice_get cubes k ≡ Some m → old k ≡ begun ∷ []) → ((k : ℕ) (m : Cube) → slice_get cubes k ≡ Some m → AreVisits pid_of p m (old k) [] (new k))
+    → ((k : ℕ) (x : Line) → slice_get xs k ≡ Some x → SameMembers x.results (new k)) → AreAt pid_of p cubes xs
+rules-at pid_of p cubes old new xs same start made gives = record {
   cubes_are = same;
   gives = λ x m.
       let s = stands-at xs x m in
       let there : slice_get cubes s.place ≡ Some x.cube = ap (λ (cs : List Cube). slice_get cs s.place) (sym same) ∙ cube-at xs s.place x s.at in
-      visits-same pid_of p x.cube (begun ∷ []) [] (given_by locations new s.place) x.results
-      (subst (λ items. AreVisits pid_of p x.cube items [] (given_by locations new s.place)) (start s.place x.cube there) (made s.place x.cube there)) (gives s.place x s.at);
+      visits-same pid_of p x.cube (begun ∷ []) [] (new s.place) x.results (subst (λ items. AreVisits pid_of p x.cube items [] (new s.place)) (start s.place x.cube there) (made s.place x.cube there)) (gives s.place x s.at);
 }
