@@ -9,6 +9,7 @@ pub mod Columns
 pub mod Groups
 pub mod Covered
 pub mod Given
+pub mod Rows
 pub mod Summed
 pub mod Exact
 pub mod Seen

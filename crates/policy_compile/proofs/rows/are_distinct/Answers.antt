@@ -1,34 +1,30 @@
-use Rattle.std.proofs.Common.{arith, ◌≡◌, ◌∙◌, ◌∷◌, [], List, length, slice_index_or, sym, ap, take}
-use Rattle.std.proofs.lemmas.Bool.{eqb-true}
-use Rattle.std.proofs.lemmas.List.{length-map, take_all, take_more}
-use Rattle.net_types.proofs.SetLemmas.{map-append}
-use Rattle.net_types.specs.Headers.{no_change}
-use Rattle.net_types.specs.declared.headers.Loc.TheVariants.{Stay}
-use Rattle.classifier.specs.Items.{add, add_all}
-use Rattle.policy_compile.specs.declared.columns.Column.{Column}
-use Rattle.policy_compile.specs.Given.{items_of}
-use Rattle.policy_compile.proofs.RowLemmas.{add_all-pushed, all-distinct}
+use Rattle.std.proofs.Common.{arith, ◌≡◌, ◌+◌, ◌∙◌, ◌++◌, List, length, sym, ap, subst}
+use Rattle.std.proofs.lemmas.List.{take_all}
+use Rattle.net_types.specs.Sets.{HasNoRepeats, union_over}
+use Rattle.classifier.specs.Items.{Item, add_all}
+use Rattle.policy_compile.proofs.RowLemmas.{add-longer, add-whole, whole-more}
 use Rattle.policy_compile.proofs.rows.are_distinct.Goals as goal
 
--- no column
-abbrev none : Column
-none = record { item = (no_change, Stay); set = 0 }
+pub overflow_sub-items : goal.overflow_sub-items
+overflow_sub-items c =
+    let more = add-longer c.loop-list.all c.items.result.now in
+    let before = ap length c.items-before.ensures in
+    let now = ap length (c.items-in-loop-list.ensures ∙ c.in_ok-push_each.ensures) in
+    omega (arith, more, before, now)
 
-pub loop-column-preserved : goal.loop-column-preserved
-loop-column-preserved c =
-    let items = c.deref-column-items.result.now in
-    let i = c.loop-column.column-index in
-    let x = slice_index_or items i none in
-    c.in_ok-push.ensures ∙ ap (λ xs. add xs x.item) c.loop-column.invariant ∙ sym (add_all-pushed [] (items_of (take i items)) x.item)
-    ∙ ap (add_all []) (sym (map-append (λ (y : Column). y.item) (take i items) (x ∷ []))) ∙ ap (λ (cs : List Column). add_all [] (items_of cs)) (sym (take_more items i none c.loop-column-test.true))
+pub loop-list-preserved : goal.loop-list-preserved
+loop-list-preserved c =
+    let lists = c.args.lists.now in
+    let i = c.loop-list.list-index in
+    let all = c.loop-list.all in
+    let list = c.list-item.result in
+    let put : c.push_each.new.all ≡ add_all all list = c.in_ok-push_each.ensures ∙ ap (add_all all) c.items.ensures in
+    let before = ap length c.items-before.ensures in
+    let now = ap length (c.items-in-loop-list.ensures ∙ put) in
+    let more = add-longer all list in
+    let long : length (add_all all list) ≡ length all + length list = omega (arith, more, before, now, c.if-items-before.false, c.len.ensures) in
+    put ∙ add-whole all list long ∙ ap (λ xs. xs ++ list) c.loop-list.invariant ∙ sym (whole-more lists i list c.loop-list-test.true c.list-item.is)
 
 pub returns : goal.returns
-returns c = λ told.
-    let columns = c.args.columns.now in
-    let items = c.deref-column-items.result.now in
-    let whole : c.into_results-all.result ≡ add_all [] (items_of columns.columns.items) =
-    c.into_results-all.ensures ∙ c.loop-column.invariant
-    ∙ ap (λ (cs : List Column). add_all [] (items_of cs)) (take_all c.loop-column.column-index items (omega (arith, c.loop-column-test.false)) ∙ c.deref-column-items.ensures.value) in
-    let long : length c.into_results-all.result ≡ length (items_of columns.columns.items) =
-    sym c.len.ensures ∙ eqb-true c.len.result c.len-2.result told ∙ c.len-2.ensures ∙ columns.columns.ok.0 ∙ sym (length-map columns.columns.items (λ (y : Column). y.item)) in
-    all-distinct (items_of columns.columns.items) c.into_results-all.result whole long c.known.ensures
+returns c = λ _.
+    subst HasNoRepeats (c.into_results.ensures ∙ c.loop-list.invariant ∙ ap (λ (ls : List (List Item)). union_over (λ l. l) ls) (take_all c.loop-list.list-index c.args.lists.now (omega (arith, c.loop-list-test.false)))) c.known-2.ensures

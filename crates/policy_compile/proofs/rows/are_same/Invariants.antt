@@ -1,9 +1,0 @@
--- The marks so far are the same.
-use Rattle.std.proofs.Common.{◌≡◌, length, take}
-use Rattle.policy_compile.proofs.rows.are_same.Given as goal
-
-abbrev pub invariant-loop-i : goal.invariant-loop-i
-invariant-loop-i l = record {
-  same : take l.i l.one ≡ take l.i l.other;
-  long : length l.one ≡ length l.other;
-}
