@@ -199,6 +199,11 @@ below-pushed n cs c are inside = λ d m. elim (SetLemmas.Member-append_cases cs 
   | inr new ↦ elim new [ inl e ↦ subst (λ (x : Column). x.key.number < n) (sym e) inside | inr none ↦ elim none [ ] ]
 ]
 
+-- the same, where memory may have been wanting
+pub below-if_pushed : (b : Bool) (n : ℕ) (cs ds : List Column) (c : Column) → ds ≡ cond b (cs ++ c ∷ []) cs → AreBelow n cs → c.key.number < n → AreBelow n ds
+below-if_pushed true n cs ds c is are inside = subst (AreBelow n) (sym is) (below-pushed n cs c are inside)
+below-if_pushed false n cs ds c is are inside = subst (AreBelow n) (sym is) are
+
 pub below-set : (n : ℕ) (cs : List Column) (k : ℕ) (c : Column) → AreBelow n cs → c.key.number < n → AreBelow n (slice_set cs k c)
 below-set n cs k c are inside = λ d m. elim (member-set cs k c d m) [ inl old ↦ are d old | inr e ↦ subst (λ (x : Column). x.key.number < n) (sym e) inside ]
 

@@ -1,5 +1,5 @@
 -- Results by assignments with sets of locations.
-use Rattle.std.proofs.Common.{arith, ◌≡◌, ◌<◌, ◌+◌, ℕ, zero, suc, Bool, true, false, ◌||◌, ◌&&◌, cond, map, take, nat_eq, eq-eqb, Some, None, List, [], ◌∷◌, ◌++◌, length, inl, inr, refl, sym, ap, ◌∙◌, subst}
+use Rattle.std.proofs.Common.{arith, ◌≡◌, ◌<◌, ◌+◌, ℕ, zero, suc, Bool, true, false, ◌||◌, ◌&&◌, cond, map, take, nat_eq, eq-eqb, ne_eqb, Some, None, List, [], ◌∷◌, ◌++◌, length, inl, inr, refl, sym, ap, ◌∙◌, subst}
 use Rattle.std.proofs.Common.{slice_index_or as get_or}
 use Rattle.std.specs.List.{slice_get}
 use Rattle.std.proofs.lemmas.Bool.{cases_Bool}
@@ -56,24 +56,39 @@ picked-more (x ∷ ls) (suc i) f l inside at =
     ∙ ap (λ xs. cond (f 0) (x ∷ xs) xs) (picked-more ls i (λ k. f (suc k)) l (omega (arith, inside)) at)
     ∙ cond-append (f 0) x (picked (take i ls) (λ k. f (suc k))) (cond (f (suc i)) (l ∷ []) [])
 
-or_false : (b : Bool) → (b || false) ≡ b
-or_false true = refl
-or_false false = refl
-
 -- a place more is in the set
-pub picked-put : (ls : List Loc) (n : ℕ) (l : Loc) (f g : ℕ → Bool) → slice_get ls n ≡ Some l → ((k : ℕ) → g k ≡ (f k || nat_eq k n)) → SameMembers (picked ls g) (picked ls f ++ l ∷ [])
-picked-put [] n l f g at e = absurd (cc)
-picked-put (x ∷ ls) zero l f g at e =
+pub picked-put : (ls : List Loc) (n : ℕ) (l : Loc) (f g : ℕ → Bool) → slice_get ls n ≡ Some l → g n ≡ true → ((k : ℕ) → (k ≡ n → ⊥) → g k ≡ f k) → SameMembers (picked ls g) (picked ls f ++ l ∷ [])
+picked-put [] n l f g at put others = absurd (cc)
+picked-put (x ∷ ls) zero l f g at put others =
     let same : x ≡ l = cc in
-    let rest = picked-ext ls (λ k. g (suc k)) (λ k. f (suc k)) (λ k. e (suc k) ∙ or_false (f (suc k))) in
+    let rest = picked-ext ls (λ k. g (suc k)) (λ k. f (suc k)) (λ k. others (suc k) (λ e. omega (arith, e))) in
     SetLemmas.same_trans
-    (SetLemmas.same_eq (ap (λ b. cond b (x ∷ picked ls (λ k. g (suc k))) (picked ls (λ k. g (suc k)))) (e 0) ∙ ap (λ xs. cond (f 0 || true) (x ∷ xs) xs) rest))
-    (subst (λ (y : Loc). SameMembers (cond (f 0 || true) (x ∷ picked ls (λ k. f (suc k))) (picked ls (λ k. f (suc k)))) (picked (x ∷ ls) f ++ y ∷ [])) same
-    (one-more x (picked ls (λ k. f (suc k))) (f 0) true))
-picked-put (x ∷ ls) (suc n) l f g at e =
+    (SetLemmas.same_eq (ap (λ b. cond b (x ∷ picked ls (λ k. g (suc k))) (picked ls (λ k. g (suc k)))) put ∙ ap (λ xs. x ∷ xs) rest))
+    (subst (λ (y : Loc). SameMembers (x ∷ picked ls (λ k. f (suc k))) (picked (x ∷ ls) f ++ y ∷ [])) same (there x (f 0) (picked ls (λ k. f (suc k)))))
+  where
+    there : (y : Loc) (b : Bool) (xs : List Loc) → SameMembers (y ∷ xs) (cond b (y ∷ xs) xs ++ y ∷ [])
+    there y true xs = one-more y xs true true
+    there y false xs = one-more y xs false true
+picked-put (x ∷ ls) (suc n) l f g at put others =
     SetLemmas.same_trans
-    (SetLemmas.same_eq (ap (λ b. cond b (x ∷ picked ls (λ k. g (suc k))) (picked ls (λ k. g (suc k)))) (e 0 ∙ or_false (f 0))))
-    (same-before x (f 0) (picked ls (λ k. g (suc k))) (picked ls (λ k. f (suc k))) (l ∷ []) (picked-put ls n l (λ k. f (suc k)) (λ k. g (suc k)) at (λ k. e (suc k))))
+    (SetLemmas.same_eq (ap (λ b. cond b (x ∷ picked ls (λ k. g (suc k))) (picked ls (λ k. g (suc k)))) (others 0 (λ e. omega (arith, e)))))
+    (same-before x (f 0) (picked ls (λ k. g (suc k))) (picked ls (λ k. f (suc k))) (l ∷ [])
+    (picked-put ls n l (λ k. f (suc k)) (λ k. g (suc k)) at put (λ k differ. others (suc k) (λ e. differ (omega (arith, e))))))
+
+-- as a set says it that a place was put in
+put-here : (n : ℕ) (f g : ℕ → Bool) → ((k : ℕ) → g k ≡ (f k || nat_eq k n)) → g n ≡ true
+put-here n f g e = e n ∙ ap (λ b. f n || b) (eq-eqb n n refl) ∙ or_true (f n)
+  where
+    or_true : (b : Bool) → (b || true) ≡ true
+    or_true true = refl
+    or_true false = refl
+
+put-elsewhere : (n : ℕ) (f g : ℕ → Bool) → ((k : ℕ) → g k ≡ (f k || nat_eq k n)) → (k : ℕ) → (k ≡ n → ⊥) → g k ≡ f k
+put-elsewhere n f g e k differ = e k ∙ ap (λ b. f k || b) (ne_eqb k n differ) ∙ or_false (f k)
+  where
+    or_false : (b : Bool) → (b || false) ≡ b
+    or_false true = refl
+    or_false false = refl
 
 -- where a location stands
 pub record IsPicked (ls : List Loc) (f : ℕ → Bool) (l : Loc) : Type 0 where
@@ -83,15 +98,12 @@ pub record IsPicked (ls : List Loc) (f : ℕ → Bool) (l : Loc) : Type 0 where
 
 pub picked-from : (ls : List Loc) (f : ℕ → Bool) (l : Loc) → Member l (picked ls f) → IsPicked ls f l
 picked-from [] f l m = elim m [ ]
-picked-from (x ∷ ls) f l m = by (f 0) refl m
+picked-from (x ∷ ls) f l m = by (f 0) refl (λ n. (let p = picked-from ls (λ k. f (suc k)) l n in record { place = suc p.place; at = p.at; has = p.has })) m
   where
-    later : IsPicked ls (λ k. f (suc k)) l → IsPicked (x ∷ ls) f l
-    later p = record { place = suc p.place; at = p.at; has = p.has }
-
-    by : (b : Bool) → f 0 ≡ b → Member l (cond b (x ∷ picked ls (λ k. f (suc k))) (picked ls (λ k. f (suc k)))) → IsPicked (x ∷ ls) f l
-    by true e (inl same) = record { place = zero; at = ap Some (sym same); has = e }
-    by true e (inr n) = later (picked-from ls (λ k. f (suc k)) l n)
-    by false e n = later (picked-from ls (λ k. f (suc k)) l n)
+    by : (b : Bool) → f 0 ≡ b → (Member l (picked ls (λ k. f (suc k))) → IsPicked (x ∷ ls) f l) → Member l (cond b (x ∷ picked ls (λ k. f (suc k))) (picked ls (λ k. f (suc k)))) → IsPicked (x ∷ ls) f l
+    by true e later (inl same) = record { place = zero; at = ap Some (sym same); has = e }
+    by true e later (inr n) = later n
+    by false e later n = later n
 
 pub picked-into : (ls : List Loc) (f : ℕ → Bool) (n : ℕ) (l : Loc) → slice_get ls n ≡ Some l → f n ≡ true → Member l (picked ls f)
 picked-into [] f n l at has = absurd (cc)
@@ -108,7 +120,7 @@ picked-into (x ∷ ls) f (suc n) l at has = by (f 0) (picked-into ls (λ k. f (s
 pub moved-more : (ls : List Loc) (i n : ℕ) (ways old new : ℕ → Bool) (l next : Loc) (loc : Loc) → i < length ls → l ≡ get_or ls i l → ways i ≡ true → slice_get ls n ≡ Some next → next ≡ arrived l loc
     → ((k : ℕ) → new k ≡ (old k || nat_eq k n)) → SameMembers (picked ls old) (map (λ x. arrived x loc) (picked (take i ls) ways)) → SameMembers (picked ls new) (map (λ x. arrived x loc) (picked (take (i + 1) ls) ways))
 moved-more ls i n ways old new l next loc inside at has there is put same =
-    SetLemmas.same_trans (picked-put ls n next old new there put)
+    SetLemmas.same_trans (picked-put ls n next old new there (put-here n old new put) (put-elsewhere n old new put))
     (SetLemmas.same_trans (SetLemmas.same_append same (SetLemmas.same_refl (next ∷ [])))
     (SetLemmas.same_eq (ap (λ (y : Loc). map (λ x. arrived x loc) (picked (take i ls) ways) ++ y ∷ []) is
     ∙ sym (SetLemmas.map-append (λ x. arrived x loc) (picked (take i ls) ways) (l ∷ []))
@@ -147,17 +159,15 @@ ways-kept ls old new key kept inside = ap (with_each key.set) (picked-ext ls (se
 
 pub spread-kept : (ls : List Loc) (old new sets : List Places) (cs : List Column) (k : ℕ) → KeepSets old new → AreBelow (length old) cs → union_over (ways_of ls new) (given sets cs k) ≡ union_over (ways_of ls old) (given sets cs k)
 spread-kept ls old new sets [] k kept are = refl
-spread-kept ls old new sets (c ∷ cs) k kept are = by (set_at sets c.set k)
+spread-kept ls old new sets (c ∷ cs) k kept are = by (set_at sets c.set k) (spread-kept ls old new sets cs k kept (λ d m. are d (inr m)))
   where
-    rest : union_over (ways_of ls new) (given sets cs k) ≡ union_over (ways_of ls old) (given sets cs k)
-    rest = spread-kept ls old new sets cs k kept (λ d m. are d (inr m))
+    by : (b : Bool) → union_over (ways_of ls new) (given sets cs k) ≡ union_over (ways_of ls old) (given sets cs k)
+        → union_over (ways_of ls new) (cond b (c.key ∷ given sets cs k) (given sets cs k)) ≡ union_over (ways_of ls old) (cond b (c.key ∷ given sets cs k) (given sets cs k))
+    by true rest = ap (λ (xs : List Item). xs ++ union_over (ways_of ls new) (given sets cs k)) (ways-kept ls old new c.key kept (are c (inl refl))) ∙ ap (λ (xs : List Item). ways_of ls old c.key ++ xs) rest
+    by false rest = rest
 
-    by : (b : Bool) → union_over (ways_of ls new) (cond b (c.key ∷ given sets cs k) (given sets cs k)) ≡ union_over (ways_of ls old) (cond b (c.key ∷ given sets cs k) (given sets cs k))
-    by true = ap (λ (xs : List Item). xs ++ union_over (ways_of ls new) (given sets cs k)) (ways-kept ls old new c.key kept (are c (inl refl))) ∙ ap (λ (xs : List Item). ways_of ls old c.key ++ xs) rest
-    by false = rest
-
-pub below-longer : (n m : ℕ) (cs : List Column) → ((i : ℕ) → i < n → i < m) → AreBelow n cs → AreBelow m cs
-below-longer n m cs longer are = λ c k. longer c.key.number (are c k)
+pub below-kept : (old new : List Places) (cs : List Column) → KeepSets old new → AreBelow (length old) cs → AreBelow (length new) cs
+below-kept old new cs kept are = λ c m. inside-kept old new c.key.number kept (are c m)
 
 -- ---- what is done after the results of a column more
 

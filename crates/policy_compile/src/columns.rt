@@ -110,6 +110,7 @@ impl Columns {
         ensures given { OnOk result ((k : ℕ) → given self.new.sets.sets.items self.new.columns.items k ≡ given self.old.sets.sets.items self.old.columns.items k ++ (if set_at self.old.sets.sets.items set k then key ∷ [] else [])) }
         ensures columns { OnOk result (self.new.columns.items ≡ self.old.columns.items ++ record { key = key; set = set } ∷ []) }
         ensures sets { self.new.sets ≡ self.old.sets }
+        ensures below { (n : ℕ) → AreBelow n self.old.columns.items → key.number < n → AreBelow n self.new.columns.items }
     {
         self.columns.push(Column { key, set })?;
         Ok(())
@@ -120,7 +121,7 @@ impl Columns {
         requires { set < length self.old.sets.sets.items }
         ensures given { OnOk result ((k : ℕ) → SameMembers (given self.new.sets.sets.items self.new.columns.items k) (given self.old.sets.sets.items self.old.columns.items k ++ (if set_at self.old.sets.sets.items set k then key ∷ [] else []))) }
         ensures kept { KeepSets self.old.sets.sets.items self.new.sets.sets.items }
-        ensures below { OnOk result ((n : ℕ) → AreBelow n self.old.columns.items → key.number < n → AreBelow n self.new.columns.items) }
+        ensures below { (n : ℕ) → AreBelow n self.old.columns.items → key.number < n → AreBelow n self.new.columns.items }
     {
         match self.places.find(&key) {
             Some(place) => {

@@ -1,7 +1,7 @@
 use Rattle.std.proofs.Common.{arith, ◌≡◌, Some, List, slice_index_or, map, refl, sym, subst, ◌∙◌, take}
 use Rattle.std.specs.List.{slice_get}
 use Rattle.std.proofs.lemmas.List.{take_all}
-use Rattle.std.proofs.lemmas.Option.{slice_get-get_or}
+use Rattle.std.proofs.lemmas.Option.{get_or_from_slice_get, slice_get-get_or}
 use Rattle.net_types.specs.declared.headers.Loc.{Loc}
 use Rattle.net_types.specs.declared.headers.Loc.TheVariants.{Stay}
 use Rattle.net_types.specs.Headers.{arrived}
@@ -25,10 +25,12 @@ loop-place-preserved c =
     let inside = c.loop-place-test.true in
     let ways = has_place c.args.ways.now in
     let old = has_place c.loop-place.next in
+    let at : slice_get ls i ≡ Some l = slice_get-get_or ls i Stay inside in
+    let same : l ≡ slice_index_or ls i l = sym (get_or_from_slice_get ls i l l at) in
     elim c.if-has.branch [
-      | then-has+in-Some+in_ok-put w ↦ rw w.next-is (moved-more ls i w.in-Some.other ways old (has_place w.put.new.self) l w.after.result c.args.loc inside refl (sym c.has.ensures ∙ w.if-has.true) w.in-Some.ensures.found w.after.ensures w.in_ok-put.ensures.put c.loop-place.invariant)
-      | then-has+in_default w ↦ absurd (w.place_of.ensures.absent w.in_default.is (subst (λ (y : Loc). Member y ls) (sym w.after.ensures) (c.requires l (slice_get-Member ls i l (slice_get-get_or ls i Stay inside)))))
-      | else-has w ↦ rw w.next-is (moved-less ls i ways old l c.args.loc inside refl (sym c.has.ensures ∙ w.if-has.false) c.loop-place.invariant)
+      | then-has+in-Some+in_ok-put w ↦ rw w.next-is (moved-more ls i w.in-Some.other ways old (has_place w.put.new.self) l w.after.result c.args.loc inside same (sym c.has.ensures ∙ w.if-has.true) w.in-Some.ensures.found w.after.ensures w.in_ok-put.ensures.put c.loop-place.invariant)
+      | then-has+in_default w ↦ absurd (w.place_of.ensures.absent w.in_default.is (subst (λ (y : Loc). Member y ls) (sym w.after.ensures) (c.requires l (slice_get-Member ls i l at))))
+      | else-has w ↦ rw w.next-is (moved-less ls i ways old l c.args.loc inside same (sym c.has.ensures ∙ w.if-has.false) c.loop-place.invariant)
     ]
 
 pub returns : goal.returns

@@ -7,7 +7,7 @@ use Rattle.net_types.proofs.FindLemmas.{slice_get-Member}
 use Rattle.policy_compile.specs.declared.columns.Column.{Column}
 use Rattle.policy_compile.specs.declared.columns.Key.{Key}
 use Rattle.policy_compile.specs.Columns.{AreBelow, given, set_at}
-use Rattle.policy_compile.proofs.ColumnLemmas.{below-pushed, below-set, columns-set, given-added, item-read, last-place, place-inside, place-noted}
+use Rattle.policy_compile.proofs.ColumnLemmas.{below-set, columns-set, given-added, item-read, last-place, place-inside, place-noted}
 use Rattle.policy_compile.proofs.columns.Columns.add.Goals as goal
 
 pub index-requires : goal.index-requires
@@ -96,5 +96,7 @@ returns-in_ok-both-in-Some-clause-below c = λ n are inside.
     (subst (λ (k : Key). k.number < n) (sym (ap (λ (d : Column). d.key) same ∙ item-read cs p c.args.key x there at)) inside)
 
 pub returns-in_ok-note-in-None-clause-below : goal.returns-in_ok-note-in-None-clause-below
-returns-in_ok-note-in-None-clause-below c = λ n are inside.
-    subst (AreBelow n) (sym c.in_ok-push-in-None.ensures.columns) (below-pushed n c.args.self.now.columns.items (record { key = c.args.key; set = c.args.set }) are inside)
+returns-in_ok-note-in-None-clause-below c = λ n are inside. c.push.ensures.below n are inside
+
+pub returns-in_err-both-in-Some-clause-below : goal.returns-in_err-both-in-Some-clause-below
+returns-in_err-both-in-Some-clause-below c = λ n are inside. subst (AreBelow n) (sym c.union.ensures.columns) are
