@@ -13,6 +13,7 @@ use Rattle.net_types.proofs.RisingLemmas.{filter-Member, Member-filter}
 use Rattle.classifier.specs.Items.{Item}
 use Rattle.policy_compile.specs.declared.memo.Noted.{Noted}
 use Rattle.policy_compile.specs.declared.columns.Column.{Column}
+use Rattle.policy_compile.specs.declared.columns.Key.{Key}
 use Rattle.policy_compile.specs.declared.outcomes.Outcome.{Outcome}
 use Rattle.policy_compile.specs.declared.stages.Tested.{Tested}
 use Rattle.place_sets.specs.Places.{has_place}
@@ -73,21 +74,21 @@ kept-made cubes p sets new x n s both o there at tells are inside is = record {
 -- ---- a column more
 
 -- that is left where the predicate holds
-pub left-pushed : (f : Item → Bool) (sets : List Places) (cs : List Column) (c : Column) (k : ℕ) (b : Bool) (kept : List Item) → kept ≡ filter f (given sets cs k) → b ≡ (set_at sets c.set k && f c.item)
-    → kept ++ cond b (c.item ∷ []) [] ≡ filter f (given sets (cs ++ c ∷ []) k)
+pub left-pushed : (f : Key → Bool) (sets : List Places) (cs : List Column) (c : Column) (k : ℕ) (b : Bool) (kept : List Key) → kept ≡ filter f (given sets cs k) → b ≡ (set_at sets c.set k && f c.key)
+    → kept ++ cond b (c.key ∷ []) [] ≡ filter f (given sets (cs ++ c ∷ []) k)
 left-pushed f sets cs c k b kept are is =
-    ap (λ xs. xs ++ cond b (c.item ∷ []) []) are ∙ ap (λ a. filter f (given sets cs k) ++ cond a (c.item ∷ []) []) is ∙ ap (λ xs. filter f (given sets cs k) ++ xs) (one (set_at sets c.set k))
-    ∙ sym (filter-append f (given sets cs k) (cond (set_at sets c.set k) (c.item ∷ []) [])) ∙ sym (ap (filter f) (given-pushed sets cs c k))
+    ap (λ xs. xs ++ cond b (c.key ∷ []) []) are ∙ ap (λ a. filter f (given sets cs k) ++ cond a (c.key ∷ []) []) is ∙ ap (λ xs. filter f (given sets cs k) ++ xs) (one (set_at sets c.set k))
+    ∙ sym (filter-append f (given sets cs k) (cond (set_at sets c.set k) (c.key ∷ []) [])) ∙ sym (ap (filter f) (given-pushed sets cs c k))
   where
-    tested : (b : Bool) → f c.item ≡ b → cond b (c.item ∷ []) [] ≡ filter f (c.item ∷ [])
-    tested true e = sym (ap (λ d. cond d (c.item ∷ []) []) e)
-    tested false e = sym (ap (λ d. cond d (c.item ∷ []) []) e)
+    tested : (b : Bool) → f c.key ≡ b → cond b (c.key ∷ []) [] ≡ filter f (c.key ∷ [])
+    tested true e = sym (ap (λ d. cond d (c.key ∷ []) []) e)
+    tested false e = sym (ap (λ d. cond d (c.key ∷ []) []) e)
 
-    one : (a : Bool) → cond (a && f c.item) (c.item ∷ []) [] ≡ filter f (cond a (c.item ∷ []) [])
-    one true = tested (f c.item) refl
+    one : (a : Bool) → cond (a && f c.key) (c.key ∷ []) [] ≡ filter f (cond a (c.key ∷ []) [])
+    one true = tested (f c.key) refl
     one false = refl
 
 -- that isn't left anywhere
-pub left-out : (f : Item → Bool) (sets : List Places) (cs : List Column) (c : Column) (k : ℕ) (kept : List Item) → kept ≡ filter f (given sets cs k) → (set_at sets c.set k && f c.item) ≡ false
+pub left-out : (f : Key → Bool) (sets : List Places) (cs : List Column) (c : Column) (k : ℕ) (kept : List Key) → kept ≡ filter f (given sets cs k) → (set_at sets c.set k && f c.key) ≡ false
     → kept ≡ filter f (given sets (cs ++ c ∷ []) k)
 left-out f sets cs c k kept are is = sym (append-nil kept) ∙ left-pushed f sets cs c k false kept are (sym is)

@@ -2,12 +2,12 @@
 
 ghost use Rattle.std.specs.Prelude.{◌≡◌, ℕ, List, Some, IfOk, OnOk};
 ghost use Rattle.std.specs.List.{slice_get};
-ghost use Rattle.net_types.specs.declared.headers.Loc.{Loc as AnyLoc};
 ghost use Rattle.net_types.specs.declared.headers.Loc.TheVariants.{Stay};
 ghost use Rattle.net_types.specs.Sets.{Member};
 ghost use Rattle.policy_syntax.specs.Views.{policy_of, target_of};
 ghost use Rattle.policy_compile.specs.Covered.{Covers, IsCovered, KeepAll};
 
+use crate::ways::place_of;
 use net_types::{Loc, Memory};
 use policy_isolate::Names;
 use policy_syntax::{Node, Target, Tree};
@@ -18,10 +18,13 @@ fn push_location(locations: &mut Vec<Loc>, loc: Loc) -> Result<(), Memory>
     ensures there { OnOk result (Member loc locations.new.items) }
     ensures kept { KeepAll locations.old.items locations.new.items }
 {
-    if !locations.contains(&loc) {
-        locations.push(loc)?;
+    match place_of(locations, loc) {
+        Some(_) => Ok(()),
+        None => {
+            locations.push(loc)?;
+            Ok(())
+        }
     }
-    Ok(())
 }
 
 /// Puts the location of a target last, where that isn't a name that is nobody's.
@@ -56,11 +59,13 @@ fn push_locations<N: Names>(
         Node::Fwd(target, _) => push_target(locations, target, names),
         Node::Both(first, second) => {
             push_locations(locations, first, names)?;
-            push_locations(locations, second, names)
+            push_locations(locations, second, names)?;
+            Ok(())
         }
         Node::Then(first, second) => {
             push_locations(locations, first, names)?;
-            push_locations(locations, second, names)
+            push_locations(locations, second, names)?;
+            Ok(())
         }
         _ => Ok(()),
     }

@@ -189,7 +189,7 @@ fn forwarded<N: Names>(
     names: &N,
     groups: &Groups,
 ) -> Result<Groups, Memory>
-    requires { IsCovered (N.pid_of names.now) (target_of target.entry) locations.now }
+    requires { IsCovered (N.pid_of names.now) (target_of target) locations.now }
     ensures { IfOk result (λ made. (cubes : List AnyCube) (span : AnySpan) → AreMade (N.pid_of names.now) (Fwd (target_of target.entry) span) locations.now cubes groups.now made) }
 {
     match target {

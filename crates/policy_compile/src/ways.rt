@@ -15,7 +15,7 @@ use place_sets::PlaceSet;
 use std::alloc::Global;
 
 /// The place of a location.
-fn place_of(locations: &[Loc], loc: Loc) -> Option<usize>
+pub fn place_of(locations: &[Loc], loc: Loc) -> Option<usize>
     ensures found { IfSome result (λ n. slice_get locations.now n ≡ Some loc) }
     ensures absent { result ≡ None → Member loc locations.now → ⊥ }
 {
