@@ -72,11 +72,7 @@ fn push_locations<N: Names>(
 }
 
 /// First that at which a packet is, and then those to which the policy sends any.
-pub fn locations_of<N: Names>(
-    alloc: Global,
-    tree: &Tree<'_>,
-    names: &N,
-) -> Result<Vec<Loc>, Memory>
+pub fn locations_of<N: Names>(alloc: Global, tree: &Tree<'_>, names: &N) -> Result<Vec<Loc>, Memory>
     ensures covers { IfOk result (λ v. Covers (N.pid_of names.now) (policy_of tree.now) v.items) }
     ensures first { IfOk result (λ v. slice_get v.items 0 ≡ Some Stay) }
 {

@@ -41,12 +41,9 @@ pub fn one_by_one(alloc: Global, locations: &[Loc], groups: &Groups) -> Result<C
     let mut made = Columns::new(alloc);
     let mut asked = Memo::new(alloc);
     for column in groups.columns.columns.iter() {
-        let places = made.sets.carry(
-            alloc,
-            &mut asked,
-            &groups.columns.sets.sets,
-            column.set,
-        )?;
+        let places = made
+            .sets
+            .carry(alloc, &mut asked, &groups.columns.sets.sets, column.set)?;
         add_each(
             &mut made,
             locations,

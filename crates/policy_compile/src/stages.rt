@@ -193,13 +193,9 @@ fn forwarded<N: Names>(
     ensures { IfOk result (λ made. (cubes : List AnyCube) (span : AnySpan) → AreMade (N.pid_of names.now) (Fwd (target_of target.entry) span) locations.now cubes groups.now made) }
 {
     match target {
-        Target::Number(port) => {
-            after(alloc, locations, groups, &Assign::none(), Loc::Out(port))
-        }
+        Target::Number(port) => { after(alloc, locations, groups, &Assign::none(), Loc::Out(port)) }
         Target::Name(name) => match names.find(name) {
-            Some(who) => {
-                after(alloc, locations, groups, &Assign::none(), Loc::To(who))
-            }
+            Some(who) => { after(alloc, locations, groups, &Assign::none(), Loc::To(who)) }
             None => Ok(Groups::new(alloc)),
         },
     }
@@ -222,21 +218,11 @@ pub fn made_of<N: Names>(
 {
     match tree.node() {
         Node::Drop => Ok(Groups::new(alloc)),
-        Node::Pass => {
-            after(alloc, locations, groups, &Assign::none(), Loc::Stay)
-        }
-        Node::Block => {
-            after(alloc, locations, groups, &Assign::none(), Loc::Nowhere)
-        }
-        Node::Fwd(target, _) => {
-            forwarded(alloc, locations, target, names, groups)
-        }
-        Node::Test(pred) => {
-            kept(alloc, within, locations, groups, pred)
-        }
-        Node::Set(set, _) => {
-            after(alloc, locations, groups, &set, Loc::Stay)
-        }
+        Node::Pass => { after(alloc, locations, groups, &Assign::none(), Loc::Stay) }
+        Node::Block => { after(alloc, locations, groups, &Assign::none(), Loc::Nowhere) }
+        Node::Fwd(target, _) => { forwarded(alloc, locations, target, names, groups) }
+        Node::Test(pred) => { kept(alloc, within, locations, groups, pred) }
+        Node::Set(set, _) => { after(alloc, locations, groups, &set, Loc::Stay) }
         Node::Both(first, second) => {
             let mut either = Groups::new(alloc);
             add_made(alloc, within, locations, &mut either, first, names, groups)?;

@@ -28,12 +28,7 @@ pub fn place_of(locations: &[Loc], loc: Loc) -> Option<usize>
 }
 
 /// Where a packet goes next that goes to one of some locations.
-fn moved(
-    alloc: Global,
-    locations: &[Loc],
-    ways: &PlaceSet,
-    loc: Loc,
-) -> Result<PlaceSet, Memory>
+fn moved(alloc: Global, locations: &[Loc], ways: &PlaceSet, loc: Loc) -> Result<PlaceSet, Memory>
     requires { IsClosed locations.now loc }
     ensures { IfOk result (λ s. SameMembers (picked locations.now (has_place s)) (map (λ l. arrived l loc) (picked locations.now (has_place ways.now)))) }
 {
