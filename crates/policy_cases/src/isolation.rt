@@ -1,10 +1,10 @@
-//! Policies that keep or break isolation.
+//! Policies that keep or break isolation, and whom they name.
 
 use crate::declared::Declared;
 use crate::words::no_policy;
 use bumpalo::Bump;
 use net_types::{Memory, Pid};
-use policy_isolate::{IsolateFault, Kind, check_in, check_out};
+use policy_isolate::{IsolateFault, Kind, check_in, check_out, named};
 use policy_syntax::parse;
 use std::alloc::Global;
 
@@ -44,6 +44,28 @@ pub fn inbound(alloc: Global, text: &str) -> Result<String, Memory> {
     let arena = Bump::new(alloc);
     match parse(alloc, &arena, text) {
         Ok(tree) => told(alloc, check_in(&tree, &Declared, Pid(1))),
+        Err(_) => no_policy(alloc),
+    }
+}
+
+/// Participants by their numbers.
+fn numbers(alloc: Global, pids: &[Pid]) -> Result<String, Memory> {
+    let mut text = String::from_str(alloc, "named")?;
+    for pid in pids {
+        let number = pid.0;
+        write!(text, " {number}")?;
+    }
+    Ok(text)
+}
+
+/// Whom an outbound policy names.
+pub fn names(alloc: Global, text: &str) -> Result<String, Memory> {
+    let arena = Bump::new(alloc);
+    match parse(alloc, &arena, text) {
+        Ok(tree) => {
+            let pids = named(alloc, &tree, &Declared)?;
+            numbers(alloc, pids.items())
+        }
         Err(_) => no_policy(alloc),
     }
 }

@@ -36,6 +36,7 @@ fn answer<L: Ledger>(
         "tree" => texts::grouped(alloc, rest),
         "out" => isolation::outbound(alloc, rest),
         "in" => isolation::inbound(alloc, rest),
+        "names" => isolation::names(alloc, rest),
         "meets" => widths::meets(alloc, rest),
         "wide" => widths::wide(alloc, rest),
         "results" => packets::results(alloc, rest),
