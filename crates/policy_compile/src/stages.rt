@@ -6,7 +6,7 @@ ghost use Rattle.std.specs.List.{slice_get};
 ghost use Rattle.net_types.specs.declared.cube.Cube.{Cube as AnyCube};
 ghost use Rattle.net_types.specs.declared.headers.Span.{Span as AnySpan};
 ghost use Rattle.net_types.specs.declared.headers.Loc.TheVariants.{Stay};
-ghost use Rattle.net_types.specs.Policies.{Fwd};
+ghost use Rattle.net_types.specs.Policies.{Both, Fwd, Then};
 ghost use Rattle.net_types.specs.Sets.{Member, SameMembers};
 ghost use Rattle.policy_syntax.specs.Views.{pred_of, policy_of, target_of};
 ghost use Rattle.policy_compile.specs.Columns.{AreBelow, AreKept, IsInside, IsKept, KeepSets, given, outcome_at, set_of};
@@ -218,22 +218,81 @@ pub fn made_of<N: Names>(
 {
     match tree.node() {
         Node::Drop => Ok(Groups::new(alloc)),
-        Node::Pass => { after(alloc, locations, groups, &Assign::none(), Loc::Stay) }
-        Node::Block => { after(alloc, locations, groups, &Assign::none(), Loc::Nowhere) }
-        Node::Fwd(target, _) => { forwarded(alloc, locations, target, names, groups) }
-        Node::Test(pred) => { kept(alloc, within, locations, groups, pred) }
-        Node::Set(set, _) => { after(alloc, locations, groups, &set, Loc::Stay) }
+        Node::Pass => after(alloc, locations, groups, &Assign::none(), Loc::Stay),
+        Node::Block => after(alloc, locations, groups, &Assign::none(), Loc::Nowhere),
+        Node::Fwd(target, _) => forwarded(alloc, locations, target, names, groups),
+        Node::Test(pred) => kept(alloc, within, locations, groups, pred),
+        Node::Set(set, _) => after(alloc, locations, groups, &set, Loc::Stay),
         Node::Both(first, second) => {
-            let mut either = Groups::new(alloc);
-            add_made(alloc, within, locations, &mut either, first, names, groups)?;
-            add_made(alloc, within, locations, &mut either, second, names, groups)?;
-            regrouped(alloc, &either)
+            summed(alloc, within, locations, first, second, names, groups)
         }
         Node::Then(first, second) => {
-            let between = made_of(alloc, within, locations, first, names, groups)?;
-            made_of(alloc, within, locations, second, names, &between)
+            chained(alloc, within, locations, first, second, names, groups)
         }
     }
+}
+
+/// What either of two policies makes.
+#[cycle(stages)]
+#[inline(never)]
+fn summed<N: Names>(
+    alloc: Global,
+    within: &mut Within<'_>,
+    locations: &[Loc],
+    first: &Tree<'_>,
+    second: &Tree<'_>,
+    names: &N,
+    groups: &Groups,
+) -> Result<Groups, Memory>
+    requires { Covers (N.pid_of names.now) (Both (policy_of first.now) (policy_of second.now)) locations.now }
+    ensures made { IfOk result (AreMade (N.pid_of names.now) (Both (policy_of first.now) (policy_of second.now)) locations.now within.old.cubes.now groups.now) }
+    ensures cubes { within.new.cubes.now ≡ within.old.cubes.now }
+{
+    let mut either = Groups::new(alloc);
+    add_made(alloc, within, locations, &mut either, first, names, groups)?;
+    add_made(alloc, within, locations, &mut either, second, names, groups)?;
+    regrouped(alloc, &either)
+}
+
+/// What the second of two policies makes of what the first makes.
+#[cycle(stages)]
+#[inline(never)]
+fn chained<N: Names>(
+    alloc: Global,
+    within: &mut Within<'_>,
+    locations: &[Loc],
+    first: &Tree<'_>,
+    second: &Tree<'_>,
+    names: &N,
+    groups: &Groups,
+) -> Result<Groups, Memory>
+    requires { Covers (N.pid_of names.now) (Then (policy_of first.now) (policy_of second.now)) locations.now }
+    ensures made { IfOk result (AreMade (N.pid_of names.now) (Then (policy_of first.now) (policy_of second.now)) locations.now within.old.cubes.now groups.now) }
+    ensures cubes { within.new.cubes.now ≡ within.old.cubes.now }
+{
+    let between = made_of(alloc, within, locations, first, names, groups)?;
+    made_of(alloc, within, locations, second, names, &between)
+}
+
+/// Adds what a policy makes.
+#[cycle(stages)]
+#[inline(never)]
+fn add_whole<N: Names>(
+    alloc: Global,
+    within: &mut Within<'_>,
+    locations: &[Loc],
+    either: &mut Groups,
+    tree: &Tree<'_>,
+    names: &N,
+    groups: &Groups,
+) -> Result<(), Memory>
+    requires { Covers (N.pid_of names.now) (policy_of tree.now) locations.now }
+    ensures made { OnOk result ((k : ℕ) (m : AnyCube) → slice_get within.old.cubes.now k ≡ Some m → AreVisits (N.pid_of names.now) (policy_of tree.now) m (given_by locations.now groups.now k) (given_by locations.now either.old k) (given_by locations.now either.new k)) }
+    ensures cubes { within.new.cubes.now ≡ within.old.cubes.now }
+{
+    let made = made_of(alloc, within, locations, tree, names, groups)?;
+    either.add_after(locations, &made, &Assign::none(), Loc::Stay)?;
+    Ok(())
 }
 
 /// Adds what each part of a sum makes, however its brackets stand; of another policy what it makes.
@@ -258,11 +317,7 @@ fn add_made<N: Names>(
             add_made(alloc, within, locations, either, second, names, groups)?;
             Ok(())
         }
-        _ => {
-            let made = made_of(alloc, within, locations, tree, names, groups)?;
-            either.add_after(locations, &made, &Assign::none(), Loc::Stay)?;
-            Ok(())
-        }
+        _ => add_whole(alloc, within, locations, either, tree, names, groups),
     }
 }
 

@@ -1,4 +1,4 @@
-use Rattle.std.proofs.Common.{List, [], refl, sym, ap, ◌∙◌, subst}
+use Rattle.std.proofs.Common.{IfOk, List, [], refl, sym, ap, ◌∙◌, subst}
 use Rattle.net_types.specs.Headers.{no_change}
 use Rattle.net_types.specs.Policies as model
 use Rattle.net_types.specs.declared.headers.Loc.TheVariants.{Stay, Nowhere}
@@ -61,33 +61,46 @@ made_of-returns-in-Set-clause-made g t c =
     subst (λ p. AreVisits pid_of p m items [] (given_by ls made k)) c.in-Set.ensures
     (visits-after pid_of (model.Set c.in-Set.set c.in-Set.field-1) m items c.in-Set.set Stay (λ h l. refl) refl (given_by ls made k) c.in-Set.set refl (same k))) c.after-in-Set.ensures
 
-pub made_of-returns-in_ok-add_made-in-Both-2-clause-made : goal.made_of-returns-in_ok-add_made-in-Both-2-clause-made
-made_of-returns-in_ok-add_made-in-Both-2-clause-made g t c =
+pub made_of-returns-in-Both-clause-made : goal.made_of-returns-in-Both-clause-made
+made_of-returns-in-Both-clause-made g t c =
+    subst (λ p. IfOk c.summed.result (AreMade (g.N.Names.pid_of c.args.names.now) p c.args.locations.now c.args.within.now.cubes.now c.args.groups.now)) c.in-Both.ensures c.summed.ensures.made
+
+pub made_of-returns-in-Then-clause-made : goal.made_of-returns-in-Then-clause-made
+made_of-returns-in-Then-clause-made g t c =
+    subst (λ p. IfOk c.chained.result (AreMade (g.N.Names.pid_of c.args.names.now) p c.args.locations.now c.args.within.now.cubes.now c.args.groups.now)) c.in-Then.ensures c.chained.ensures.made
+
+pub summed-returns-clause-made : goal.summed-returns-clause-made
+summed-returns-clause-made g t c =
     ok-map c.regrouped.result _ _ (λ made same. λ k m there.
     let ls = c.args.locations.now in
     let pid_of = g.N.Names.pid_of c.args.names.now in
-    let p = policy_of c.in-Both.first.now in
-    let q = policy_of c.in-Both.second.now in
+    let p = policy_of c.args.first.now in
+    let q = policy_of c.args.second.now in
     let items = given_by ls c.args.groups.now k in
     let near = given_by ls c.add_made.new.either k in
-    let far = given_by ls c.add_made-in-Both.new.either k in
-    let first : AreVisits pid_of p m items [] near = subst (λ xs. AreVisits pid_of p m items xs near) (c.new-either.ensures ls k) (c.in_ok-add_made-in-Both.ensures.made k m there) in
-    let second : AreVisits pid_of q m items near far = c.in_ok-add_made-in-Both-2.ensures.made k m (ap (λ (cubes : List Cube). slice_get cubes k) c.add_made.ensures.cubes ∙ there) in
-    subst (λ r. AreVisits pid_of r m items [] (given_by ls made k)) c.in-Both.ensures
-    (visits-same pid_of (model.Both p q) m items [] far (given_by ls made k) (visits-both pid_of p q m items [] near far first second) (same ls k))) c.regrouped.ensures
+    let far = given_by ls c.add_made-2.new.either k in
+    let first : AreVisits pid_of p m items [] near = subst (λ xs. AreVisits pid_of p m items xs near) (c.new-either.ensures ls k) (c.in_ok-add_made.ensures.made k m there) in
+    let second : AreVisits pid_of q m items near far = c.in_ok-add_made-2.ensures.made k m (ap (λ (cubes : List Cube). slice_get cubes k) c.add_made.ensures.cubes ∙ there) in
+    visits-same pid_of (model.Both p q) m items [] far (given_by ls made k) (visits-both pid_of p q m items [] near far first second) (same ls k)) c.regrouped.ensures
 
-pub made_of-returns-in_ok-between-in-Then-clause-made : goal.made_of-returns-in_ok-between-in-Then-clause-made
-made_of-returns-in_ok-between-in-Then-clause-made g t c =
-    ok-map c.made_of-in-Then.result _ _ (λ made later. λ k m there.
+pub chained-returns-clause-made : goal.chained-returns-clause-made
+chained-returns-clause-made g t c =
+    ok-map c.made_of-2.result _ _ (λ made later. λ k m there.
     let ls = c.args.locations.now in
     let pid_of = g.N.Names.pid_of c.args.names.now in
-    let p = policy_of c.in-Then.first.now in
-    let q = policy_of c.in-Then.second.now in
+    let p = policy_of c.args.first.now in
+    let q = policy_of c.args.second.now in
     let items = given_by ls c.args.groups.now k in
-    let between = given_by ls c.in_ok-between-in-Then.between k in
-    subst (λ r. AreVisits pid_of r m items [] (given_by ls made k)) c.in-Then.ensures
-    (visits-then pid_of p q m items between [] (given_by ls made k) (c.in_ok-between-in-Then.ensures.made k m there)
-    (later k m (ap (λ (cubes : List Cube). slice_get cubes k) c.made_of.ensures.cubes ∙ there)))) c.made_of-in-Then.ensures.made
+    let between = given_by ls c.in_ok-between.between k in
+    visits-then pid_of p q m items between [] (given_by ls made k) (c.in_ok-between.ensures.made k m there)
+    (later k m (ap (λ (cubes : List Cube). slice_get cubes k) c.made_of.ensures.cubes ∙ there))) c.made_of-2.ensures.made
+
+pub add_whole-returns-clause-made : goal.add_whole-returns-clause-made
+add_whole-returns-clause-made g t c = λ k m there.
+    let pid_of = g.N.Names.pid_of c.args.names.now in
+    let ls = c.args.locations.now in
+    visits-added pid_of (policy_of c.args.tree.now) m (given_by ls c.args.groups.now k) (given_by ls c.in_ok-made.made k) (given_by ls c.args.either.now k) (given_by ls c.add_after.new.self k) _ c.none.ensures
+    (c.in_ok-made.ensures.made k m there) (c.in_ok-add_after.ensures k)
 
 pub add_made-returns-in_ok-add_made-in-Both-2-clause-made : goal.add_made-returns-in_ok-add_made-in-Both-2-clause-made
 add_made-returns-in_ok-add_made-in-Both-2-clause-made g t c = λ k m there.
@@ -102,14 +115,3 @@ add_made-returns-in_ok-add_made-in-Both-2-clause-made g t c = λ k m there.
     subst (λ r. AreVisits pid_of r m items begun far) c.in-Both.ensures
     (visits-both pid_of p q m items begun near far (c.in_ok-add_made-in-Both.ensures.made k m there)
     (c.in_ok-add_made-in-Both-2.ensures.made k m (ap (λ (cubes : List Cube). slice_get cubes k) c.add_made.ensures.cubes ∙ there)))
-
-pub add_made-returns-in_ok-add_after-in_default : goal.add_made-returns-in_ok-add_after-in_default
-add_made-returns-in_ok-add_after-in_default g t c =
-    let ls = c.args.locations.now in
-    let pid_of = g.N.Names.pid_of c.args.names.now in
-    record {
-      made = λ k m there.
-          visits-added pid_of (policy_of c.args.tree.now) m (given_by ls c.args.groups.now k) (given_by ls c.in_ok-made-in_default.made k) (given_by ls c.args.either.now k) (given_by ls c.add_after.new.self k) _ c.none.ensures
-          (c.in_ok-made-in_default.ensures.made k m there) (c.in_ok-add_after-in_default.ensures k);
-      cubes = c.made_of.ensures.cubes;
-    }

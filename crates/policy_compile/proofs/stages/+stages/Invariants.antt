@@ -4,7 +4,16 @@ use Rattle.policy_isolate.specs.Measures.{nodes_of}
 use Rattle.policy_compile.proofs.stages.+stages.Given as goal
 
 abbrev pub decreases-made_of : goal.decreases-made_of
-decreases-made_of g l = 2 * nodes_of (policy_of l.tree.now)
+decreases-made_of g l = 4 * nodes_of (policy_of l.tree.now)
+
+abbrev pub decreases-add_whole : goal.decreases-add_whole
+decreases-add_whole g l = 4 * nodes_of (policy_of l.tree.now) + 1
 
 abbrev pub decreases-add_made : goal.decreases-add_made
-decreases-add_made g l = 2 * nodes_of (policy_of l.tree.now) + 1
+decreases-add_made g l = 4 * nodes_of (policy_of l.tree.now) + 2
+
+abbrev pub decreases-summed : goal.decreases-summed
+decreases-summed g l = 4 * (nodes_of (policy_of l.first.now) + nodes_of (policy_of l.second.now)) + 3
+
+abbrev pub decreases-chained : goal.decreases-chained
+decreases-chained g l = 4 * (nodes_of (policy_of l.first.now) + nodes_of (policy_of l.second.now)) + 3
