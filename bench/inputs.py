@@ -529,6 +529,118 @@ BY_COLUMNS = [
 ]
 SLOWEST += [(name, ports_without_routes, ("in", "B"), policy) for name, policy in BY_COLUMNS]
 
+def to_ports(tests, first):
+    """A sum of tests, each before a port of its own."""
+    return "+".join(f"match({test})>>fwd({first + n})" for n, test in enumerate(tests))
+
+
+def set_by(field, values, to):
+    """A sum of tests of a field's values, each before an assignment of its own."""
+    return "+".join(f"match({field}={value})>>modify({to}={n})" for n, value in enumerate(values, 1))
+
+
+def either_way(field, values, to):
+    """The same, and for each value an assignment behind the test by `!`."""
+    return set_by(field, values, to) + "+" + "+".join(f"match(!{field}={value})>>modify({to}={n + 15})" for n, value in enumerate(values, 1))
+
+
+def fourfold(count, first):
+    """Fifteen tests of a field, each before so many assignments of its own."""
+    field, to = first
+    return "+".join(f"match({field}={value})>>({settings(to, range(4 * n, 4 * n + count))})" for n, value in enumerate(nets(15), 1))
+
+
+def repeated_behind(start, piece, last):
+    """A text, a piece as often behind it as there is room for, and the last one."""
+    return start + piece * ((8192 - len(start) - len(last)) // len(piece)) + last
+
+
+# texts that were made by reading the compiler: results that differ in their ports alone before many parts, a set of cubes for each
+# assignment and port, tests of many values behind many assignments, copies, and two assignments whose numbers were made to agree
+BESIDE = "(" + BESIDE_PORTS + ")"
+UNLIKE = "(match(proto=1)+fwd(5))>>"
+ALIKE = "modify(srcip=128.0.0.0,dstip=128.0.0.0,srcport=32768,dstport=32768)+modify(srcip=127.217.46.168,dstip=128.82.25.82,srcport=32789,dstport=32673)"
+ADDRESSES = ">>".join("(" + settings(field, [f"{i}.0.0.0" for i in range(1, 33)]) + ")" for field in ("srcip", "dstip"))
+EITHER_WAY = f"({either_way('srcip', nets(15), 'srcport')})>>({either_way('dstip', nets(15), 'dstport')})"
+BY_READING = [
+    ("in, two assignments whose numbers agree, before forty sums of `pass` and `pass`, no routes", f"({twice(within(20))}+{ALIKE})" + ">>(pass+pass)" * 40),
+    ("in, 248000 results before hundreds of `pass`, before tests that leave little, no routes", repeated_behind(BESIDE, ">>pass", LITTLE)),
+    ("in, 248000 results before a sum of hundreds of `pass`, before tests that leave little, no routes", repeated_behind(BESIDE + ">>(pass", "+pass", ")" + LITTLE)),
+    ("in, 1024 assignments before thirty ports before a test of 480 values, no routes",
+     f"{ADDRESSES}>>({to_ports(tests_of('srcport', range(30)), 5)})>>match(" + "|".join(tests_of("srcport", range(255)) + tests_of("dstport", range(225))) + ")"),
+    ("in, a set of cubes for each of 900 assignments and each of sixty ports, no routes",
+     f"{UNLIKE}(({set_by('srcip', nets(30), 'srcport')})>>({set_by('dstip', nets(30), 'dstport')})>>({to_ports(tests_of('proto', range(1, 61)), 5)}))"),
+    ("in, the same by tests by `!`, no routes", f"{UNLIKE}(({EITHER_WAY})>>({to_ports(tests_of('proto', range(60)), 5)}))"),
+    ("in, thirty assignments of each of two fields before 255 tests before a hundred ports, no routes",
+     f"{UNLIKE}(({fourfold(2, ('srcip', 'srcport'))})>>({fourfold(2, ('dstip', 'dstport'))})>>{either('proto', 255)}>>({ports(5, 105)}))"),
+    ("in, tests of thirty values before 1000 times `pass` before 65536 meets, no routes", f"({THIRTY})>>(" + "+".join(["pass"] * 1000) + f")>>({grid_of(15)})"),
+    ("in, tests of thirty values before 120 times `pass` before 65536 meets before sixteen ports, no routes",
+     f"({THIRTY})>>(" + "+".join(["pass"] * 120) + f")>>(({grid_of(15)})>>({ports(5, 21)}))"),
+    ("in, sums of 66 million results before tests that leave little, no routes",
+     "((" + denied(15, lambda n: "(" + settings("srcport", range(5 * n + 1, 5 * n + 5 + n % 2)) + ")") + ")>>(" + ports(5, 9) + "))" + LITTLE),
+]
+SLOWEST += [(name, ports_without_routes, ("in", "B"), policy) for name, policy in BY_READING]
+
+
+def behind_one_another(count, targets):
+    """Source and destination prefixes each within the one before, and tests of the protocol and of both ports."""
+    lengths = [f"0.0.0.0/{length}" for length in range(1, count + 1)]
+    fields = [("srcip", lengths), ("dstip", lengths), ("srcport", (1, 2)), ("dstport", targets), ("proto", (6, 17))]
+    return "(" + "+".join("match(" + "|".join(tests_of(field, values)) + ")" for field, values in fields) + ")"
+
+
+def receiver_of(policy):
+    """B announces a prefix, and has the policy."""
+    def start(out):
+        exchange_of_two(out)
+        out.write(line("update", "B", update(b"", b"\x08\x0a").hex()))
+        out.write(line("in", "B", policy))
+    return start
+
+
+def receivers_of(count, prefixes):
+    """So many participants announce prefixes to the first one alone, and the policy of each has 65536 rules."""
+    def start(out):
+        participants(out, count + 1)
+        for n in range(1, count + 1):
+            out.write(line("export", named(n), f"allow {named(0)} *; deny * *"))
+            out.write(line("in", named(n), four_fields(1, 15, f">>fwd({n + 1})")))
+        for number in range(prefixes):
+            for n in range(1 + number, count + 1):
+                out.write(announced(n, bytes([8, 10 + number])))
+    return start
+
+
+def each_of(count):
+    return "+".join(f"fwd({named(n)})" for n in range(1, count + 1))
+
+
+def announcers(count, prefixes):
+    """So many participants announce prefixes, of which each later one is announced by one participant fewer."""
+    def start(out):
+        participants(out, count + 1)
+        for number in range(prefixes):
+            for n in range(1 + number, count + 1):
+                out.write(announced(n, bytes([8, 10 + number])))
+    return start
+
+
+def other_nine(n):
+    return "(" + settings("srcport", range(3 * n, 3 * n + 3)) + ")>>(" + settings("dstport", range(3, 6)) + ")"
+
+
+# what takes more than ten seconds or 2 GB: joining a sender's rules with receivers', and what is in place of what is as large
+BEYOND = [
+    ("out, prefixes within prefixes to a receiver that tests the same", receiver_of(behind_one_another(32, (1, 2)) + ">>fwd(2)"), ("out", "A"), behind_one_another(32, (1, 2)) + ">>fwd(B)"),
+    ("out, the same to one that tests one value more", receiver_of(behind_one_another(32, (1, 2, 3)) + ">>fwd(2)"), ("out", "A"), behind_one_another(32, (1, 2)) + ">>fwd(B)"),
+    ("out, one rule to 64 receivers of 65536 rules each", receivers_of(64, 1), ("out", named(0)), each_of(64)),
+    ("out, one rule to sixteen such receivers, for eight tags", receivers_of(16, 8), ("out", named(0)), each_of(16)),
+    ("out, 65536 meets and 240 targets each, for two tags", announcers(240, 2), ("out", named(0)), four_fields(1, 15, "") + "+" + each_of(240)),
+    ("in, 58 tests by `!`, each before nine assignments, in place of as many others", receiver_of(denied(13, nine_each)), ("in", "B"), denied(13, other_nine)),
+    ("in, 900 assignments by tests before a sum of 255 tests, before tests that leave little, no routes", ports_without_routes, ("in", "B"),
+     f"{EITHER_WAY}>>(" + "+".join(f"match(proto={n})" for n in range(255)) + ")" + LITTLE),
+]
+
 # a policy that is accepted, and the reply to which has 248000 actions in each of 65536 rules
 ENDLESS = ("in, 65536 meets and 992 assignments before 250 ports", exchange_of_many_ports, ("in", "B"), BEFORE_PORTS)
 
