@@ -1,5 +1,6 @@
 //! What the paths of a policy make in all cubes at once. A policy of 8192 octets has chains and sums of over a thousand parts, and
-//! the tree is gone down part by part: so what is done in a part stays out of line, and the way down needs little of the stack.
+//! the tree is gone down part by part: so what is done in a part stays out of line, and what a part makes is put in place. The way
+//! down a chain or a sum needs little of the stack, and only brackets within one another need more.
 
 ghost use Rattle.std.specs.Prelude.{◌≡◌, ◌<◌, ◌&&◌, ◌∷◌, [], ℕ, List, length, map, filter, Some, IfOk, OnOk};
 ghost use Rattle.std.specs.List.{slice_get};
@@ -270,8 +271,100 @@ fn chained<N: Names>(
     ensures made { IfOk result (AreMade (N.pid_of names.now) (Then (policy_of first.now) (policy_of second.now)) locations.now within.old.cubes.now groups.now) }
     ensures cubes { within.new.cubes.now ≡ within.old.cubes.now }
 {
-    let between = made_of(alloc, within, locations, first, names, groups)?;
-    made_of(alloc, within, locations, second, names, &between)
+    let mut made = Groups::new(alloc);
+    put_made(alloc, within, locations, &mut made, first, names, groups)?;
+    put_behind(alloc, within, locations, &mut made, second, names)?;
+    Ok(made)
+}
+
+/// Makes in place what a policy makes.
+#[cycle(stages)]
+#[inline(never)]
+fn put_whole<N: Names>(
+    alloc: Global,
+    within: &mut Within<'_>,
+    locations: &[Loc],
+    made: &mut Groups,
+    tree: &Tree<'_>,
+    names: &N,
+    groups: &Groups,
+) -> Result<(), Memory>
+    requires { Covers (N.pid_of names.now) (policy_of tree.now) locations.now }
+    ensures made { OnOk result (AreMade (N.pid_of names.now) (policy_of tree.now) locations.now within.old.cubes.now groups.now made.new) }
+    ensures cubes { within.new.cubes.now ≡ within.old.cubes.now }
+{
+    *made = made_of(alloc, within, locations, tree, names, groups)?;
+    Ok(())
+}
+
+/// Makes in place what a policy makes: of a chain part by part, however its brackets stand.
+#[cycle(stages)]
+#[inline(never)]
+fn put_made<N: Names>(
+    alloc: Global,
+    within: &mut Within<'_>,
+    locations: &[Loc],
+    made: &mut Groups,
+    tree: &Tree<'_>,
+    names: &N,
+    groups: &Groups,
+) -> Result<(), Memory>
+    requires { Covers (N.pid_of names.now) (policy_of tree.now) locations.now }
+    ensures made { OnOk result (AreMade (N.pid_of names.now) (policy_of tree.now) locations.now within.old.cubes.now groups.now made.new) }
+    ensures cubes { within.new.cubes.now ≡ within.old.cubes.now }
+{
+    match tree.node() {
+        Node::Then(first, second) => {
+            put_made(alloc, within, locations, made, first, names, groups)?;
+            put_behind(alloc, within, locations, made, second, names)?;
+            Ok(())
+        }
+        _ => put_whole(alloc, within, locations, made, tree, names, groups),
+    }
+}
+
+/// Takes results to what a policy makes of them, in place.
+#[cycle(stages)]
+#[inline(never)]
+fn put_whole_behind<N: Names>(
+    alloc: Global,
+    within: &mut Within<'_>,
+    locations: &[Loc],
+    made: &mut Groups,
+    tree: &Tree<'_>,
+    names: &N,
+) -> Result<(), Memory>
+    requires { Covers (N.pid_of names.now) (policy_of tree.now) locations.now }
+    ensures made { OnOk result (AreMade (N.pid_of names.now) (policy_of tree.now) locations.now within.old.cubes.now made.old made.new) }
+    ensures cubes { within.new.cubes.now ≡ within.old.cubes.now }
+{
+    *made = made_of(alloc, within, locations, tree, names, made)?;
+    Ok(())
+}
+
+/// Takes results to what a policy makes of them, in place: of a chain part by part, however its brackets stand.
+#[cycle(stages)]
+#[inline(never)]
+fn put_behind<N: Names>(
+    alloc: Global,
+    within: &mut Within<'_>,
+    locations: &[Loc],
+    made: &mut Groups,
+    tree: &Tree<'_>,
+    names: &N,
+) -> Result<(), Memory>
+    requires { Covers (N.pid_of names.now) (policy_of tree.now) locations.now }
+    ensures made { OnOk result (AreMade (N.pid_of names.now) (policy_of tree.now) locations.now within.old.cubes.now made.old made.new) }
+    ensures cubes { within.new.cubes.now ≡ within.old.cubes.now }
+{
+    match tree.node() {
+        Node::Then(first, second) => {
+            put_behind(alloc, within, locations, made, first, names)?;
+            put_behind(alloc, within, locations, made, second, names)?;
+            Ok(())
+        }
+        _ => put_whole_behind(alloc, within, locations, made, tree, names),
+    }
 }
 
 /// Adds what a policy makes.

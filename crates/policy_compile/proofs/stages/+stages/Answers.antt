@@ -84,16 +84,37 @@ summed-returns-clause-made g t c =
     visits-same pid_of (model.Both p q) m items [] far (given_by ls made k) (visits-both pid_of p q m items [] near far first second) (same ls k)) c.regrouped.ensures
 
 pub chained-returns-clause-made : goal.chained-returns-clause-made
-chained-returns-clause-made g t c =
-    ok-map c.made_of-2.result _ _ (λ made later. λ k m there.
+chained-returns-clause-made g t c = λ k m there.
     let ls = c.args.locations.now in
     let pid_of = g.N.Names.pid_of c.args.names.now in
     let p = policy_of c.args.first.now in
     let q = policy_of c.args.second.now in
+    visits-then pid_of p q m (given_by ls c.args.groups.now k) (given_by ls c.put_made.new.made k) [] (given_by ls c.put_behind.new.made k) (c.in_ok-put_made.ensures.made k m there)
+    (c.in_ok-put_behind.ensures.made k m (ap (λ (cubes : List Cube). slice_get cubes k) c.put_made.ensures.cubes ∙ there))
+
+pub put_made-returns-in_ok-put_behind-in-Then-clause-made : goal.put_made-returns-in_ok-put_behind-in-Then-clause-made
+put_made-returns-in_ok-put_behind-in-Then-clause-made g t c = λ k m there.
+    let ls = c.args.locations.now in
+    let pid_of = g.N.Names.pid_of c.args.names.now in
+    let p = policy_of c.in-Then.first.now in
+    let q = policy_of c.in-Then.second.now in
     let items = given_by ls c.args.groups.now k in
-    let between = given_by ls c.in_ok-between.between k in
-    visits-then pid_of p q m items between [] (given_by ls made k) (c.in_ok-between.ensures.made k m there)
-    (later k m (ap (λ (cubes : List Cube). slice_get cubes k) c.made_of.ensures.cubes ∙ there))) c.made_of-2.ensures.made
+    let far = given_by ls c.put_behind.new.made k in
+    subst (λ r. AreVisits pid_of r m items [] far) c.in-Then.ensures
+    (visits-then pid_of p q m items (given_by ls c.put_made.new.made k) [] far (c.in_ok-put_made-in-Then.ensures.made k m there)
+    (c.in_ok-put_behind-in-Then.ensures.made k m (ap (λ (cubes : List Cube). slice_get cubes k) c.put_made.ensures.cubes ∙ there)))
+
+pub put_behind-returns-in_ok-put_behind-in-Then-2-clause-made : goal.put_behind-returns-in_ok-put_behind-in-Then-2-clause-made
+put_behind-returns-in_ok-put_behind-in-Then-2-clause-made g t c = λ k m there.
+    let ls = c.args.locations.now in
+    let pid_of = g.N.Names.pid_of c.args.names.now in
+    let p = policy_of c.in-Then.first.now in
+    let q = policy_of c.in-Then.second.now in
+    let items = given_by ls c.args.made.now k in
+    let far = given_by ls c.put_behind-in-Then.new.made k in
+    subst (λ r. AreVisits pid_of r m items [] far) c.in-Then.ensures
+    (visits-then pid_of p q m items (given_by ls c.put_behind.new.made k) [] far (c.in_ok-put_behind-in-Then.ensures.made k m there)
+    (c.in_ok-put_behind-in-Then-2.ensures.made k m (ap (λ (cubes : List Cube). slice_get cubes k) c.put_behind.ensures.cubes ∙ there)))
 
 pub add_whole-returns-clause-made : goal.add_whole-returns-clause-made
 add_whole-returns-clause-made g t c = λ k m there.

@@ -17,3 +17,15 @@ decreases-summed g l = 4 * (nodes_of (policy_of l.first.now) + nodes_of (policy_
 
 abbrev pub decreases-chained : goal.decreases-chained
 decreases-chained g l = 4 * (nodes_of (policy_of l.first.now) + nodes_of (policy_of l.second.now)) + 3
+
+abbrev pub decreases-put_whole : goal.decreases-put_whole
+decreases-put_whole g l = 4 * nodes_of (policy_of l.tree.now) + 1
+
+abbrev pub decreases-put_made : goal.decreases-put_made
+decreases-put_made g l = 4 * nodes_of (policy_of l.tree.now) + 2
+
+abbrev pub decreases-put_whole_behind : goal.decreases-put_whole_behind
+decreases-put_whole_behind g l = 4 * nodes_of (policy_of l.tree.now) + 1
+
+abbrev pub decreases-put_behind : goal.decreases-put_behind
+decreases-put_behind g l = 4 * nodes_of (policy_of l.tree.now) + 2
