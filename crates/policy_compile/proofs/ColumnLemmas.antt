@@ -1,11 +1,11 @@
 -- Keys with the sets of the places at which they are given.
-use Rattle.std.proofs.Common.{arith, ◌≡◌, ◌<◌, ◌⊎◌, ℕ, zero, suc, Bool, true, false, ◌||◌, cond, map, slice_set, Some, None, List, [], ◌∷◌, ◌++◌, length, unwrap_or, refl, inl, inr, sym, ap, ◌∙◌, subst}
+use Rattle.std.proofs.Common.{◌≡◌, ◌<◌, ◌⊎◌, ℕ, zero, suc, Bool, true, false, ◌||◌, cond, slice_set, Some, None, List, [], ◌∷◌, ◌++◌, length, unwrap_or, refl, inl, inr, sym, ap, ◌∙◌, subst}
 use Rattle.std.proofs.Common.{slice_index_or as get_or}
 use Rattle.std.specs.List.{slice_get}
 use Rattle.std.specs.Option.{option_map}
 use Rattle.std.proofs.lemmas.Bool.{cases_Bool, cases_lt}
 use Rattle.std.proofs.lemmas.Option.{slice_get-get_or, slice_get_past, slice_get_within}
-use Rattle.std.proofs.lemmas.List.{append-nil, append_assoc, length-map}
+use Rattle.std.proofs.lemmas.List.{append-nil}
 use Rattle.net_types.specs.Sets.{Member, SameMembers}
 use Rattle.net_types.proofs.SetLemmas
 use Rattle.policy_compile.specs.declared.memo.Noted.{Noted}
@@ -224,3 +224,13 @@ carried-put sets new n m s copy inside at same number = record {
 
 pub all-carried : (sets old new : List Places) (noted : List (Noted ℕ ℕ)) → KeepSets old new → AreCarried sets old noted → AreCarried sets new noted
 all-carried sets old new noted kept are = λ e m. carried-kept sets old new e.key e.value kept (are e m)
+
+-- ---- a table of the columns' sets alone
+
+-- a column more, with the number of its set in another table
+pub renewed-more : (sets old now : List Places) (cs front whole : List Column) (x : Column) (n : ℕ) (made : List Key) (k : ℕ) → whole ≡ front ++ x ∷ [] → ((c : Column) → Member c cs → c.set < length old) → KeepSets old now
+    → IsCarried sets now x.set n → made ≡ given now cs k ++ cond (set_at now n k) (x.key ∷ []) [] → given old cs k ≡ given sets front k → made ≡ given sets whole k
+renewed-more sets old now cs front whole x n made k more inside kept carried is known =
+    is ∙ ap (λ xs. xs ++ cond (set_at now n k) (x.key ∷ []) []) (given-kept old now cs kept inside k ∙ known)
+    ∙ ap (λ b. given sets front k ++ cond b (x.key ∷ []) []) (carried.is k)
+    ∙ sym (given-pushed sets front x k) ∙ sym (ap (λ ds. given sets ds k) more)

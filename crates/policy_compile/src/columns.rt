@@ -116,6 +116,19 @@ impl Columns {
         Ok(())
     }
 
+    /// Puts a key last, with the number of its set, and notes where it stands.
+    fn push_noted(&mut self, key: Key, set: usize) -> Result<(), Memory>
+        requires { set < length self.old.sets.sets.items }
+        ensures given { OnOk result ((k : ℕ) → given self.new.sets.sets.items self.new.columns.items k ≡ given self.old.sets.sets.items self.old.columns.items k ++ (if set_at self.old.sets.sets.items set k then key ∷ [] else [])) }
+        ensures sets { self.new.sets ≡ self.old.sets }
+        ensures below { (n : ℕ) → AreBelow n self.old.columns.items → key.number < n → AreBelow n self.new.columns.items }
+    {
+        let place = self.columns.len();
+        self.push(key, set)?;
+        self.places.note(key, place)?;
+        Ok(())
+    }
+
     /// Adds a key with the number of its set: to the column that it has, or in a new one.
     pub fn add(&mut self, key: Key, set: usize) -> Result<(), Memory>
         requires { set < length self.old.sets.sets.items }
@@ -131,11 +144,36 @@ impl Columns {
                 Ok(())
             }
             None => {
-                let place = self.columns.len();
-                self.push(key, set)?;
-                self.places.note(key, place)?;
+                self.push_noted(key, set)?;
                 Ok(())
             }
         }
+    }
+
+    /// The same keys at the same places, over a table that has their sets alone.
+    fn renewed(&self) -> Result<Columns, Memory>
+        ensures given { IfOk result (λ made. (k : ℕ) → given made.sets.sets.items made.columns.items k ≡ given self.now.sets.sets.items self.now.columns.items k) }
+        ensures below { IfOk result (λ made. (n : ℕ) → AreBelow n self.now.columns.items → AreBelow n made.columns.items) }
+    {
+        let mut made = Columns::new(self.alloc);
+        let mut asked = Memo::new(self.alloc);
+        for column in self.columns.iter() {
+            let set = made
+                .sets
+                .carry(self.alloc, &mut asked, &self.sets.sets, column.set)?;
+            made.push_noted(column.key, set)?;
+        }
+        Ok(made)
+    }
+
+    /// Leaves behind the sets that no column has any more, once there are more than twice as many sets as columns.
+    pub fn lighten(&mut self) -> Result<(), Memory>
+        ensures given { OnOk result ((k : ℕ) → given self.new.sets.sets.items self.new.columns.items k ≡ given self.old.sets.sets.items self.old.columns.items k) }
+        ensures below { (n : ℕ) → AreBelow n self.old.columns.items → AreBelow n self.new.columns.items }
+    {
+        if self.sets.sets.len() / 2 > self.columns.len() {
+            *self = self.renewed()?;
+        }
+        Ok(())
     }
 }

@@ -89,6 +89,7 @@ impl Groups {
             )?;
             self.columns.add(key, places)?;
         }
+        self.columns.lighten()?;
         Ok(())
     }
 }

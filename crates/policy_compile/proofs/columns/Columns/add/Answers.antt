@@ -7,7 +7,7 @@ use Rattle.net_types.proofs.FindLemmas.{slice_get-Member}
 use Rattle.policy_compile.specs.declared.columns.Column.{Column}
 use Rattle.policy_compile.specs.declared.columns.Key.{Key}
 use Rattle.policy_compile.specs.Columns.{AreBelow, given, set_at}
-use Rattle.policy_compile.proofs.ColumnLemmas.{below-set, columns-set, given-added, item-read, last-place, place-inside, place-noted}
+use Rattle.policy_compile.proofs.ColumnLemmas.{below-set, columns-set, given-added, item-read, place-inside}
 use Rattle.policy_compile.proofs.columns.Columns.add.Goals as goal
 
 pub index-requires : goal.index-requires
@@ -49,19 +49,6 @@ invariant_of-self c =
           c.in_ok-both-in-Some.ensures.union.inside (ap (option_map (λ (d : Column). d.key)) at) new.are;
     }
 
-pub invariant_of-self-in-None : goal.invariant_of-self-in-None
-invariant_of-self-in-None c =
-    let old = c.args.self.now in
-    let new = c.push.new.self in
-    let x : Column = record { key = c.args.key; set = c.args.set } in
-    let at : slice_get new.columns.items c.len-place.result ≡ Some x =
-    ap (λ (cs : List Column). slice_get cs c.len-place.result) c.in_ok-push-in-None.ensures.columns
-    ∙ ap (slice_get _) (c.len-place.ensures ∙ old.columns.ok.0) ∙ last-place old.columns.items x in
-    record {
-      are = place-noted new.sets.sets.items new.columns.items new.unions.noted.items new.places.noted.items c.note.new.self.noted.items (c.args.key) c.len-place.result
-          new.are c.note.ensures (ap (option_map (λ (d : Column). d.key)) at);
-    }
-
 pub returns-in_ok-both-in-Some-clause-given : goal.returns-in_ok-both-in-Some-clause-given
 returns-in_ok-both-in-Some-clause-given c = λ k.
     let old = c.args.self.now in
@@ -94,9 +81,6 @@ returns-in_ok-both-in-Some-clause-below c = λ n are inside.
     c.index_mut.ensures.value ∙ ap (λ (ds : List Column). slice_index_or ds p y) c.union.ensures.columns ∙ get_or_from_slice_get cs p x y at in
     below-set n new.columns.items p (record { key = y.key; set = c.in_ok-both-in-Some.both }) (subst (AreBelow n) (sym c.union.ensures.columns) are)
     (subst (λ (k : Key). k.number < n) (sym (ap (λ (d : Column). d.key) same ∙ item-read cs p c.args.key x there at)) inside)
-
-pub returns-in_ok-note-in-None-clause-below : goal.returns-in_ok-note-in-None-clause-below
-returns-in_ok-note-in-None-clause-below c = λ n are inside. c.push.ensures.below n are inside
 
 pub returns-in_err-both-in-Some-clause-below : goal.returns-in_err-both-in-Some-clause-below
 returns-in_err-both-in-Some-clause-below c = λ n are inside. subst (AreBelow n) (sym c.union.ensures.columns) are

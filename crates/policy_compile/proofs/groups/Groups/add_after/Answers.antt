@@ -1,12 +1,12 @@
-use Rattle.std.proofs.Common.{arith, ◌≡◌, ◌<◌, ◌∙◌, ◌++◌, ◌+◌, ℕ, Some, List, length, map, slice_index_or, refl, sym, ap, subst, take}
+use Rattle.std.proofs.Common.{arith, ◌≡◌, ◌<◌, ◌∙◌, ◌++◌, ◌+◌, Some, List, length, map, slice_index_or, sym, ap, subst, take}
 use Rattle.std.specs.List.{slice_get}
-use Rattle.std.proofs.lemmas.List.{append-nil, take_all, take_more}
+use Rattle.std.proofs.lemmas.List.{take_all, take_more}
 use Rattle.std.proofs.lemmas.Option.{slice_get-get_or}
 use Rattle.net_types.specs.Headers.{no_change}
-use Rattle.net_types.specs.Sets.{Member, SameMembers, union_over}
+use Rattle.net_types.specs.Sets.{SameMembers, union_over}
 use Rattle.net_types.proofs.FindLemmas.{slice_get-Member}
-use Rattle.net_types.proofs.SetLemmas
 use Rattle.policy_compile.specs.declared.columns.Column.{Column}
+use Rattle.policy_compile.specs.declared.columns.Key.{Key}
 use Rattle.policy_compile.specs.Columns.{AreCarried, IsCarried, Places, given}
 use Rattle.policy_compile.specs.Groups.{AreMoved, IsMoved, ways_of}
 use Rattle.policy_compile.specs.Given.{given_by}
@@ -93,11 +93,19 @@ loop-column-preserved c =
           (subst (λ (sets : List Places). AreCarried sets c.carry.new.self.sets.items c.carry.new.asked.noted.items) c.deref-in-loop-column.ensures.value c.in_ok-places.ensures.asked);
     }
 
+pub invariant_of-self-2 : goal.invariant_of-self-2
+invariant_of-self-2 c =
+    let known = c.loop-column.self in
+    record { are = c.lighten.ensures.below (length known.ways.sets.items) known.are }
+
 pub returns : goal.returns
 returns c = λ k.
     let ls = c.args.locations.now in
     let others = c.args.others.now in
+    let known = c.loop-column.self in
     let items = c.deref-column-items.result.now in
     let whole = take_all c.loop-column.column-index items (omega (arith, c.loop-column-test.false)) ∙ c.deref-column-items.ensures.value in
-    subst (λ (cs : List Column). SameMembers (given_by ls c.loop-column.self k) (given_by ls c.args.self.now k ++ map (after_item c.args.set.now c.args.loc) (union_over (ways_of ls others.ways.sets.items) (given others.columns.sets.sets.items cs k))))
-    whole (c.loop-column.invariant.given k)
+    subst (λ (keys : List Key). SameMembers (union_over (ways_of ls known.ways.sets.items) keys) (given_by ls c.args.self.now k ++ map (after_item c.args.set.now c.args.loc) (given_by ls others k)))
+    (sym (c.in_ok-lighten.ensures.given k))
+    (subst (λ (cs : List Column). SameMembers (given_by ls known k) (given_by ls c.args.self.now k ++ map (after_item c.args.set.now c.args.loc) (union_over (ways_of ls others.ways.sets.items) (given others.columns.sets.sets.items cs k))))
+    whole (c.loop-column.invariant.given k))
