@@ -1,10 +1,9 @@
-//! Cubes of which the first with a packet's headers tells each atom that has them.
+//! Cubes cut by one more.
 
-ghost use Rattle.std.specs.Prelude.{◌≡◌, ◌∷◌, [], ◌++◌, List, IfOk, OnOk};
-ghost use Rattle.net_types.specs.declared.cube.Cube.{Cube as AnyCube};
+ghost use Rattle.std.specs.Prelude.{◌≡◌, ◌++◌, IfOk, OnOk, OnErr};
 ghost use Rattle.classifier.specs.Seen.{cube_eq};
-ghost use Rattle.policy_compile.specs.Sets.{adds};
-ghost use Rattle.policy_compile.specs.Cells.{AreCells, met_by, outside, cut};
+ghost use Rattle.cells.specs.Adds.{adds};
+ghost use Rattle.cells.specs.Cells.{met_by, outside, cut, with_atom};
 
 use indexmap::IndexSet;
 use net_types::{Cube, Memory};
@@ -46,24 +45,15 @@ fn cut_by(alloc: Global, atom: &Cube, cubes: &[Cube]) -> Result<Vec<Cube>, Memor
     Ok(all)
 }
 
-/// The same, where the atom is none of the cubes: then it cuts none of them.
-fn with_atom(alloc: Global, atom: &Cube, cubes: Vec<Cube>) -> Result<Vec<Cube>, Memory>
-    ensures { IfOk result (λ v. (atoms : List AnyCube) → AreCells atoms cubes.items → AreCells (atoms ++ atom.now ∷ []) v.items) }
+/// Cuts the cubes by one more atom, unless it is one of them: then it cuts none of them.
+pub fn cut_more(alloc: Global, atom: &Cube, cubes: &mut Vec<Cube>) -> Result<(), Memory>
+    ensures cut { OnOk result (cubes.new.items ≡ with_atom atom.now cubes.old.items) }
+    ensures unchanged { OnErr result (cubes.new.items ≡ cubes.old.items) }
 {
     if cubes.contains(atom) {
-        return Ok(cubes);
+        return Ok(());
     }
-    let more = cut_by(alloc, atom, &cubes)?;
-    Ok(more)
-}
-
-/// The meets of the atoms, each once, before those that are wider where that matters.
-pub fn cells_of(alloc: Global, atoms: &[Cube]) -> Result<Vec<Cube>, Memory>
-    ensures { IfOk result (λ v. AreCells atoms.now v.items) }
-{
-    let mut cubes = Vec::new(alloc);
-    for atom in atoms {
-        cubes = with_atom(alloc, atom, cubes)?;
-    }
-    Ok(cubes)
+    let more = cut_by(alloc, atom, cubes)?;
+    *cubes = more;
+    Ok(())
 }

@@ -13,9 +13,9 @@ use Rattle.net_types.proofs.CubeLemmas.{has-everything, has-meet, has-met, has_o
 use Rattle.net_types.proofs.MeetLemmas.{IsMeet-meet, IsMeet-member, IsMeet-append_left}
 use Rattle.classifier.specs.Seen.{cube_eq}
 use Rattle.classifier.proofs.SeenLemmas.{cube_eq_exact, cube_eq_refl}
-use Rattle.policy_compile.specs.Sets.{adds}
-use Rattle.policy_compile.specs.Cells.{first_of, AreCells, met_by, outside, cut}
-use Rattle.policy_compile.proofs.SetsLemmas.{any-Member, cubes-same}
+use Rattle.cells.specs.Adds.{adds}
+use Rattle.cells.specs.Cells.{first_of, AreCells, AreMeets, met_by, outside, cut}
+use Rattle.cells.proofs.AddsLemmas.{any-Member, cubes-same}
 
 -- ---- cubes put last, each once
 
@@ -145,7 +145,7 @@ cut-narrow atoms xs c f h a k t = elim (cases_Bool (has c h)) [
       ]
 ]
 
-cut-meets : (atoms xs : List Cube) (c : Cube) → AreCells atoms xs → (x : Cube) → Member x (cut c xs) → IsMeet (atoms ++ c ∷ []) x
+pub cut-meets : (atoms xs : List Cube) (c : Cube) → AreMeets atoms xs → AreMeets (atoms ++ c ∷ []) (cut c xs)
 cut-meets atoms xs c f x k =
     let more = atoms ++ c ∷ [] in
     let itself : IsMeet more c = IsMeet-member more c (SetLemmas.Member-append_right atoms (c ∷ []) c (inl refl)) in
@@ -154,10 +154,10 @@ cut-meets atoms xs c f x k =
       | inl within ↦ elim (SetLemmas.Member-append_cases kept (c ∷ []) x ((cubes-same kept (c ∷ [])).onto x within)) [
         | inl met ↦
             let m = met-from c xs x ((cubes-same [] (met_by c xs)).onto x met) in
-            IsMeet-meet more c m.of x itself (IsMeet-append_left atoms (c ∷ []) m.of (f.meets m.of m.stands)) m.is
+            IsMeet-meet more c m.of x itself (IsMeet-append_left atoms (c ∷ []) m.of (f m.of m.stands)) m.is
         | inr new ↦ elim new [ inl e ↦ subst (IsMeet more) (sym e) itself | inr none ↦ elim none [ ] ]
       ]
-      | inr beyond ↦ IsMeet-append_left atoms (c ∷ []) x (f.meets x (outside-from c xs x beyond))
+      | inr beyond ↦ IsMeet-append_left atoms (c ∷ []) x (f x (outside-from c xs x beyond))
     ]
 
 -- no atoms, and one atom more
@@ -165,7 +165,7 @@ pub cells-none : AreCells [] []
 cells-none = record { narrow = λ h a k t. elim k [ ]; meets = λ x k. elim k [ ] }
 
 pub cells-more : (atoms xs : List Cube) (c : Cube) → AreCells atoms xs → AreCells (atoms ++ c ∷ []) (cut c xs)
-cells-more atoms xs c f = record { narrow = cut-narrow atoms xs c f; meets = cut-meets atoms xs c f }
+cells-more atoms xs c f = record { narrow = cut-narrow atoms xs c f; meets = cut-meets atoms xs c f.meets }
 
 -- a cube that lies within each atom that has some headers lies within each meet that has them
 within-meet : (atoms : List Cube) (m c : Cube) (h : Headers) → ((a : Cube) → Member a atoms → has a h ≡ true → lies_within_cube m a ≡ true) → IsMeet atoms c → has c h ≡ true → lies_within_cube m c ≡ true

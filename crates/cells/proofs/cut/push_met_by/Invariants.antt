@@ -1,8 +1,8 @@
 use Rattle.std.proofs.Common.{◌≡◌, drop}
 use Rattle.classifier.specs.Seen.{cube_eq}
-use Rattle.policy_compile.specs.Sets.{adds}
-use Rattle.policy_compile.specs.Cells.{met_by}
-use Rattle.policy_compile.proofs.cells.push_met_by.Given as goal
+use Rattle.cells.specs.Adds.{adds}
+use Rattle.cells.specs.Cells.{met_by}
+use Rattle.cells.proofs.cut.push_met_by.Given as goal
 
 -- what is left makes the whole
 abbrev pub invariant-loop-other : goal.invariant-loop-other

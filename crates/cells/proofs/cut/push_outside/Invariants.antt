@@ -1,6 +1,6 @@
 use Rattle.std.proofs.Common.{◌≡◌, ◌++◌, drop}
-use Rattle.policy_compile.specs.Cells.{outside}
-use Rattle.policy_compile.proofs.cells.push_outside.Given as goal
+use Rattle.cells.specs.Cells.{outside}
+use Rattle.cells.proofs.cut.push_outside.Given as goal
 
 -- what is left makes the whole
 abbrev pub invariant-loop-other : goal.invariant-loop-other
