@@ -2,5 +2,3 @@ pub mod AddsLemmas
 pub mod CellLemmas
 pub mod ClosedLemmas
 pub mod FirstLemmas
-pub mod BlockLemmas
-pub mod MarkLemmas

@@ -29,7 +29,13 @@ fn noted(earlier: Option<usize>, cell: &Cube, cube: &Cube, place: usize) -> Opti
 {
     match earlier {
         Some(_) => earlier,
-        None => { if cube::within(cell, cube) { Some(place) } else { None } }
+        None => {
+            if cube::within(cell, cube) {
+                Some(place)
+            } else {
+                None
+            }
+        }
     }
 }
 

@@ -6,6 +6,7 @@ mod cells;
 mod cut;
 mod firsts;
 mod inside;
+mod tests;
 
 pub use cells::{Cells, cells_of};
 pub use firsts::firsts_of;
