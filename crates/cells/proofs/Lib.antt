@@ -2,3 +2,5 @@ pub mod AddsLemmas
 pub mod CellLemmas
 pub mod ClosedLemmas
 pub mod FirstLemmas
+pub mod BlockLemmas
+pub mod MarkLemmas
