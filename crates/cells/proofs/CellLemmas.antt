@@ -168,7 +168,7 @@ pub cells-more : (atoms xs : List Cube) (c : Cube) → AreCells atoms xs → Are
 cells-more atoms xs c f = record { narrow = cut-narrow atoms xs c f; meets = cut-meets atoms xs c f.meets }
 
 -- a cube that lies within each atom that has some headers lies within each meet that has them
-within-meet : (atoms : List Cube) (m c : Cube) (h : Headers) → ((a : Cube) → Member a atoms → has a h ≡ true → lies_within_cube m a ≡ true) → IsMeet atoms c → has c h ≡ true → lies_within_cube m c ≡ true
+pub within-meet : (atoms : List Cube) (m c : Cube) (h : Headers) → ((a : Cube) → Member a atoms → has a h ≡ true → lies_within_cube m a ≡ true) → IsMeet atoms c → has c h ≡ true → lies_within_cube m c ≡ true
 within-meet [] m c h narrow i t = within-from_has m c (λ k _. ap (λ d. has d k) i ∙ has-everything k)
 within-meet (a ∷ atoms) m c h narrow (inl rest) t = within-meet atoms m c h (λ b k. narrow b (inr k)) rest t
 within-meet (a ∷ atoms) m c h narrow (inr w) t =

@@ -1,7 +1,7 @@
 -- Cubes that are closed under meets stay so when they are cut by one more.
 use Rattle.std.proofs.Common.{◌≡◌, Bool, true, false, ◌&&◌, cond, Option, Some, None, List, [], ◌∷◌, ◌++◌, refl, inl, inr, sym, ap, ◌∙◌, subst}
 use Rattle.std.specs.List.{list_any}
-use Rattle.std.specs.HashSet.{contains, Updates}
+use Rattle.std.specs.HashSet.{contains, IsUnchanged, Updates}
 use Rattle.std.proofs.lemmas.Bool.{cases_Bool}
 use Rattle.net_types.specs.declared.cube.Cube.{Cube}
 use Rattle.net_types.specs.declared.headers.Headers.{Headers}
@@ -114,6 +114,10 @@ with-meets c xs atoms f = with-cases (AreMeets (atoms ++ c ∷ [])) c xs (λ _. 
 -- where there are more cubes the set still knows some of them
 pub among-more : (known : Cubes) (xs ys : List Cube) → ((a : Cube) → Member a xs → Member a ys) → AreAmong known xs → AreAmong known ys
 among-more known xs ys more f c k = more c (f c k)
+
+-- a set with the same keys
+pub among-kept : (known new : Cubes) (xs : List Cube) → IsUnchanged known new → AreAmong known xs → AreAmong new xs
+among-kept known new xs same f c k = f c (ap (list_any (cube_eq c)) (sym same) ∙ k)
 
 -- one of them put into the set
 pub among-put : (known new : Cubes) (xs : List Cube) (c : Cube) → Updates cube_eq known new c true → Member c xs → AreAmong known xs → AreAmong new xs

@@ -1,12 +1,12 @@
 -- What is found of each cell, one cube after another.
-use Rattle.std.proofs.Common.{arith, ◌≡◌, ◌≢◌, ◌⊎◌, ℕ, zero, suc, ◌<◌, ◌≤◌, ◌+◌, ◌/◌, ◌*◌, Bool, true, false, cond, not, ◌&&◌, ◌||◌, eqb, Option, Some, None, List, [], ◌∷◌, ◌++◌, length, length-map, map, take, drop, set, get_or, refl, inl, inr, sym, ap, ◌∙◌, subst}
+use Rattle.std.proofs.Common.{arith, ◌≡◌, ◌≢◌, ◌⊎◌, ℕ, zero, suc, ◌<◌, ◌≤◌, ◌+◌, ◌/◌, ◌*◌, Bool, true, false, cond, not, ◌&&◌, ◌||◌, eqb, Option, Some, None, List, [], ◌∷◌, ◌++◌, length, map, take, drop, set, get_or, refl, inl, inr, sym, ap, ◌∙◌, subst}
 use Rattle.std.specs.List.{slice_get}
 use Rattle.std.specs.Option.{is_some}
 use Rattle.std.proofs.lemmas.Bool.{and_parts, cases_Bool, cases_eq, cases_lt, eqb-true, false≢true, false_from_ne_true, ne_eqb, or_cases}
-use Rattle.std.proofs.lemmas.List.{ext_get_or, get_or-set_same, get_or-set_other, length-set}
+use Rattle.std.proofs.lemmas.List.{ext_get_or, get_or-set_same, get_or-set_other, length-map, length-set, take_more}
 use Rattle.std.proofs.lemmas.Option.{get_or_from_slice_get, same_Some, slice_get-get_or, slice_get_within}
 use Rattle.net_types.specs.declared.cube.Cube.{Cube}
-use Rattle.net_types.specs.Cubes.{lies_within_cube}
+use Rattle.net_types.specs.Cubes.{everything, lies_within_cube}
 use Rattle.place_sets.specs.Places.{has_place}
 use Rattle.cells.specs.Blocks.{KeepsInner}
 use Rattle.cells.specs.Firsts.{first_place, firsts, noted}
@@ -38,7 +38,7 @@ noted-keeps i a c o h = ap is_some (noted-some i a c o h) ∙ h
 
 -- none was looked at yet
 pub noted-none : (i : ℕ) (a : Cube) (cells : List Cube) (found : List (Option ℕ)) (meant : ℕ → Type 0) → ((p : ℕ) → meant p → ⊥) → AreNoted i a cells meant found found
-noted-none i a cells found meant no = record { long = refl; each = λ p c at. inl refl; these = λ p c m at. absurd (no p m) }
+noted-none i a cells found meant empty = record { long = refl; each = λ p c at. inl refl; these = λ p c m at. absurd (empty p m) }
 
 -- some, and then some more
 noted-after : (i : ℕ) (a c : Cube) (x y z : Option ℕ) → (y ≡ x) ⊎ (y ≡ noted i a c x) → (z ≡ y) ⊎ (z ≡ noted i a c y) → (z ≡ x) ⊎ (z ≡ noted i a c x)
@@ -99,6 +99,36 @@ noted-found i a cells meant old new p f within h =
       | inr step ↦ ap is_some step ∙ noted-keeps i a s.0 (found_at old p) h
     ]
 
+-- ---- the cells of a block
+
+-- those from a place up to another were looked at, and where it is said that something was found of each it was
+pub record SoFar (i : ℕ) (a : Cube) (cells : List Cube) (start end : ℕ) (old new : List (Option ℕ)) (is_full : Bool) : Type 0 where
+  pub noted : AreNoted i a cells (λ p. (start ≤ p) × (p < end)) old new
+  pub full : is_full ≡ true → (p : ℕ) → start ≤ p → p < end → is_some (found_at new p) ≡ true
+
+pub so-far-none : (i : ℕ) (a : Cube) (cells : List Cube) (start : ℕ) (found : List (Option ℕ)) → SoFar i a cells start start found found true
+so-far-none i a cells start found = record {
+  noted = noted-none i a cells found (λ p. (start ≤ p) × (p < start)) (λ p m. omega (arith, m.0, m.1));
+  full = λ t p low less. absurd (omega (arith, low, less));
+}
+
+pub so-far-more : (i : ℕ) (a : Cube) (cells : List Cube) (start n : ℕ) (old mid : List (Option ℕ)) (x : Cube) (o v : Option ℕ) (full more : Bool) → n < length mid → slice_get cells n ≡ Some x → o ≡ found_at mid n → v ≡ noted i a x o
+    → more ≡ (full && is_some v) → SoFar i a cells start n old mid full → SoFar i a cells start (n + 1) old (set mid n v) more
+so-far-more i a cells start n old mid x o v full more within at was is both f =
+    let one : AreNoted i a cells (λ p. p ≡ n) mid (set mid n v) = noted-set i a cells mid n x o v within at was is in
+    record {
+      noted = noted-more i a cells (λ p. (start ≤ p) × (p < n)) (λ p. p ≡ n) (λ p. (start ≤ p) × (p < n + 1)) old mid (set mid n v)
+          (λ p m. elim (cases_lt p n) [ inl before ↦ inl (m.0, before) | inr behind ↦ inr (omega (arith, behind, m.1)) ]) f.noted one;
+      full = λ t p low less.
+          let parts = and_parts full (is_some v) (sym both ∙ t) in
+          elim (cases_lt p n) [
+            | inl before ↦ noted-found i a cells (λ p. p ≡ n) mid (set mid n v) p one (omega (arith, before, slice_get_within cells n x at)) (f.full parts.0 p low before)
+            | inr behind ↦
+                let here : p ≡ n = omega (arith, behind, less) in
+                ap is_some (ap (found_at (set mid n v)) here ∙ get_or-set_same mid n v None within) ∙ parts.1
+          ];
+    }
+
 -- ---- blocks
 
 pub found-more : (i : ℕ) (a : Cube) (cells : List Cube) (meant : ℕ → Type 0) (old new : List (Option ℕ)) (full : List ℕ) → AreNoted i a cells meant old new → AreFound cells old full → AreFound cells new full
@@ -148,6 +178,14 @@ found-first xs cells p c at = get_or_from_slice_get (firsts xs cells) p (first_p
 
 length-firsts : (xs cells : List Cube) → length (firsts xs cells) ≡ length cells
 length-firsts xs cells = length-map cells (λ c. first_place c xs)
+
+nothing-push : (cells : List Cube) (c : Cube) → firsts [] (cells ++ c ∷ []) ≡ firsts [] cells ++ None ∷ []
+nothing-push [] c = refl
+nothing-push (x ∷ cells) c = ap (λ (o : List (Option ℕ)). None ∷ o) (nothing-push cells c)
+
+-- nothing of one cell more
+pub nothing-more : (cells : List Cube) (n : ℕ) → n < length cells → firsts [] (take (n + 1) cells) ≡ firsts [] (take n cells) ++ None ∷ []
+nothing-more cells n within = ap (firsts []) (take_more cells n everything within) ∙ nothing-push (take n cells) (get_or cells n everything)
 
 -- one cube more
 pub firsts-more : (xs cells : List Cube) (a : Cube) (i : ℕ) (old new : List (Option ℕ)) → i ≡ length xs → old ≡ firsts xs cells → AreAllNoted i a cells old new → new ≡ firsts (xs ++ a ∷ []) cells

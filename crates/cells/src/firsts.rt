@@ -56,8 +56,9 @@ fn note_block(
     let count = (cells.len() - start).min(BLOCK);
     let mut is_full = true;
     for i in start..start + count {
-        found[i] = noted(found[i], &cells[i], cube, place);
-        is_full = is_full && found[i].is_some();
+        let first = noted(found[i], &cells[i], cube, place);
+        is_full &= first.is_some();
+        found[i] = first;
     }
     is_full
 }
@@ -118,11 +119,11 @@ pub fn firsts_of(
 {
     let mut found = nothing_of(alloc, inside.cells)?;
     let mut left = PlaceSet::first(alloc, blocks_of(inside.cells.len()))?;
-    for (place, cube) in cubes.iter().enumerate() {
+    for place in 0..cubes.len() {
         if left.is_empty() {
             return Ok(found);
         }
-        left = note(alloc, inside, cube, place, &left, &mut found)?;
+        left = note(alloc, inside, &cubes[place], place, &left, &mut found)?;
     }
     Ok(found)
 }

@@ -1,16 +1,16 @@
-use Rattle.std.proofs.Common.{[], take, sym, subst}
-use Rattle.policy_compile.specs.Cells.{AreCells}
-use Rattle.policy_compile.proofs.ApartLemmas.{took-one}
-use Rattle.policy_compile.proofs.CellLemmas.{cells-none}
-use Rattle.policy_compile.proofs.cells.cells_of.Goals as goal
+use Rattle.std.proofs.Common.{◌≡◌, ◌+◌, ◌∷◌, [], ◌++◌, take, sym, ap, ◌∙◌, subst}
+use Rattle.std.proofs.lemmas.List.{take_more}
+use Rattle.cells.specs.Cells.{AreCells}
+use Rattle.cells.proofs.CellLemmas.{cells-none}
+use Rattle.cells.proofs.cells.cells_of.Goals as goal
 
 pub loop-atom-init : goal.loop-atom-init
-loop-atom-init c = subst (AreCells []) (sym c.new-cubes.ensures.items) cells-none
+loop-atom-init c = subst (AreCells []) (sym c.new-cells.ensures) cells-none
 
 pub loop-atom-preserved : goal.loop-atom-preserved
 loop-atom-preserved c =
     let i = c.loop-atom.atom-index in
     let atoms = c.args.atoms.now in
     let x = c.atom-item.result in
-    subst (λ xs. AreCells xs c.in_ok-cubes.cubes.items) (sym (took-one atoms i x c.loop-atom-test.true c.atom-item.is))
-    (c.in_ok-cubes.ensures (take i atoms) c.loop-atom.invariant)
+    let more : take (i + 1) atoms ≡ take i atoms ++ x ∷ [] = take_more atoms i x c.loop-atom-test.true ∙ ap (λ d. take i atoms ++ d ∷ []) (sym c.atom-item.is) in
+    subst (λ xs. AreCells xs c.add.new.self) (sym more) (c.in_ok-add.ensures.cells (take i atoms) c.loop-atom.invariant)
