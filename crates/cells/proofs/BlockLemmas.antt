@@ -1,5 +1,5 @@
 -- Blocks of cells: which stay where cells lie within a cube.
-use Rattle.std.proofs.Common.{arith, ◌≡◌, ℕ, zero, suc, ◌<◌, ◌≤◌, ◌+◌, ◌/◌, Bool, true, false, ◌||◌, ◌&&◌, eqb, Option, Some, None, List, [], ◌∷◌, ◌++◌, length, refl, inl, inr, sym, ap, ◌∙◌, subst}
+use Rattle.std.proofs.Common.{arith, ◌≡◌, ℕ, zero, suc, ◌<◌, ◌≤◌, ◌+◌, ◌/◌, Bool, true, false, ◌||◌, ◌&&◌, eqb, Option, Some, None, List, [], ◌∷◌, ◌++◌, length, get_or, refl, inl, inr, sym, ap, ◌∙◌, subst}
 use Rattle.std.specs.List.{slice_get}
 use Rattle.std.specs.Option.{is_some}
 use Rattle.std.proofs.lemmas.Bool.{and_from, cases_lt, eq-eqb, false≢true}
@@ -49,6 +49,11 @@ pub Member-slice_get : {A : Type 0} (xs : List A) (k : ℕ) (x : A) → slice_ge
 Member-slice_get [] k x e = absurd (false≢true (ap is_some e))
 Member-slice_get (y ∷ xs) zero x e = inl (same_Some x y (sym e))
 Member-slice_get (y ∷ xs) (suc k) x e = inr (Member-slice_get xs k x e)
+
+pub Member-got : {A : Type 0} (xs : List A) (i : ℕ) (x : A) → i < length xs → x ≡ get_or xs i x → Member x xs
+Member-got [] i x lt e = absurd (omega (arith, lt))
+Member-got (y ∷ xs) zero x lt e = inl e
+Member-got (y ∷ xs) (suc i) x lt e = inr (Member-got xs i x (omega (arith, lt)) e)
 
 -- what is put last stands at the place that the length was
 pub slice_get-last : {A : Type 0} (xs : List A) (x : A) → slice_get (xs ++ x ∷ []) (length xs) ≡ Some x

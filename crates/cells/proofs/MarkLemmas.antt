@@ -131,6 +131,26 @@ so-far-more i a cells start n old mid x o v full more within at was is both f =
 
 -- ---- blocks
 
+-- the cells of those of the blocks that stand below one
+abbrev pub IsBelow : List ℕ → ℕ → ℕ → Type 0
+IsBelow blocks b p = (p / 64 < b) × (has_place blocks (p / 64) ≡ true)
+
+-- the next block was looked at
+pub blocks-more : (i : ℕ) (a : Cube) (cells : List Cube) (blocks : List ℕ) (b : ℕ) (old mid new : List (Option ℕ)) → AreNoted i a cells (IsBelow blocks b) old mid → AreNoted i a cells (λ p. p / 64 ≡ b) mid new → AreNoted i a cells (IsBelow blocks (b + 1)) old new
+blocks-more i a cells blocks b old mid new f g = noted-more i a cells (IsBelow blocks b) (λ p. p / 64 ≡ b) (IsBelow blocks (b + 1)) old mid new (λ p m. elim (cases_lt (p / 64) b) [
+  | inl before ↦ inl (before, m.1)
+  | inr behind ↦ inr (omega (arith, behind, m.0))
+]) f g
+
+-- the next block is none of them
+pub blocks-skipped : (i : ℕ) (a : Cube) (cells : List Cube) (blocks : List ℕ) (b : ℕ) (old new : List (Option ℕ)) → has_place blocks b ≡ false → AreNoted i a cells (IsBelow blocks b) old new → AreNoted i a cells (IsBelow blocks (b + 1)) old new
+blocks-skipped i a cells blocks b old new absent f = noted-as i a cells (IsBelow blocks b) (IsBelow blocks (b + 1)) old new (λ p within m. elim (cases_lt (p / 64) b) [
+  | inl before ↦ (before, m.1)
+  | inr behind ↦
+      let here : p / 64 ≡ b = omega (arith, behind, m.0) in
+      absurd (false≢true (sym absent ∙ ap (has_place blocks) (sym here) ∙ m.1))
+]) f
+
 pub found-more : (i : ℕ) (a : Cube) (cells : List Cube) (meant : ℕ → Type 0) (old new : List (Option ℕ)) (full : List ℕ) → AreNoted i a cells meant old new → AreFound cells old full → AreFound cells new full
 found-more i a cells meant old new full f done p within there = noted-found i a cells meant old new p f within (done p within there)
 

@@ -105,7 +105,8 @@ fn note(
     let cells = inside.cells;
     let blocks = inside.among(left, cube)?;
     let full = note_blocks(alloc, cells, cube, place, &blocks, found)?;
-    left.without(alloc, &full)
+    let rest = left.without(alloc, &full)?;
+    Ok(rest)
 }
 
 /// Of each cell the place of the first of the cubes that it lies within. Cubes behind those that hold all cells aren't looked at.
