@@ -1,16 +1,15 @@
 -- Blocks of cells: which stay where cells lie within a cube.
-use Rattle.std.proofs.Common.{arith, ◌≡◌, ℕ, zero, suc, ◌<◌, ◌≤◌, ◌+◌, ◌/◌, Bool, true, false, ◌||◌, ◌&&◌, eqb, Option, Some, None, List, [], ◌∷◌, ◌++◌, length, get_or, refl, inl, inr, sym, ap, ◌∙◌, subst}
+use Rattle.std.proofs.Common.{arith, ◌≡◌, ℕ, zero, suc, ◌<◌, ◌+◌, ◌/◌, true, false, ◌||◌, ◌&&◌, eqb, Some, List, [], ◌∷◌, ◌++◌, length, get_or, refl, inl, inr, sym, ap, ◌∙◌, subst}
 use Rattle.std.specs.List.{slice_get}
 use Rattle.std.specs.Option.{is_some}
 use Rattle.std.proofs.lemmas.Bool.{and_from, cases_lt, eq-eqb, false≢true}
-use Rattle.std.proofs.lemmas.Option.{same_Some, slice_get_within}
+use Rattle.std.proofs.lemmas.Option.{same_Some}
 use Rattle.std.proofs.Math.Bool.{or-true}
 use Rattle.net_types.specs.declared.cube.Cube.{Cube}
-use Rattle.net_types.specs.declared.headers.Headers.{Headers}
-use Rattle.net_types.specs.Cubes.{has, lies_within_cube}
+use Rattle.net_types.specs.Cubes.{lies_within_cube}
 use Rattle.net_types.specs.Sets.{Member}
 use Rattle.net_types.proofs.SetLemmas
-use Rattle.net_types.proofs.CubeLemmas.{IsIn, any_prefix-covers, fields-from_has, has-from_fields, within-from_has, within_trans}
+use Rattle.net_types.proofs.CubeLemmas.{any_prefix-covers, fields-from_has, has-from_fields, within-from_has, within_trans}
 use Rattle.place_sets.specs.Places.{has_place}
 use Rattle.cells.specs.declared.inside.Inner.{Inner}
 use Rattle.cells.specs.Blocks.{HasInner, IsInner, KeepsInner, KnowInner, single_fields}

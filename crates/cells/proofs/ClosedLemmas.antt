@@ -4,7 +4,6 @@ use Rattle.std.specs.List.{list_any}
 use Rattle.std.specs.HashSet.{contains, IsUnchanged, Updates}
 use Rattle.std.proofs.lemmas.Bool.{cases_Bool}
 use Rattle.net_types.specs.declared.cube.Cube.{Cube}
-use Rattle.net_types.specs.declared.headers.Headers.{Headers}
 use Rattle.net_types.specs.Cubes.{has, meet_cubes, lies_within_cube}
 use Rattle.net_types.specs.Meets.{cons_some}
 use Rattle.net_types.specs.Sets.{Member}
@@ -16,7 +15,7 @@ use Rattle.classifier.proofs.SeenLemmas.{any_there, cube_eq_exact}
 use Rattle.cells.specs.Adds.{adds}
 use Rattle.cells.specs.Cells.{first_of, AreCells, AreMeets, IsClosed, met_by, outside, cut, with_atom}
 use Rattle.cells.specs.Known.{AreAmong}
-use Rattle.cells.proofs.AddsLemmas.{any-Member, cubes-same}
+use Rattle.cells.proofs.AddsLemmas.{cubes-same}
 use Rattle.cells.proofs.CellLemmas.{cells-more, cells-same, cut-meets, within-meet}
 
 -- ---- closed cubes

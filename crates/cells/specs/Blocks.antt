@@ -1,5 +1,5 @@
 -- Blocks of 64 cells.
-use Rattle.std.specs.Prelude.{◌≡◌, ◌/◌, ℕ, true, List, [], ◌∷◌, Option, Some, None}
+use Rattle.std.specs.Prelude.{◌≡◌, ◌/◌, ℕ, true, List, [], ◌∷◌, Some}
 use Rattle.std.specs.List.{slice_get}
 use Rattle.net_types.specs.declared.cube.Cube.{Cube}
 use Rattle.net_types.specs.Cubes.{everything, lies_within_cube}

@@ -1,4 +1,4 @@
-use Rattle.std.proofs.Common.{arith, ◌≡◌, ◌+◌, ◌/◌, ℕ, List, Option, [], ◌∷◌, ◌++◌, length, take, drop, length-take, refl, sym, ap, ◌∙◌, subst}
+use Rattle.std.proofs.Common.{arith, ◌≡◌, ◌+◌, ◌/◌, List, [], ◌∷◌, ◌++◌, length, take, drop, length-take, sym, ap, ◌∙◌, subst}
 use Rattle.std.proofs.lemmas.List.{take-append-drop, take_more}
 use Rattle.net_types.specs.declared.cube.Cube.{Cube}
 use Rattle.cells.specs.Firsts.{firsts}

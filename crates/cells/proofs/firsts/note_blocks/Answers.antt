@@ -1,4 +1,4 @@
-use Rattle.std.proofs.Common.{arith, ◌≡◌, ◌<◌, ◌/◌, true, sym, ◌∙◌}
+use Rattle.std.proofs.Common.{arith, ◌≡◌, ◌/◌, true, sym, ◌∙◌}
 use Rattle.place_sets.specs.Places.{has_place}
 use Rattle.cells.proofs.MarkLemmas.{IsBelow, blocks-more, blocks-skipped, found-more, found-put, noted-as}
 use Rattle.cells.proofs.firsts.note_blocks.Goals as goal

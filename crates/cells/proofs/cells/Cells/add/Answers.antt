@@ -1,5 +1,4 @@
-use Rattle.std.proofs.Common.{◌≡◌, ◌∷◌, [], ◌++◌, List, sym, ap, ◌∙◌, subst}
-use Rattle.net_types.specs.declared.cube.Cube.{Cube}
+use Rattle.std.proofs.Common.{◌∷◌, [], ◌++◌, sym, ◌∙◌, subst}
 use Rattle.net_types.specs.Sets.{Member}
 use Rattle.cells.specs.Cells.{AreCells, AreMeets, IsClosed}
 use Rattle.cells.proofs.CellLemmas.{cells-same}
