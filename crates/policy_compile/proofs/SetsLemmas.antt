@@ -1,6 +1,6 @@
 -- Values put last, each once, as sets.
-pub use Rattle.cells.proofs.AddsLemmas.{any-Member, Member-any, insert-same, adds-same, IsDistinct-HasNoRepeats, adds-HasNoRepeats, adds_append, cubes-same, cubes-copied, insert_found, all-Member, adds_more}
-use Rattle.std.proofs.Common.{◌≡◌, ℕ, eqb, ◌&&◌, true, Option, None, List, [], ◌∷◌, ◌++◌, inl, inr, ap, ◌∙◌}
+pub use Rattle.cells.proofs.AddsLemmas.{any-Member, Member-any, adds-same, IsDistinct-HasNoRepeats, adds_append, cubes-same, cubes-copied, insert_found, all-Member, adds_more}
+use Rattle.std.proofs.Common.{◌≡◌, ℕ, eqb, ◌&&◌, true, Option, None, List, [], ◌∷◌, ◌++◌, refl, inl, inr, ap, ◌∙◌}
 use Rattle.std.specs.Option.{option_eq}
 use Rattle.std.specs.List.{IsDistinct}
 use Rattle.std.proofs.lemmas.Bool.{eqb-true, eq-eqb, and_parts, and_from}
