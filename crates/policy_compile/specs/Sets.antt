@@ -1,6 +1,6 @@
 -- The lists that the loops over sets make: values put last, each once.
 pub use Rattle.cells.specs.Adds.{adds}
-use Rattle.std.specs.Prelude.{◌≡◌, ℕ, ◌<◌, ◌≤◌, nat_eq, Bool, ◌&&◌, List, [], ◌∷◌, length, map}
+use Rattle.std.specs.Prelude.{◌≡◌, ℕ, ◌<◌, ◌≤◌, nat_eq, Bool, ◌&&◌, List, length, map}
 use Rattle.std.specs.Option.{option_eq}
 use Rattle.net_types.specs.declared.headers.Assign.{Assign}
 use Rattle.net_types.specs.Headers.{followed_by}
