@@ -1,6 +1,7 @@
 -- Cubes that are closed under meets stay so when they are cut by one more.
-use Rattle.std.proofs.Common.{◌≡◌, Bool, true, false, ◌&&◌, cond, Option, Some, None, List, [], ◌∷◌, ◌++◌, refl, inl, inr, sym, ap, ◌∙◌, subst}
+use Rattle.std.proofs.Common.{◌≡◌, Bool, true, false, ◌&&◌, cond, Option, Some, None, Result, Ok, Err, List, [], ◌∷◌, ◌++◌, refl, inl, inr, sym, ap, ◌∙◌, subst}
 use Rattle.std.specs.List.{list_any}
+use Rattle.std.specs.Result.{OnOk}
 use Rattle.std.specs.HashSet.{contains, IsUnchanged, Updates}
 use Rattle.std.proofs.lemmas.Bool.{cases_Bool}
 use Rattle.net_types.specs.declared.cube.Cube.{Cube}
@@ -11,12 +12,12 @@ use Rattle.net_types.proofs.SetLemmas
 use Rattle.net_types.proofs.CubeLemmas.{has-meet, has-within, option_ext}
 use Rattle.net_types.proofs.MeetLemmas.{IsMeet-member, IsMeet-append_left}
 use Rattle.classifier.specs.Seen.{Cubes, cube_eq}
-use Rattle.classifier.proofs.SeenLemmas.{any_there, cube_eq_exact}
+use Rattle.classifier.proofs.SeenLemmas.{cube_eq_exact}
 use Rattle.cells.specs.Adds.{adds}
-use Rattle.cells.specs.Cells.{first_of, AreCells, AreMeets, IsClosed, met_by, outside, cut, with_atom}
+use Rattle.cells.specs.Cells.{first_of, AreCells, AreMeets, IsClosed, met_by, outside, cut}
 use Rattle.cells.specs.Known.{AreAmong}
 use Rattle.cells.proofs.AddsLemmas.{cubes-same}
-use Rattle.cells.proofs.CellLemmas.{cells-more, cells-same, cut-meets, within-meet}
+use Rattle.cells.proofs.CellLemmas.{cells-more, within-meet}
 
 -- ---- closed cubes
 
@@ -81,32 +82,9 @@ cut-kept c xs a k =
       | inr beyond ↦ SetLemmas.Member-append_right all (outside c xs) a (outside-there c a xs beyond k)
     ]
 
--- ---- cut by a cube, unless it is one of them
-
-with-cases : (P : List Cube → Type 0) (c : Cube) (xs : List Cube) → (Member c xs → P xs) → P (cut c xs) → P (with_atom c xs)
-with-cases P c xs same more = elim (cases_Bool (list_any (λ x. cube_eq x c) xs)) [
-  | inl there ↦ subst (λ b. P (cond b xs (cut c xs))) (sym there) (same (any_there xs c there))
-  | inr absent ↦ subst (λ b. P (cond b xs (cut c xs))) (sym absent) more
-]
-
-pub with-there : (c : Cube) (xs : List Cube) → Member c (with_atom c xs)
-with-there c xs = with-cases (Member c) c xs (λ k. k) (cut-there c xs)
-
-pub with-kept : (c : Cube) (xs : List Cube) (a : Cube) → Member a xs → Member a (with_atom c xs)
-with-kept c xs a k = with-cases (Member a) c xs (λ _. k) (cut-kept c xs a k)
-
-pub with-closed : (c : Cube) (xs : List Cube) → IsClosed xs → IsClosed (with_atom c xs)
-with-closed c xs f = with-cases IsClosed c xs (λ _. f) (cut-closed xs c f)
-
-pub with-cells : (c : Cube) (xs atoms : List Cube) → AreCells atoms xs → AreCells (atoms ++ c ∷ []) (with_atom c xs)
-with-cells c xs atoms f = with-cases (AreCells (atoms ++ c ∷ [])) c xs (cells-same atoms xs c f) (cells-more atoms xs c f)
-
 -- meets of some atoms are meets of them and one more
 pub meets-wider : (c : Cube) (xs atoms : List Cube) → AreMeets atoms xs → AreMeets (atoms ++ c ∷ []) xs
 meets-wider c xs atoms f x k = IsMeet-append_left atoms (c ∷ []) x (f x k)
-
-pub with-meets : (c : Cube) (xs atoms : List Cube) → AreMeets atoms xs → AreMeets (atoms ++ c ∷ []) (with_atom c xs)
-with-meets c xs atoms f = with-cases (AreMeets (atoms ++ c ∷ [])) c xs (λ _. meets-wider c xs atoms f) (cut-meets atoms xs c f)
 
 -- ---- what a set knows
 
@@ -124,3 +102,8 @@ among-put known new xs c updates there f d k = elim (cases_Bool (cube_eq c d)) [
   | inl same ↦ subst (λ x. Member x xs) (cube_eq_exact c d same) there
   | inr apart ↦ f d (sym (updates.0 d ∙ ap (λ b. cond b true (contains cube_eq known d)) apart) ∙ k)
 ]
+
+-- what holds anyhow holds where there is a value
+pub ok-from : {A E : Type 0} (r : Result A E) (P : Type 0) → P → OnOk r P
+ok-from (Ok x) P p = p
+ok-from (Err e) P p = tt

@@ -1,6 +1,5 @@
 -- Cubes of which the first with a packet's headers lies within each atom that has them.
 use Rattle.std.specs.Prelude.{◌≡◌, true, List, [], ◌∷◌, ◌++◌, if◌then◌else◌}
-use Rattle.std.specs.List.{list_any}
 use Rattle.net_types.specs.declared.cube.Cube.{Cube}
 use Rattle.net_types.specs.declared.headers.Headers.{Headers}
 use Rattle.net_types.specs.Cubes.{has, everything, meet_cubes, lies_within_cube}
@@ -40,7 +39,3 @@ outside c (x ∷ xs) = if lies_within_cube x c then outside c xs else x ∷ outs
 -- the cubes cut by one more: its meets with them, each once, itself, and those that don't lie within it
 abbrev pub cut : Cube → List Cube → List Cube
 cut c xs = adds cube_eq (adds cube_eq [] (met_by c xs)) (c ∷ []) ++ outside c xs
-
--- the cubes cut by one more, unless it is one of them: then it cuts none
-abbrev pub with_atom : Cube → List Cube → List Cube
-with_atom c xs = if list_any (λ x. cube_eq x c) xs then xs else cut c xs

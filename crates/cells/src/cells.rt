@@ -4,6 +4,7 @@ ghost use Rattle.std.specs.Prelude.{◌≡◌, ◌∷◌, [], ◌++◌, true, le
 ghost use Rattle.net_types.specs.declared.cube.Cube.{Cube as AnyCube};
 ghost use Rattle.net_types.specs.Sets.{Member};
 ghost use Rattle.cells.specs.Cells.{AreCells, AreMeets, IsClosed};
+ghost use Rattle.cells.specs.Known.{AreAmong};
 
 use crate::cut::cut_more;
 use net_types::{Cube, Memory};
@@ -17,7 +18,7 @@ use std::marker::Model;
 pub struct Cells {
     alloc: Global,
     cubes: Vec<Cube>,
-    // atoms that were added
+    // each of the cubes, but for those of an atom for which memory was wanting
     known: HashSet<Cube>,
 }
 
@@ -60,7 +61,8 @@ impl Cells {
         self.cubes.len()
     }
 
-    /// Whether this cube was added. Of one that stands here as a meet alone it may say no.
+    /// Whether this cube stands here, as one that was added or as a meet. After want of memory in `add` it may say no of one
+    /// that does.
     pub fn has(&self, cube: &Cube) -> bool
         ensures { result ≡ true → Member cube.now self.now }
     {
@@ -77,9 +79,9 @@ impl Cells {
         if self.known.contains(atom) {
             return Ok(());
         }
-        cut_more(self.alloc, atom, &mut self.cubes)?;
-        self.known.insert(*atom)?;
-        Ok(())
+        let within = cut_more(self.alloc, atom, &mut self.cubes)?;
+        // the others were known before
+        note(&mut self.known, &self.cubes[..within])
     }
 
     /// The list of the cubes.
@@ -88,6 +90,16 @@ impl Cells {
     {
         self.cubes
     }
+}
+
+/// Puts cubes into a set of those that are known.
+fn note(known: &mut HashSet<Cube>, cubes: &[Cube]) -> Result<(), Memory>
+    ensures { (all : List AnyCube) → ((cube : AnyCube) → Member cube cubes.now → Member cube all) → AreAmong known.old all → AreAmong known.new all }
+{
+    for cube in cubes {
+        known.insert(*cube)?;
+    }
+    Ok(())
 }
 
 /// The meets of the atoms, each once, before those that are wider where that matters.

@@ -1,9 +1,9 @@
 //! Cubes cut by one more.
 
-ghost use Rattle.std.specs.Prelude.{◌≡◌, ◌++◌, IfOk, OnOk, OnErr};
+ghost use Rattle.std.specs.Prelude.{◌≡◌, ◌≤◌, ◌++◌, length, IfOk, OnOk, OnErr};
 ghost use Rattle.classifier.specs.Seen.{cube_eq};
 ghost use Rattle.cells.specs.Adds.{adds};
-ghost use Rattle.cells.specs.Cells.{met_by, outside, cut, with_atom};
+ghost use Rattle.cells.specs.Cells.{met_by, outside, cut};
 
 use indexmap::IndexSet;
 use net_types::{Cube, Memory};
@@ -33,27 +33,27 @@ fn push_outside(all: &mut Vec<Cube>, atom: &Cube, cubes: &[Cube]) -> Result<(), 
     Ok(())
 }
 
-/// The cubes cut by one more atom: first those within it.
-fn cut_by(alloc: Global, atom: &Cube, cubes: &[Cube]) -> Result<Vec<Cube>, Memory>
-    ensures { IfOk result (λ v. v.items ≡ cut atom.now cubes.now) }
+/// The cubes cut by one more atom: first those within it. With how many these are.
+fn cut_by(alloc: Global, atom: &Cube, cubes: &[Cube]) -> Result<(Vec<Cube>, usize), Memory>
+    ensures cut { IfOk result (λ r. r.0.items ≡ cut atom.now cubes.now) }
+    ensures within { IfOk result (λ r. r.1 ≤ length r.0.items) }
 {
     let mut met = IndexSet::new(alloc);
     push_met_by(&mut met, atom, cubes)?;
     met.insert(*atom)?;
+    let within = met.len();
     let mut all = Vec::from_slice(alloc, met.as_slice())?;
     push_outside(&mut all, atom, cubes)?;
-    Ok(all)
+    Ok((all, within))
 }
 
-/// Cuts the cubes by one more atom, unless it is one of them: then it cuts none of them.
-pub fn cut_more(alloc: Global, atom: &Cube, cubes: &mut Vec<Cube>) -> Result<(), Memory>
-    ensures cut { OnOk result (cubes.new.items ≡ with_atom atom.now cubes.old.items) }
+/// Cuts the cubes by one more atom. How many lie within it then: they stand first.
+pub fn cut_more(alloc: Global, atom: &Cube, cubes: &mut Vec<Cube>) -> Result<usize, Memory>
+    ensures cut { OnOk result (cubes.new.items ≡ cut atom.now cubes.old.items) }
+    ensures within { IfOk result (λ n. n ≤ length cubes.new.items) }
     ensures unchanged { OnErr result (cubes.new.items ≡ cubes.old.items) }
 {
-    if cubes.contains(atom) {
-        return Ok(());
-    }
-    let more = cut_by(alloc, atom, cubes)?;
+    let (more, within) = cut_by(alloc, atom, cubes)?;
     *cubes = more;
-    Ok(())
+    Ok(within)
 }

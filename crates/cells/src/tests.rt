@@ -71,6 +71,9 @@ fn cubes_are_added(rt: HostRuntime) -> Result<(), Fail> {
     assert!(rt; cells.cubes() == [both(6, 80), to(80), of(6)].as_slice());
     assert!(rt; cells.len() == 3);
     assert!(rt; cells.has(&of(6)) && cells.has(&to(80)) && !cells.has(&of(17)));
+    assert!(rt; cells.has(&both(6, 80)));
+    cells.add(&both(6, 80))?;
+    assert!(rt; cells.len() == 3);
     Ok(())
 }
 
