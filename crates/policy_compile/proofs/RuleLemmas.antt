@@ -23,7 +23,7 @@ use Rattle.classifier.specs.Classifiers.{lines_of, meaning}
 use Rattle.classifier.specs.Compiled.{IsCompiled}
 use Rattle.classifier.proofs.DecideLemmas.{decide-add_lines, or_none}
 use Rattle.classifier.proofs.LineLemmas.{EachLine, each-add_lines}
-use Rattle.policy_compile.specs.Cells.{first_of, AreCells}
+use Rattle.cells.specs.Cells.{first_of, AreCells}
 use Rattle.classifier.specs.Items.{Item}
 use Rattle.policy_compile.specs.Paths.{taken_into, within_found, Decided, sets_of, AreAt}
 use Rattle.classifier.proofs.CompileLemmas.{pull-no_change}

@@ -3,7 +3,6 @@ pub mod Narrow
 pub mod Apart
 pub mod Measures
 pub mod Parts
-pub mod Cells
 pub mod Paths
 pub mod Columns
 pub mod Groups

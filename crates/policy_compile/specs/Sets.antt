@@ -1,17 +1,12 @@
 -- The lists that the loops over sets make: values put last, each once.
-use Rattle.std.specs.Prelude.{◌≡◌, ℕ, ◌<◌, ◌≤◌, nat_eq, Bool, ◌&&◌, List, [], ◌∷◌, length, map}
+pub use Rattle.cells.specs.Adds.{adds}
+use Rattle.std.specs.Prelude.{◌≡◌, ℕ, ◌<◌, ◌≤◌, nat_eq, Bool, ◌&&◌, List, length, map}
 use Rattle.std.specs.Option.{option_eq}
-use Rattle.indexmap.specs.IndexSet.{insert_key}
 use Rattle.net_types.specs.declared.headers.Assign.{Assign}
 use Rattle.net_types.specs.Headers.{followed_by}
 use Rattle.policy_compile.specs.declared.fields.Fields.{Fields}
 use Rattle.net_types.specs.Sets.{union_over}
 use Rattle.net_types.specs.Attributes.{same_ip}
-
--- the first list with each value of the second last, unless an equal one is there
-abbrev pub adds : {A : Type 0} → (A → A → Bool) → List A → List A → List A
-adds eq kept [] = kept
-adds eq kept (x ∷ xs) = adds eq (insert_key eq kept x) xs
 
 -- the assignment of these fields
 abbrev pub assign_of : Fields → Assign

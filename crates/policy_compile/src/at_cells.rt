@@ -14,12 +14,12 @@ ghost use Rattle.policy_compile.specs.Covered.{Covers};
 ghost use Rattle.policy_compile.specs.Paths.{AreAt};
 
 use crate::atoms::atoms_of;
-use crate::cells::cells_of;
 use crate::locations::locations_of;
 use crate::outcomes::Within;
 use crate::rows::rows_of;
 use crate::singles::one_by_one;
 use crate::stages::{begun, made_of};
+use cells::cells_of;
 use classifier::{Classifier, Line, push_lines};
 use net_types::{Cube, Items, Loc, Memory};
 use policy_isolate::Names;

@@ -5,7 +5,6 @@ mod apart;
 mod at_cells;
 mod atoms;
 mod by_print;
-mod cells;
 mod columns;
 mod fields;
 mod groups;

@@ -3,7 +3,7 @@ use Rattle.net_types.specs.Cubes.{everything}
 use Rattle.net_types.specs.Sets.{Member}
 use Rattle.net_types.proofs.SetLemmas
 use Rattle.policy_syntax.specs.Views.{policy_of}
-use Rattle.policy_compile.specs.Cells.{AreCells}
+use Rattle.cells.specs.Cells.{AreCells}
 use Rattle.policy_compile.specs.Paths.{AreAt}
 use Rattle.policy_compile.proofs.RuleLemmas.{compiled-at}
 use Rattle.policy_compile.proofs.at_cells.compiled_at_cells.Goals as goal

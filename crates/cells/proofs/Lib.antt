@@ -1,0 +1,6 @@
+pub mod AddsLemmas
+pub mod CellLemmas
+pub mod ClosedLemmas
+pub mod FirstLemmas
+pub mod BlockLemmas
+pub mod MarkLemmas

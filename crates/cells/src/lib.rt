@@ -1,0 +1,13 @@
+//! Cubes of which the first with a packet's headers lies within each atom that has them, and of each the first rule that holds it.
+#![tactic(auto)]
+
+mod blocks;
+mod cells;
+mod cut;
+mod firsts;
+mod inside;
+mod tests;
+
+pub use cells::{Cells, cells_of};
+pub use firsts::firsts_of;
+pub use inside::Inside;
