@@ -21,10 +21,10 @@ use Rattle.net_types.specs.declared.headers.Loc.TheVariants.{Stay, To, Out, Nowh
 use Rattle.net_types.specs.declared.route.Offer.{Offer}
 use Rattle.net_types.specs.declared.route.Part.{Part}
 use Rattle.net_types.proofs.ActionOrder.{ordered_actions}
-use Rattle.block_build.proofs.DecideBlocks.{given-received, gathered_by}
+use Rattle.block_build.proofs.DecideBlocks.{given-received}
 use Rattle.block_build.proofs.OfferLemmas.{stands-offered, port-stands, hole-stands, offered-from}
 use Rattle.block_build.proofs.SentLemmas.{answer-past, no_hole, received_past, sent_all, sent_plain, goes-sent, sent-goes, sent-offered}
-use Rattle.block_build.proofs.GatheredItems.{gathered}
+use Rattle.block_build.specs.Gathered.{gathered, gathered_by}
 use Rattle.block_build.specs.Offers.{each_once, goes_to, has_one_left}
 use Rattle.block_build.specs.Outcomes.{answer_from, received_from}
 use Rattle.block_build.specs.Receivers.{discarding, exit_of, add_exit, add_exits, received_items, received_lines, receiver, receivers}

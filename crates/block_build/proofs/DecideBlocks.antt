@@ -18,7 +18,7 @@ use Rattle.net_types.specs.declared.address.PortNo.{PortNo}
 use Rattle.net_types.specs.declared.cube.Cube.{Cube}
 use Rattle.net_types.specs.declared.headers.Headers.{Headers}
 use Rattle.net_types.specs.declared.route.Offer.{Offer}
-use Rattle.block_build.proofs.GatheredItems.{gathered}
+use Rattle.block_build.specs.Gathered.{AreTotal, gathered, gathered_by}
 use Rattle.block_build.specs.Offers.{goes_to, has_one_left}
 use Rattle.block_build.specs.Receivers.{received_items, received_lines}
 use Rattle.block_build.specs.Spreads.{restricted, beside, spread, within_rule, blocks}
@@ -76,10 +76,6 @@ map_id None = refl
 decide-beside : (xs ys : List Line) (h : Headers) → ends_with_everything ys ≡ true → decide (beside xs ys) h ≡ option_map (λ kept. add_all kept (given ys h)) (decide xs h)
 decide-beside xs ys h t = decide-add_lines [] (product Union xs ys) h ∙ decide-product Union xs ys h (given ys h) (given_is ys h (total ys t h))
 
--- the rules of each receiver give something to all headers
-abbrev pub AreTotal : List Receiver → Type 0
-AreTotal rs = (r : Receiver) → Member r rs → ends_with_everything r.lines ≡ true
-
 decide-spread : (left : Bool) (best : Pid) (items : List Item) (xs : List Line) (rs : List Receiver) (h : Headers) → AreTotal rs
     → decide (spread left best items xs rs) h ≡ option_map (λ kept. gathered left best items h kept rs) (decide xs h)
 decide-spread left best items xs [] h all = map_id (decide xs h)
@@ -92,10 +88,6 @@ decide-spread left best items xs (r ∷ rs) h all = of (λ zs. decide-spread lef
         ∙ ap (option_map (λ kept. gathered left best items h kept rs)) (decide-beside xs r.lines h (all r (inl refl)))
         ∙ map_twice (λ kept. gathered left best items h kept rs) (λ kept. add_all kept (given r.lines h)) (decide xs h)
     of rest false = rest xs
-
--- what the receivers' rules give, with what the sender's rule gives
-abbrev pub gathered_by : Pid → List Offer → List Receiver → Headers → List Item → List Item
-gathered_by best offers rs h items = gathered (has_one_left offers items) best items h [] rs
 
 pub decide-blocks : (best : Pid) (offers : List Offer) (rs : List Receiver) (xs : List Line) (h : Headers) → AreTotal rs
     → decide (blocks best offers rs xs) h ≡ option_map (gathered_by best offers rs h) (decide xs h)

@@ -18,5 +18,7 @@ pub mod InportLemmas
 pub mod TightLemmas
 pub mod SameRules
 mod LentLemmas
-pub mod GatheredItems
 mod LoopLemmas
+pub mod ByCellLemmas
+pub mod AtomLemmas
+pub mod CutLemmas

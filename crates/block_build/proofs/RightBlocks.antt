@@ -1,5 +1,5 @@
 -- The rules that are built are right, and right rules are no more than the cells.
-use Rattle.std.proofs.Common.{◌≡◌, ◌≤◌, Bool, true, false, cond, suc, length, List, [], ◌∷◌, map, refl, inl, inr, sym, ap, ◌∙◌, subst}
+use Rattle.std.proofs.Common.{◌≡◌, ◌≤◌, ℕ, Bool, true, false, cond, suc, length, List, [], ◌∷◌, map, refl, inl, inr, sym, ap, ◌∙◌, subst}
 use Rattle.std.specs.Prelude.{Option, Some, None, is_some, nat_eq}
 use Rattle.std.specs.List.{list_all}
 use Rattle.std.specs.Option.{option_map, option_map_or}
@@ -31,13 +31,14 @@ use Rattle.net_types.specs.declared.route.Offer.{Offer}
 use Rattle.net_types.specs.declared.route.Part.{Part}
 use Rattle.net_types.specs.declared.rule.Rule.{Rule}
 use Rattle.block_build.proofs.AnswerBlocks.{left-outs, outs-answer}
-use Rattle.block_build.proofs.DecideBlocks.{AreTotal, decide-restricted, decide-blocks, ends-received, gathered_by}
+use Rattle.block_build.proofs.DecideBlocks.{decide-restricted, ends-received}
+use Rattle.block_build.specs.Gathered.{AreTotal, gathered_by}
 use Rattle.block_build.specs.Offers.{each_once}
 use Rattle.block_build.specs.Receivers.{discarding, receiver, received_lines, receivers}
-use Rattle.block_build.specs.Bounds.{AreMeets}
+use Rattle.block_build.specs.Bounds.{AreMeets, IsBuilt}
 use Rattle.block_build.specs.Right.{IsRightFor, view_atoms}
 use Rattle.block_build.specs.Rules.{actions_in, actions_of, rule_of, rules_of}
-use Rattle.block_build.specs.Spreads.{restricted, blocks, built}
+use Rattle.block_build.specs.Spreads.{restricted}
 use Rattle.block_build.specs.Views.{Viewed, IsTotal, entry_of, rules_in, inbound_of, has_all}
 use Rattle.block_build.specs.declared.receive.Receiver.{Receiver}
 use Rattle.std.proofs.lemmas.Option.{same_Some}
@@ -104,29 +105,32 @@ module _ (v : Viewed) (port : PortNo) (p : Part) (t : IsTotal v) (there : is_off
   abbrev their_total : (o : Offer) → Member o p.offers → ends_with_everything (inbound_of v o.exporter) ≡ true
   their_total = offered-total v p.offers t all
 
-  decided : (h : Headers) → h.inport ≡ port → decide (built v port p) h ≡ Some (gathered_by p.best p.offers (receivers (inbound_of v) p.offers) h (given v.outbound h))
-  decided h e =
-      decide-add_lines [] (blocks p.best p.offers (receivers (inbound_of v) p.offers) (add_lines [] (restricted port v.outbound))) h
-      ∙ decide-blocks p.best p.offers (receivers (inbound_of v) p.offers) (add_lines [] (restricted port v.outbound)) h (receivers-total (inbound_of v) p.offers their_total)
-      ∙ ap (option_map (gathered_by p.best p.offers (receivers (inbound_of v) p.offers) h)) (decide-add_lines [] (restricted port v.outbound) h ∙ decide-restricted port v.outbound h e ∙ given_is v.outbound h (total v.outbound t.outbound h))
+  abbrev their_rules : List Receiver
+  their_rules = receivers (inbound_of v) p.offers
 
-  pub right-built : HasDistinctCubes (built v port p) → AreMeets (view_atoms v port p) (built v port p) → IsRightFor v port p (rules_of (built v port p))
-  right-built differ meets = record {
-    gives = λ h valid e.
-        let m = match-rules (built v port p) h (gathered_by p.best p.offers (receivers (inbound_of v) p.offers) h (given v.outbound h)) (decided h e) in (
-          m.rule,
-          m.first,
-          SetLemmas.same_trans (SetLemmas.same_eq (ap (map (done_by h)) m.acts))
-              (SetLemmas.same_trans (left-outs h (gathered_by p.best p.offers (receivers (inbound_of v) p.offers) h (given v.outbound h))) (outs-answer (inbound_of v) p h their_total v.outbound once there)),
-        );
-    differ = subst HasNoRepeats (sym (cubes-rules (built v port p))) (no_repeats (built v port p) differ);
-    meets = λ c k.
-        let i = SetLemmas.map-Member (λ (z : Line). z.cube) (built v port p) c (subst (Member c) (cubes-rules (built v port p)) k) in
-        subst (IsMeet (view_atoms v port p)) (sym i.is) (meets i.of i.stands);
-    ordered = λ rule k.
-        let i = SetLemmas.map-Member rule_of (built v port p) rule k in
-        subst (λ (r : Rule). AreInOrder r.actions) (sym i.is) (actions_rise (actions_in i.of.results));
-  }
+  module _ (limit : ℕ) (made : List Line) (built : IsBuilt limit p.best p.offers their_rules (add_lines [] (restricted port v.outbound)) made) (within : length made ≤ limit) where
+    decided : (h : Headers) → h.inport ≡ port → decide made h ≡ Some (gathered_by p.best p.offers their_rules h (given v.outbound h))
+    decided h e =
+        built.gives within (receivers-total (inbound_of v) p.offers their_total) h (given v.outbound h)
+        (decide-add_lines [] (restricted port v.outbound) h ∙ decide-restricted port v.outbound h e ∙ given_is v.outbound h (total v.outbound t.outbound h))
+
+    pub right-built : AreMeets (view_atoms v port p) made → IsRightFor v port p (rules_of made)
+    right-built meets = record {
+      gives = λ h valid e.
+          let m = match-rules made h (gathered_by p.best p.offers their_rules h (given v.outbound h)) (decided h e) in (
+            m.rule,
+            m.first,
+            SetLemmas.same_trans (SetLemmas.same_eq (ap (map (done_by h)) m.acts))
+                (SetLemmas.same_trans (left-outs h (gathered_by p.best p.offers their_rules h (given v.outbound h))) (outs-answer (inbound_of v) p h their_total v.outbound once there)),
+          );
+      differ = subst HasNoRepeats (sym (cubes-rules made)) (no_repeats made built.differ);
+      meets = λ c k.
+          let i = SetLemmas.map-Member (λ (z : Line). z.cube) made c (subst (Member c) (cubes-rules made) k) in
+          subst (IsMeet (view_atoms v port p)) (sym i.is) (meets i.of i.stands);
+      ordered = λ rule k.
+          let i = SetLemmas.map-Member rule_of made rule k in
+          subst (λ (r : Rule). AreInOrder r.actions) (sym i.is) (actions_rise (actions_in i.of.results));
+    }
 
 -- ---- right rules are no more than the cells
 

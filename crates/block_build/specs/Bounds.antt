@@ -2,13 +2,16 @@
 use Rattle.std.specs.Prelude.{◌≡◌, ℕ, ◌≤◌, Bool, true, false, Option, Some, None, List, [], ◌∷◌, ◌++◌, length, take, if◌then◌else◌}
 use Rattle.classifier.specs.Items.{Item}
 use Rattle.classifier.specs.Lines.{add_lines, is_shadowed, line, product}
-use Rattle.classifier.specs.Meaning.{HasDistinctCubes}
+use Rattle.classifier.specs.Meaning.{HasDistinctCubes, decide}
 use Rattle.classifier.specs.declared.join.Join.TheVariants.{Union}
 use Rattle.classifier.specs.declared.line.Line.{Line}
 use Rattle.net_types.specs.Meets.{IsMeet}
 use Rattle.net_types.specs.Sets.{Member}
 use Rattle.net_types.specs.declared.address.Pid.{Pid}
 use Rattle.net_types.specs.declared.cube.Cube.{Cube}
+use Rattle.net_types.specs.declared.headers.Headers.{Headers}
+use Rattle.net_types.specs.declared.route.Offer.{Offer}
+use Rattle.block_build.specs.Gathered.{AreTotal, gathered_by}
 use Rattle.block_build.specs.Offers.{goes_to}
 use Rattle.block_build.specs.Spreads.{beside, spread}
 use Rattle.block_build.specs.declared.receive.Receiver.{Receiver}
@@ -25,6 +28,13 @@ AreTheirMeets atoms rs = (r : Receiver) → Member r rs → AreMeets atoms r.lin
 -- receivers' and of the sender's rules are.
 pub record IsSome (limit : ℕ) (whole : List Line) (rs : List Receiver) (xs made : List Line) : Type 0 where
   pub whole_within : length made ≤ limit → made ≡ whole
+  pub differ : HasDistinctCubes made
+  pub meets : (atoms : List Cube) → AreTheirMeets atoms rs → AreMeets atoms xs → AreMeets atoms made
+
+-- Rules for each of the sender's: where they are within the limit, they decide by these and what the receivers' give. In any
+-- case their cubes differ, and are meets where those of the receivers' and of the sender's rules are.
+pub record IsBuilt (limit : ℕ) (best : Pid) (offers : List Offer) (rs : List Receiver) (xs made : List Line) : Type 0 where
+  pub gives : length made ≤ limit → AreTotal rs → (h : Headers) (items : List Item) → decide xs h ≡ Some items → decide made h ≡ Some (gathered_by best offers rs h items)
   pub differ : HasDistinctCubes made
   pub meets : (atoms : List Cube) → AreTheirMeets atoms rs → AreMeets atoms xs → AreMeets atoms made
 

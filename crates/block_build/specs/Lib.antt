@@ -7,6 +7,9 @@ pub mod Groups
 pub mod Receivers
 pub mod Kept
 pub mod Spreads
+pub mod Gathered
+pub mod ByCells
+pub mod Reached
 pub mod Bounds
 pub mod Closed
 pub mod Rules

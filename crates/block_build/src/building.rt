@@ -9,7 +9,7 @@ ghost use Rattle.block_build.specs.Views.{has_all};
 
 use crate::actions::rules_of;
 use crate::block::{Block, BuildFault};
-use crate::spread::blocks_of;
+use crate::joining::blocks_of;
 use crate::view::View;
 use classifier::Line;
 use net_types::{Memory, Part, PortNo, Steps};

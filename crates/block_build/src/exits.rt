@@ -1,26 +1,33 @@
 //! The rules of a receiver, as ports to leave by.
 
 ghost use Rattle.std.specs.Prelude.{◌≡◌, ◌∷◌, [], IsTrue, IfOk, OnOk, if◌then◌else◌, Some, None, option_copied};
+ghost use Rattle.std.specs.List.{slice_get};
 ghost use Rattle.net_types.specs.Cubes.{everything};
+ghost use Rattle.net_types.specs.declared.cube.Cube.{Cube as AnyCube};
+ghost use Rattle.cells.specs.Firsts.{first_place};
 ghost use Rattle.classifier.specs.Items.{add_all};
+ghost use Rattle.classifier.specs.Meaning.{cubes_of};
 ghost use Rattle.classifier.specs.Lines.{add_line, add_lines, line, row};
 ghost use Rattle.classifier.specs.Runs.{lines_in};
 ghost use Rattle.classifier.specs.Seen.{Agrees};
 ghost use Rattle.classifier.specs.declared.join.Join.TheVariants.{Union};
 ghost use Rattle.block_build.specs.Bounds.{AreMeets, IsPast};
-ghost use Rattle.block_build.specs.Closed.{AreClosed};
+ghost use Rattle.block_build.specs.ByCells.{held_by};
+ghost use Rattle.block_build.specs.Closed.{AreClosed, first_holding};
 ghost use Rattle.block_build.specs.Groups.{lines_within};
 ghost use Rattle.block_build.specs.Receivers.{IsAlone, received_items, received_lines, receiver};
 ghost use Rattle.block_build.specs.Views.{inbound_of};
 
 use crate::group::Group;
+use crate::grouped::Grouped;
 use crate::kept::{Kept, kept_of};
 use crate::received::Received;
+use crate::stop::Stop;
 use crate::tested::tests_of;
 use crate::uncut::push_uncut;
 use crate::view::View;
 use classifier::{Line, Results, Run, is_hidden, push_reached};
-use net_types::{Cube, Memory, Offer, Pid, PortNo};
+use net_types::{Cube, Memory, Offer, Pid, PortNo, TryCopy};
 use std::alloc::Global;
 use std::collections::HashSet;
 use std::marker::Model;
@@ -108,11 +115,12 @@ fn push_each(
     x: &Line,
     hop: PortNo,
     ys: &[Line],
-) -> Result<(), Memory>
+) -> Result<(), Stop>
     requires { Agrees lines.old.items seen.old }
     ensures lines { OnOk result (lines.new.items ≡ add_lines lines.old.items (row Union x.now (received_lines hop ys.now))) }
     ensures agrees { OnOk result (Agrees lines.new.items seen.new) }
 {
+    received.count(ys.len())?;
     let mut last = None;
     for y in ys {
         last = push_met(received, lines, seen, x, hop, y, last)?;
@@ -128,7 +136,7 @@ fn push_run(
     x: &Line,
     hop: PortNo,
     run: &Run<'_>,
-) -> Result<(), Memory>
+) -> Result<(), Stop>
     requires { Agrees lines.old.items seen.old }
     ensures lines { OnOk result (lines.new.items ≡ add_lines lines.old.items (row Union x.now (received_lines hop run.now.lines.now))) }
     ensures agrees { OnOk result (Agrees lines.new.items seen.new) }
@@ -147,11 +155,12 @@ fn push_runs(
     x: &Line,
     hop: PortNo,
     runs: &[Run<'_>],
-) -> Result<(), Memory>
+) -> Result<(), Stop>
     requires { Agrees lines.old.items seen.old }
     ensures lines { OnOk result (lines.new.items ≡ add_lines lines.old.items (row Union x.now (received_lines hop (lines_in runs.now)))) }
     ensures agrees { OnOk result (Agrees lines.new.items seen.new) }
 {
+    received.count(runs.len())?;
     for run in runs {
         push_run(received, lines, seen, x, hop, run)?;
     }
@@ -166,7 +175,7 @@ fn push_group(
     x: &Line,
     hop: PortNo,
     group: &Group<'_>,
-) -> Result<(), Memory>
+) -> Result<(), Stop>
     requires { Agrees lines.old.items seen.old }
     ensures lines { OnOk result (lines.new.items ≡ add_lines lines.old.items (row Union x.now (received_lines hop (lines_in group.now.runs.items)))) }
     ensures agrees { OnOk result (Agrees lines.new.items seen.new) }
@@ -185,11 +194,12 @@ fn push_groups(
     x: &Line,
     hop: PortNo,
     groups: &[Group<'_>],
-) -> Result<(), Memory>
+) -> Result<(), Stop>
     requires { Agrees lines.old.items seen.old }
     ensures lines { OnOk result (lines.new.items ≡ add_lines lines.old.items (row Union x.now (received_lines hop (lines_within groups.now)))) }
     ensures agrees { OnOk result (Agrees lines.new.items seen.new) }
 {
+    received.count(groups.len())?;
     for group in groups {
         push_group(received, lines, seen, x, hop, group)?;
     }
@@ -223,8 +233,57 @@ fn hop_of(offer: &Offer) -> Option<PortNo>
     if offer.hole { None } else { Some(offer.port) }
 }
 
+/// The cubes of rules, in their order.
+pub(crate) fn cubes_of(alloc: Global, lines: &[Line]) -> Result<Vec<Cube>, Memory>
+    ensures { IfOk result (λ v. v.items ≡ cubes_of lines.now) }
+{
+    let mut cubes = Vec::with_capacity(alloc, lines.len())?;
+    for line in lines {
+        cubes.push(line.cube)?;
+    }
+    Ok(cubes)
+}
+
+/// The rule at a place.
+fn rule_at(xs: &[Line], place: usize) -> Option<&Line>
+    ensures { option_copied result ≡ slice_get xs.now place }
+{
+    if place < xs.len() {
+        Some(&xs[place])
+    } else {
+        None
+    }
+}
+
+/// The first of some rules that holds a cube, whose place is known.
+pub(crate) fn line_at<'x>(xs: &'x [Line], place: Option<usize>) -> Option<&'x Line>
+    ensures { (c : AnyCube) → place ≡ first_place c (cubes_of xs.now) → option_copied result ≡ first_holding c xs.now }
+{
+    match place {
+        Some(place) => rule_at(xs, place),
+        None => None,
+    }
+}
+
+/// How the results leave of the first rule that holds a cell, beside what leaves by others: the place of that rule is known.
+fn beside_many(
+    received: &mut Received,
+    others: &Results,
+    rows: &Grouped<'_>,
+    cell: &Cube,
+    place: Option<usize>,
+) -> Result<Results, Memory>
+    requires { place ≡ first_place cell.now (cubes_of rows.now.lines.now) }
+    ensures { IfOk result (λ r. r ≡ add_all others.now (held_by cell.now (received_lines rows.now.hop rows.now.lines.now))) }
+{
+    match line_at(rows.lines, place) {
+        Some(y) => received.beside(others, rows.hop, &y.results),
+        None => others.copy(),
+    }
+}
+
 impl<'v> Exits<'v> {
-    /// The participant of the offer at a place, with its rules or those of a hole.
+    /// The participant of an offer, with its rules or those of a hole, and its place among those that a sender reaches.
     pub(crate) fn new(
         alloc: Global,
         view: &'v View<'_>,
@@ -249,7 +308,7 @@ impl<'v> Exits<'v> {
         self.who
     }
 
-    /// The place of its offer among the offers. Nothing rests on it but how soon a result is found.
+    /// Its place among those that the sender reaches. Nothing rests on it but how soon a result is found.
     pub(crate) fn place(&self) -> usize {
         self.place
     }
@@ -261,6 +320,36 @@ impl<'v> Exits<'v> {
         match &self.kept {
             Kept::Alone(results) => Some(results),
             Kept::Many(_) => None,
+        }
+    }
+
+    /// The cubes of its rules.
+    pub(crate) fn cubes(&self, alloc: Global) -> Result<Vec<Cube>, Memory>
+        ensures { IfOk result (λ v. v.items ≡ cubes_of self.now.lines) }
+    {
+        match &self.kept {
+            Kept::Alone(_) => {
+                let all = vec![in alloc; Cube::everything()]?;
+                Ok(all)
+            }
+            Kept::Many(rows) => cubes_of(alloc, rows.lines),
+        }
+    }
+
+    /// What it makes of a cell, beside what others do: the place of the first of its rules that holds the cell is known.
+    pub(crate) fn beside(
+        &self,
+        received: &mut Received,
+        others: &Results,
+        cell: &Cube,
+        place: Option<usize>,
+    ) -> Result<Results, Memory>
+        requires { place ≡ first_place cell.now (cubes_of self.now.lines) }
+        ensures { IfOk result (λ r. r ≡ add_all others.now (held_by cell.now self.now.lines)) }
+    {
+        match &self.kept {
+            Kept::Alone(results) => received.union(others, results),
+            Kept::Many(rows) => beside_many(received, others, rows, cell, place),
         }
     }
 
@@ -286,7 +375,7 @@ impl<'v> Exits<'v> {
         seen: &mut HashSet<Cube>,
         x: &Line,
         tests: &[Cube],
-    ) -> Result<bool, Memory>
+    ) -> Result<bool, Stop>
         requires agrees { Agrees lines.old.items seen.old }
         requires closed { AreClosed tests.now lines.old.items }
         requires meets { AreMeets tests.now self.now.lines }
@@ -309,13 +398,16 @@ impl<'v> Exits<'v> {
         lines: &mut Vec<Line>,
         seen: &mut HashSet<Cube>,
         x: &Line,
-    ) -> Result<(), Memory>
+    ) -> Result<(), Stop>
         requires { Agrees lines.old.items seen.old }
         ensures lines { OnOk result (lines.new.items ≡ add_lines lines.old.items (row Union x.now self.now.lines)) }
         ensures agrees { OnOk result (Agrees lines.new.items seen.new) }
     {
         match &self.kept {
-            Kept::Alone(results) => push_alone(received, lines, seen, x, results),
+            Kept::Alone(results) => {
+                push_alone(received, lines, seen, x, results)?;
+                Ok(())
+            }
             Kept::Many(rows) => push_groups(received, lines, seen, x, rows.hop, &rows.groups),
         }
     }

@@ -3,21 +3,27 @@
 
 mod actions;
 mod alone;
+mod atoms;
 mod block;
 mod blocks;
 mod building;
+mod by_cells;
+mod cutting;
 mod exits;
 mod group;
 mod grouped;
 mod groups;
 mod holding;
+mod joining;
 mod kept;
 mod laws;
 mod offers;
 mod receive;
 mod received;
 mod same;
+mod sending;
 mod spread;
+mod stop;
 mod tested;
 mod tight;
 mod turned;

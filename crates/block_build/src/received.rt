@@ -5,6 +5,7 @@ ghost use Rattle.classifier.specs.Items.{add_all};
 ghost use Rattle.block_build.specs.Receivers.{received_items};
 
 use crate::receive::received_results;
+use crate::stop::Stop;
 use classifier::{Results, Unions};
 use net_types::{Memory, PortNo, TryCopy};
 use std::alloc::Global;
@@ -30,6 +31,8 @@ struct Leaving {
 #[derive(Drop)]
 pub(crate) struct Received {
     alloc: Global,
+    // how many rules may still be looked at
+    left: usize,
     kept: Vec<Leaving>,
     unions: Unions,
 }
@@ -71,10 +74,11 @@ fn keep(
 }
 
 impl Received {
-    /// Nothing is kept yet.
-    pub(crate) fn new(alloc: Global) -> Received {
+    /// Nothing is kept yet. So many rules may be looked at.
+    pub(crate) fn new(alloc: Global, left: usize) -> Received {
         Received {
             alloc,
+            left,
             kept: Vec::new(alloc),
             unions: Unions::new(alloc),
         }
@@ -83,6 +87,17 @@ impl Received {
     /// The allocator that it takes its memory from.
     pub(crate) fn alloc(&self) -> Global {
         self.alloc
+    }
+
+    /// Counts rules that are looked at now. Where more would be than may be, the work stops.
+    pub(crate) fn count(&mut self, rules: usize) -> Result<(), Stop> {
+        match self.left.checked_sub(rules) {
+            Some(left) => {
+                self.left = left;
+                Ok(())
+            }
+            None => Err(Stop::Work),
+        }
     }
 
     /// How the results leave, and the packet as it is where there are none.

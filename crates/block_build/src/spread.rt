@@ -8,18 +8,16 @@ ghost use Rattle.classifier.specs.declared.join.Join.TheVariants.{Union};
 ghost use Rattle.net_types.specs.Cells.{freed};
 ghost use Rattle.block_build.specs.Bounds.{AreMeets, IsAdded, IsEnd, IsGrown, IsReached, IsSome, IsSomeBeside};
 ghost use Rattle.block_build.specs.Closed.{AreClosed};
-ghost use Rattle.block_build.specs.Receivers.{receivers};
 ghost use Rattle.block_build.specs.Right.{are_for_any_port};
-ghost use Rattle.block_build.specs.Spreads.{blocks, built, restricted, spread, within_rule};
-ghost use Rattle.block_build.specs.Views.{inbound_of};
+ghost use Rattle.block_build.specs.Spreads.{blocks, restricted, spread, within_rule};
 
 use crate::alone::beside_alone;
 use crate::exits::Exits;
 use crate::offers::{goes_to, has_one_left};
 use crate::received::Received;
-use crate::view::View;
+use crate::stop::Stop;
 use classifier::{Line, Results, push_line};
-use net_types::{Assign, Cube, Loc, Memory, Offer, Part, Pid, PortNo, TryCopy};
+use net_types::{Assign, Cube, Loc, Memory, Offer, Pid, PortNo, TryCopy};
 use std::alloc::Global;
 use std::collections::HashSet;
 
@@ -61,7 +59,7 @@ fn push_freed(
 }
 
 /// The rules of what comes in by a port, without those that can't be reached.
-fn restricted(alloc: Global, port: PortNo, xs: &[Line]) -> Result<Vec<Line>, Memory>
+pub(crate) fn restricted(alloc: Global, port: PortNo, xs: &[Line]) -> Result<Vec<Line>, Memory>
     ensures { IfOk result (λ v. v.items ≡ add_lines [] (restricted port xs.now)) }
 {
     let mut lines = Vec::new(alloc);
@@ -81,7 +79,7 @@ fn push_next(
     receiver: &Exits<'_>,
     tests: &[Cube],
     closed: bool,
-) -> Result<bool, Memory>
+) -> Result<bool, Stop>
     requires agrees { Agrees lines.old.items seen.old }
     requires closed { IsTrue closed → AreClosed tests.now lines.old.items }
     requires meets { AreMeets tests.now receiver.now.lines }
@@ -110,7 +108,7 @@ fn push_many(
     xs: &[Line],
     receiver: &Exits<'_>,
     limit: usize,
-) -> Result<(), Memory>
+) -> Result<(), Stop>
     requires empty { lines.old.items ≡ [] }
     requires agrees { Agrees lines.old.items seen.old }
     ensures added { OnOk result (IsAdded limit lines.old.items xs.now receiver.now.lines lines.new.items) }
@@ -135,7 +133,7 @@ fn push_each(
     xs: &[Line],
     receiver: &Exits<'_>,
     limit: usize,
-) -> Result<(), Memory>
+) -> Result<(), Stop>
     requires { Agrees lines.old.items seen.old }
     ensures added { OnOk result (IsAdded limit lines.old.items xs.now receiver.now.lines lines.new.items) }
     ensures agrees { OnOk result (Agrees lines.new.items seen.new) }
@@ -157,7 +155,7 @@ fn push_product(
     xs: &[Line],
     receiver: &Exits<'_>,
     limit: usize,
-) -> Result<(), Memory>
+) -> Result<(), Stop>
     requires { Agrees lines.old.items seen.old }
     ensures added { OnOk result (IsAdded limit lines.old.items xs.now receiver.now.lines lines.new.items) }
     ensures agrees { OnOk result (Agrees lines.new.items seen.new) }
@@ -175,7 +173,7 @@ fn product_beside(
     xs: &[Line],
     receiver: &Exits<'_>,
     limit: usize,
-) -> Result<Vec<Line>, Memory>
+) -> Result<Vec<Line>, Stop>
     ensures { IfOk result (λ v. IsSomeBeside limit true xs.now receiver.now.lines v.items) }
 {
     let mut more = Vec::new(received.alloc());
@@ -191,7 +189,7 @@ fn beside(
     lines: Vec<Line>,
     receiver: &Exits<'_>,
     limit: usize,
-) -> Result<Vec<Line>, Memory>
+) -> Result<Vec<Line>, Stop>
     ensures { IfOk result (λ v. IsSomeBeside limit goes lines.items receiver.now.lines v.items) }
 {
     if !goes {
@@ -218,7 +216,7 @@ fn within_rule(
     receivers: &[Exits<'_>],
     x: &Line,
     limit: usize,
-) -> Result<Vec<Line>, Memory>
+) -> Result<Vec<Line>, Stop>
     ensures { IfOk result (λ v. IsSome limit (spread left best x.now.results (line [] x.now.cube ∷ []) receivers.now) receivers.now (x.now ∷ []) v.items) }
 {
     let alloc = received.alloc();
@@ -292,7 +290,7 @@ fn push_only(
     seen: &mut HashSet<Cube>,
     cube: Cube,
     receiver: &Exits<'_>,
-) -> Result<(), Memory>
+) -> Result<(), Stop>
     requires { Agrees lines.old.items seen.old }
     ensures lines { OnOk result (lines.new.items ≡ add_lines lines.old.items (row Union (line [] cube) receiver.now.lines)) }
     ensures agrees { OnOk result (Agrees lines.new.items seen.new) }
@@ -312,7 +310,7 @@ fn push_within(
     receivers: &[Exits<'_>],
     x: &Line,
     limit: usize,
-) -> Result<(), Memory>
+) -> Result<(), Stop>
     requires { Agrees lines.old.items seen.old }
     ensures grown { OnOk result (IsGrown limit lines.old.items (within_rule best offers.now receivers.now x.now) receivers.now (x.now ∷ []) lines.new.items) }
     ensures agrees { OnOk result (length lines.new.items ≤ limit → Agrees lines.new.items seen.new) }
@@ -336,18 +334,20 @@ fn push_within(
     Ok(())
 }
 
-/// The rules within each of a sender's rules. It stops where there are more than the limit.
-fn spread_all(
+/// The rules within each of a sender's rules, each joined with the receivers'. It stops where there are more than the limit, and
+/// where more rules would be looked at than may be.
+pub(crate) fn spread_all(
     alloc: Global,
     best: Pid,
     offers: &[Offer],
     receivers: &[Exits<'_>],
     xs: &[Line],
     limit: usize,
-) -> Result<Vec<Line>, Memory>
+    most: usize,
+) -> Result<Vec<Line>, Stop>
     ensures { IfOk result (λ v. IsSome limit (add_lines [] (blocks best offers.now receivers.now xs.now)) receivers.now xs.now v.items) }
 {
-    let mut received = Received::new(alloc);
+    let mut received = Received::new(alloc, most);
     let mut lines = Vec::new(alloc);
     let mut seen = HashSet::new(alloc);
     for x in xs {
@@ -368,21 +368,6 @@ fn spread_all(
     Ok(lines)
 }
 
-/// The participants in the offers, each with its rules.
-fn exits_of<'v>(
-    alloc: Global,
-    view: &'v View<'_>,
-    offers: &[Offer],
-) -> Result<Vec<Exits<'v>>, Memory>
-    ensures { IfOk result (λ v. v.items ≡ receivers (inbound_of view.now) offers.now) }
-{
-    let mut all = Vec::with_capacity(alloc, offers.len())?;
-    for offer in offers {
-        all.push(Exits::new(alloc, view, offer, all.len())?)?;
-    }
-    Ok(all)
-}
-
 /// Whether none of the rules tells by which port a packet has to come in.
 pub(crate) fn are_for_any_port(xs: &[Line]) -> bool
     ensures { result ≡ are_for_any_port xs.now }
@@ -393,25 +378,4 @@ pub(crate) fn are_for_any_port(xs: &[Line]) -> bool
         }
     }
     true
-}
-
-/// The rules of a port and a part, with ports to leave by: all of them, where there are no more than the limit, and else
-/// more than the limit.
-pub(crate) fn blocks_of(
-    alloc: Global,
-    view: &View<'_>,
-    port: PortNo,
-    part: &Part,
-    limit: usize,
-) -> Result<Vec<Line>, Memory>
-    ensures { IfOk result (λ v. IsSome limit (built view.now port part.now) (receivers (inbound_of view.now) part.now.offers) (add_lines [] (restricted port view.now.outbound)) v.items) }
-{
-    let offers = part.offers.items();
-    let receivers = exits_of(alloc, view, offers)?;
-    let own = view.outbound();
-    if are_for_any_port(own) {
-        return spread_all(alloc, part.best, offers, &receivers, own, limit);
-    }
-    let at_port = restricted(alloc, port, own)?;
-    spread_all(alloc, part.best, offers, &receivers, &at_port, limit)
 }

@@ -14,6 +14,7 @@ ghost use Rattle.block_build.specs.Receivers.{received_items, received_lines};
 use crate::group::Group;
 use crate::holding::first_holding;
 use crate::received::Received;
+use crate::stop::Stop;
 use crate::tested::is_same;
 use classifier::{Line, is_hidden, push_reached};
 use net_types::{Cube, Memory, PortNo};
@@ -74,7 +75,7 @@ pub(crate) fn push_uncut(
     hop: PortNo,
     groups: &[Group<'_>],
     tests: &[Cube],
-) -> Result<bool, Memory>
+) -> Result<bool, Stop>
     requires agrees { Agrees lines.old.items seen.old }
     requires closed { AreClosed tests.now lines.old.items }
     requires meets { AreMeets tests.now (received_lines hop (lines_within groups.now)) }
@@ -85,6 +86,7 @@ pub(crate) fn push_uncut(
     if is_hidden(lines, seen, &x.cube) {
         return Ok(false);
     }
+    received.count(tests.len())?;
     if !are_there(lines, seen, &x.cube, tests) {
         return Ok(false);
     }

@@ -1,16 +1,15 @@
 -- Where all the rules are there they are right, and in any case there are no more than the cells.
-use Rattle.std.proofs.Common.{◌≡◌, [], sym, ap, subst, ◌∙◌}
+use Rattle.std.proofs.Common.{◌≡◌, List, [], sym, ap, subst, ◌∙◌}
 use Rattle.block_build.proofs.PortLemmas.{restricted_any}
 use Rattle.block_build.proofs.RightBlocks.{right-built, lines_within}
 use Rattle.block_build.proofs.ShapeBlocks.{own-meets, their-meets}
-use Rattle.block_build.specs.Bounds.{AreMeets}
-use Rattle.block_build.specs.Right.{IsRightFor, view_atoms}
+use Rattle.block_build.specs.Bounds.{IsBuilt}
+use Rattle.block_build.specs.Right.{view_atoms}
 use Rattle.block_build.specs.Receivers.{receivers}
-use Rattle.block_build.specs.Rules.{rules_of}
-use Rattle.block_build.specs.Spreads.{blocks, restricted}
+use Rattle.block_build.specs.Spreads.{restricted}
 use Rattle.block_build.specs.Views.{inbound_of}
 use Rattle.classifier.specs.Lines.{add_lines}
-use Rattle.classifier.specs.Meaning.{HasDistinctCubes}
+use Rattle.classifier.specs.declared.line.Line.{Line}
 use Rattle.block_build.proofs.building.lines_for.Goals as goal
 
 pub returns-clause-right : goal.returns-clause-right
@@ -18,23 +17,17 @@ returns-clause-right c = λ within.
     let view = c.args.view.now in
     let part = c.args.part.now in
     let made = c.in_ok-lines.ensures in
-    let all = made.whole_within within in
-    let meets = made.meets (view_atoms view c.args.port part) (their-meets (inbound_of view) part c.args.port view.outbound) (own-meets (inbound_of view) part c.args.port view.outbound) in
-    subst (λ lines. IsRightFor c.args.view.now c.args.port c.args.part.now (rules_of lines)) (sym all)
-    (right-built view c.args.port part c.known.ensures c.requires.best c.requires.once c.requires.all
-    (subst HasDistinctCubes all made.differ) (subst (AreMeets (view_atoms view c.args.port part)) all meets))
+    right-built view c.args.port part c.known.ensures c.requires.best c.requires.once c.requires.all c.args.limit c.in_ok-lines.lines.items made within
+    (made.meets (view_atoms view c.args.port part) (their-meets (inbound_of view) part c.args.port view.outbound) (own-meets (inbound_of view) part c.args.port view.outbound))
 
 pub returns-clause-anywhere : goal.returns-clause-anywhere
 returns-clause-anywhere c = λ within any port.
     let view = c.args.view.now in
     let part = c.args.part.now in
-    let made = c.in_ok-lines.ensures in
     let same : restricted c.args.port view.outbound ≡ restricted port view.outbound = restricted_any c.args.port view.outbound any ∙ sym (restricted_any port view.outbound any) in
-    let all = made.whole_within within ∙ ap (λ xs. add_lines [] (blocks part.best part.offers (receivers (inbound_of view) part.offers) (add_lines [] xs))) same in
-    let meets = made.meets (view_atoms view port part) (their-meets (inbound_of view) part port view.outbound) (subst (λ xs. AreMeets (view_atoms view port part) (add_lines [] xs)) (sym same) (own-meets (inbound_of view) part port view.outbound)) in
-    subst (λ lines. IsRightFor view port part (rules_of lines)) (sym all)
-    (right-built view port part c.known.ensures c.requires.best c.requires.once c.requires.all
-    (subst HasDistinctCubes all made.differ) (subst (AreMeets (view_atoms view port part)) all meets))
+    let made = subst (λ (xs : List Line). IsBuilt c.args.limit part.best part.offers (receivers (inbound_of view) part.offers) (add_lines [] xs) c.in_ok-lines.lines.items) same c.in_ok-lines.ensures in
+    right-built view port part c.known.ensures c.requires.best c.requires.once c.requires.all c.args.limit c.in_ok-lines.lines.items made within
+    (made.meets (view_atoms view port part) (their-meets (inbound_of view) part port view.outbound) (own-meets (inbound_of view) part port view.outbound))
 
 pub returns-clause-cells : goal.returns-clause-cells
 returns-clause-cells c =
