@@ -15,7 +15,7 @@ use Rattle.classifier.proofs.ResultLemmas.{cube-stands}
 use Rattle.classifier.proofs.ShapeLemmas.{distinct-add_lines}
 use Rattle.classifier.specs.Items.{Item, add_all}
 use Rattle.classifier.specs.Lines.{add_lines, line}
-use Rattle.classifier.specs.Meaning.{HasDistinctCubes, cubes_of, decide, given}
+use Rattle.classifier.specs.Meaning.{cubes_of, decide, given}
 use Rattle.classifier.specs.declared.line.Line.{Line}
 use Rattle.net_types.proofs.MeetLemmas.{IsMeet-member}
 use Rattle.net_types.proofs.SetLemmas
@@ -29,7 +29,7 @@ use Rattle.net_types.specs.declared.cube.Cube.{Cube}
 use Rattle.net_types.specs.declared.headers.Headers.{Headers}
 use Rattle.net_types.specs.declared.route.Offer.{Offer}
 use Rattle.block_build.proofs.DecideBlocks.{decide-blocks}
-use Rattle.block_build.specs.Bounds.{AreMeets, AreTheirMeets, IsBuilt, IsSome}
+use Rattle.block_build.specs.Bounds.{AreMeets, IsBuilt, IsSome}
 use Rattle.block_build.specs.ByCells.{AreCellsFor, AreTheirs, HasCubes, beside_all, beside_at, dropping, held_by}
 use Rattle.block_build.specs.Closed.{first_holding}
 use Rattle.block_build.specs.Gathered.{gathered, gathered_by}

@@ -12,7 +12,6 @@ use Rattle.classifier.specs.declared.line.Line.{Line}
 use Rattle.net_types.specs.Cells.{freed_from}
 use Rattle.net_types.specs.Cubes.{has, agrees, same_port, port_is}
 use Rattle.net_types.specs.Prefixes.{covers}
-use Rattle.net_types.specs.Sets.{Member}
 use Rattle.net_types.specs.declared.address.Pid.{Pid}
 use Rattle.net_types.specs.declared.address.PortNo.{PortNo}
 use Rattle.net_types.specs.declared.cube.Cube.{Cube}

@@ -2,7 +2,7 @@
 use Rattle.std.proofs.Common.{◌≡◌, ◌≤◌, ℕ, Bool, true, false, cond, suc, length, List, [], ◌∷◌, map, refl, inl, inr, sym, ap, ◌∙◌, subst}
 use Rattle.std.specs.Prelude.{Option, Some, None, is_some, nat_eq}
 use Rattle.std.specs.List.{list_all}
-use Rattle.std.specs.Option.{option_map, option_map_or}
+use Rattle.std.specs.Option.{option_map_or}
 use Rattle.std.proofs.lemmas.Bool.{cases_Bool, and_parts, false≢true}
 use Rattle.classifier.proofs.DecideLemmas.{total, given_is, decide-add_lines}
 use Rattle.classifier.specs.Items.{Item}

@@ -1,5 +1,5 @@
 -- The rules of cells: what the sender's rule that holds a cell gives, and what the receivers make of that (this exchange's own rule).
-use Rattle.std.specs.Prelude.{◌≡◌, List, [], ◌∷◌, map, if◌then◌else◌}
+use Rattle.std.specs.Prelude.{List, [], ◌∷◌, map, if◌then◌else◌}
 use Rattle.std.specs.Option.{option_map_or}
 use Rattle.classifier.specs.Items.{Item, add_all}
 use Rattle.classifier.specs.Lines.{line}

@@ -1,5 +1,5 @@
 -- The receivers that one of a sender's rules sends to (this exchange's own rule).
-use Rattle.std.specs.Prelude.{◌≡◌, Bool, false, List}
+use Rattle.std.specs.Prelude.{◌≡◌, false, List}
 use Rattle.classifier.specs.Items.{Item}
 use Rattle.classifier.specs.declared.line.Line.{Line}
 use Rattle.net_types.specs.Sets.{Member}
@@ -17,5 +17,5 @@ NoneSends best offers xs who = (x : Line) → Member x xs → goes_to (has_one_l
 -- Receivers of which those are left out that none of the rules sends to: it gives with these what it gives with all.
 pub record AreReached (best : Pid) (offers : List Offer) (xs : List Line) (all made : List Receiver) : Type 0 where
   pub same : (x : Line) → Member x xs → (h : Headers) (kept : List Item)
-    → gathered (has_one_left offers x.results) best x.results h kept made ≡ gathered (has_one_left offers x.results) best x.results h kept all
+      → gathered (has_one_left offers x.results) best x.results h kept made ≡ gathered (has_one_left offers x.results) best x.results h kept all
   pub among : (r : Receiver) → Member r made → Member r all

@@ -1,5 +1,5 @@
 -- Where all the rules are there they are right, and in any case there are no more than the cells.
-use Rattle.std.proofs.Common.{◌≡◌, List, [], sym, ap, subst, ◌∙◌}
+use Rattle.std.proofs.Common.{◌≡◌, List, [], sym, subst, ◌∙◌}
 use Rattle.block_build.proofs.PortLemmas.{restricted_any}
 use Rattle.block_build.proofs.RightBlocks.{right-built, lines_within}
 use Rattle.block_build.proofs.ShapeBlocks.{own-meets, their-meets}

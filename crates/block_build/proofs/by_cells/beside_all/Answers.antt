@@ -1,6 +1,5 @@
 -- One more receiver.
-use Rattle.std.proofs.Common.{◌≡◌, ◌+◌, ◌∷◌, drop, sym, ap, ◌∙◌}
-use Rattle.std.proofs.lemmas.List.{at_drop_more}
+use Rattle.std.proofs.Common.{sym, ap, ◌∙◌}
 use Rattle.cells.specs.Firsts.{firsts}
 use Rattle.classifier.specs.Meaning.{cubes_of}
 use Rattle.block_build.proofs.ByCellLemmas.{all-more, cubes-kept}

@@ -1,5 +1,5 @@
 -- The cells are those of the cubes.
-use Rattle.std.proofs.Common.{◌≡◌, ◌<◌, ◌≤◌, List, [], Option, IfSome, length, arith, sym, ap, ◌∙◌, subst}
+use Rattle.std.proofs.Common.{◌<◌, ◌≤◌, List, [], length, arith, sym, subst}
 use Rattle.cells.specs.Cells.{AreMeets}
 use Rattle.classifier.specs.Lines.{add_lines}
 use Rattle.classifier.specs.declared.line.Line.{Line}
@@ -19,10 +19,10 @@ returns-then-len-limit c =
     let cubes = c.cubes.result.now in
     let all : AreTheirs rs sending.rules.now cubes = subst (AreTheirs rs sending.rules.now) (sym c.cubes.ensures.value) theirs in
     ok-map c.too_many.result _ _ (λ o many. some-map o _ _ (λ v p.
-        let over : length (add_lines [] (dropping cubes)) ≤ c.args.limit → ⊥ = λ within.
-            let more : c.args.limit < length (add_lines [] (dropping cubes)) = subst (λ (zs : List Line). c.args.limit < length zs) p.0 p.1 in
-            absurd (omega (arith, more, within)) in
-        subst (λ (zs : List Line). IsBuilt c.args.limit sending.best sending.offers.now rs sending.rules.now zs) (sym p.0) (many-built c.args.limit sending.best sending.offers.now rs sending.rules.now cubes over all)) many) c.too_many.ensures
+    let over : length (add_lines [] (dropping cubes)) ≤ c.args.limit → ⊥ = λ within.
+    let more : c.args.limit < length (add_lines [] (dropping cubes)) = subst (λ (zs : List Line). c.args.limit < length zs) p.0 p.1 in
+    absurd (omega (arith, more, within)) in
+    subst (λ (zs : List Line). IsBuilt c.args.limit sending.best sending.offers.now rs sending.rules.now zs) (sym p.0) (many-built c.args.limit sending.best sending.offers.now rs sending.rules.now cubes over all)) many) c.too_many.ensures
 
 pub lines_by-requires : goal.lines_by-requires
 lines_by-requires c =

@@ -16,5 +16,5 @@ returns c =
     let sending = c.args.sending.now in
     let built = cells-built c.args.limit sending.best sending.offers.now c.args.receivers.now sending.rules.now c.args.cubes.now c.requires in
     ok-map c.reached_of.result _ _ (λ v same.
-        subst (λ (lines : List Line). IsBuilt c.args.limit sending.best sending.offers.now c.args.receivers.now sending.rules.now lines)
-            (sym (same ∙ ap (λ (zs : List Line). add_lines [] zs) (c.in_ok-lines.ensures ∙ ap (λ (zs : List Line). beside_all sending.best sending.offers.now sending.rules.now zs c.args.receivers.now) c.in_ok-cells.ensures))) built) c.reached_of.ensures
+    subst (λ (lines : List Line). IsBuilt c.args.limit sending.best sending.offers.now c.args.receivers.now sending.rules.now lines)
+    (sym (same ∙ ap (λ (zs : List Line). add_lines [] zs) (c.in_ok-lines.ensures ∙ ap (λ (zs : List Line). beside_all sending.best sending.offers.now sending.rules.now zs c.args.receivers.now) c.in_ok-cells.ensures))) built) c.reached_of.ensures

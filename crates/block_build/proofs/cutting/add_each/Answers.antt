@@ -1,7 +1,6 @@
 -- One more cube is there.
-use Rattle.std.proofs.Common.{◌≡◌, IfSome, take, arith, sym, subst, ◌∙◌}
+use Rattle.std.proofs.Common.{IfSome, arith, sym, subst}
 use Rattle.std.proofs.lemmas.List.{take_all}
-use Rattle.cells.specs.Cells.{AreMeets}
 use Rattle.net_types.specs.Sets.{Member}
 use Rattle.net_types.specs.declared.cube.Cube.{Cube}
 use Rattle.block_build.proofs.BoundLemmas.{Member-got}

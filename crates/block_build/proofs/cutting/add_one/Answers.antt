@@ -1,5 +1,4 @@
 -- Meets of the cubes and one of these are meets of these.
-use Rattle.std.proofs.Common.{inl, inr, sym, subst, [], ◌∷◌, ◌++◌}
 use Rattle.block_build.proofs.CutLemmas.{meets_one}
 use Rattle.block_build.proofs.cutting.add_one.Goals as goal
 

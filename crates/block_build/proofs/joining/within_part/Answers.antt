@@ -1,5 +1,5 @@
 -- What is built for the receivers that are reached is built for all.
-use Rattle.std.proofs.Common.{◌≡◌, List, sym, ap, ◌∙◌, subst}
+use Rattle.std.proofs.Common.{◌≡◌, List, ◌∙◌, subst}
 use Rattle.classifier.specs.declared.line.Line.{Line}
 use Rattle.net_types.specs.declared.route.Offer.{Offer}
 use Rattle.block_build.proofs.ByCellLemmas.{built-all}

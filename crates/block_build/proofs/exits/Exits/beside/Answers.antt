@@ -1,5 +1,5 @@
 -- The rules to leave by hold what the receiver's own do.
-use Rattle.std.proofs.Common.{◌≡◌, [], ◌∷◌, IfOk, sym, ap, ◌∙◌, subst}
+use Rattle.std.proofs.Common.{◌≡◌, IfOk, sym, ap, ◌∙◌, subst}
 use Rattle.cells.specs.Firsts.{first_place}
 use Rattle.classifier.specs.Items.{add_all}
 use Rattle.classifier.specs.Meaning.{cubes_of}

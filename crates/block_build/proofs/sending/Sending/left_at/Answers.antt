@@ -1,5 +1,5 @@
 -- The rule at the place is the first one that holds the cube.
-use Rattle.std.proofs.Common.{refl, sym, ap, ◌∙◌}
+use Rattle.std.proofs.Common.{sym, ap, ◌∙◌}
 use Rattle.block_build.specs.Offers.{has_one_left}
 use Rattle.block_build.proofs.ByCellLemmas.{held-at, held-none}
 use Rattle.block_build.proofs.sending.Sending.left_at.Goals as goal
