@@ -19,7 +19,7 @@ use net_types::{Memory, Part, PortNo};
 use std::alloc::Global;
 
 /// So many rules are looked at where they are joined one by one.
-const MOST: usize = 4_194_304;
+const MOST: usize = 8_388_608;
 
 /// The participants in the offers that the sender reaches, each with its rules.
 fn reached<'v>(
