@@ -32,6 +32,9 @@ use std::alloc::Global;
 use std::collections::HashSet;
 use std::marker::Model;
 
+/// So many looks a rule takes that may be joined with one.
+const RULE: usize = 4;
+
 /// A participant in the offers, with what is kept of its rules. Contracts see these as ports to leave by.
 #[derive(Drop)]
 pub struct Exits<'v> {
@@ -120,7 +123,7 @@ fn push_each(
     ensures lines { OnOk result (lines.new.items ≡ add_lines lines.old.items (row Union x.now (received_lines hop ys.now))) }
     ensures agrees { OnOk result (Agrees lines.new.items seen.new) }
 {
-    received.count(ys.len())?;
+    received.count(ys.len().saturating_mul(RULE))?;
     let mut last = None;
     for y in ys {
         last = push_met(received, lines, seen, x, hop, y, last)?;

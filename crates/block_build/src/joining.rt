@@ -18,8 +18,8 @@ use classifier::Line;
 use net_types::{Memory, Part, PortNo};
 use std::alloc::Global;
 
-/// So many rules are looked at where they are joined one by one.
-const MOST: usize = 8_388_608;
+/// So many looks are taken where rules are joined one by one.
+const MOST: usize = 67_108_864;
 
 /// The participants in the offers that the sender reaches, each with its rules.
 fn reached<'v>(
@@ -40,7 +40,7 @@ fn reached<'v>(
     Ok(all)
 }
 
-/// The rules joined one by one, however many are looked at.
+/// The rules joined one by one, however many looks that takes.
 fn one_by_one(
     alloc: Global,
     sending: &Sending<'_>,
@@ -52,7 +52,7 @@ fn one_by_one(
     let (best, offers, rules) = (sending.best, sending.offers, sending.rules);
     match spread_all(alloc, best, offers, receivers, rules, limit, usize::MAX) {
         Ok(lines) => Ok(lines),
-        // before so many are looked at, memory has run out
+        // so many looks nobody waits for
         Err(Stop::Work | Stop::Memory) => Err(Memory),
     }
 }

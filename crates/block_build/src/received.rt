@@ -31,7 +31,7 @@ struct Leaving {
 #[derive(Drop)]
 pub(crate) struct Received {
     alloc: Global,
-    // how many rules may still be looked at
+    // how many looks are left
     left: usize,
     kept: Vec<Leaving>,
     unions: Unions,
@@ -74,7 +74,7 @@ fn keep(
 }
 
 impl Received {
-    /// Nothing is kept yet. So many rules may be looked at.
+    /// Nothing is kept yet. So many looks may be taken.
     pub(crate) fn new(alloc: Global, left: usize) -> Received {
         Received {
             alloc,
@@ -89,9 +89,10 @@ impl Received {
         self.alloc
     }
 
-    /// Counts rules that are looked at now. Where more would be than may be, the work stops.
-    pub(crate) fn count(&mut self, rules: usize) -> Result<(), Stop> {
-        match self.left.checked_sub(rules) {
+    /// Counts looks that are taken now, a look being what it takes to see whether a cube meets one other. Where more would be
+    /// taken than may be, the work stops.
+    pub(crate) fn count(&mut self, looks: usize) -> Result<(), Stop> {
+        match self.left.checked_sub(looks) {
             Some(left) => {
                 self.left = left;
                 Ok(())

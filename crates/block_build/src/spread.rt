@@ -335,7 +335,7 @@ fn push_within(
 }
 
 /// The rules within each of a sender's rules, each joined with the receivers'. It stops where there are more than the limit, and
-/// where more rules would be looked at than may be.
+/// where more looks would be taken than may be.
 pub(crate) fn spread_all(
     alloc: Global,
     best: Pid,

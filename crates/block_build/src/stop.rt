@@ -6,7 +6,7 @@ use std::alloc::{AllocError, AllocFailed};
 /// Why rules aren't joined one by one.
 #[derive(Clone, Copy, Debug, PartialEq, Eq)]
 pub(crate) enum Stop {
-    /// More rules would be looked at than may be.
+    /// More looks would be taken than may be.
     Work,
     /// Memory ran out.
     Memory,

@@ -20,6 +20,9 @@ use classifier::{Line, is_hidden, push_reached};
 use net_types::{Cube, Memory, PortNo};
 use std::collections::HashSet;
 
+/// So many looks a tested cube takes, whose meet is looked for among all cubes.
+const TEST: usize = 8;
+
 /// Whether what a cube has in common with a tested one is the cube of a rule, or all that it has.
 fn is_there(lines: &[Line], seen: &HashSet<Cube>, cube: &Cube, test: &Cube) -> bool
     requires agrees { Agrees lines.now seen.now }
@@ -86,7 +89,7 @@ pub(crate) fn push_uncut(
     if is_hidden(lines, seen, &x.cube) {
         return Ok(false);
     }
-    received.count(tests.len())?;
+    received.count(tests.len().saturating_mul(TEST))?;
     if !are_there(lines, seen, &x.cube, tests) {
         return Ok(false);
     }
