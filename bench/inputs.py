@@ -598,13 +598,31 @@ def receiver_of(policy):
     return start
 
 
-def receivers_of(count, prefixes):
+def turned(items, n):
+    """The same, begun at another place."""
+    n %= len(items)
+    return items[n:] + items[:n]
+
+
+def four_turned(n, action):
+    """The same tests as those of four fields from 1 to 15, in another order for each number."""
+    values = turned(list(range(1, 16)), n)
+    nets = [f"{value}.0.0.0/8" for value in values]
+    tests = [choices("srcport", values, action), choices("dstport", values, action), choices("srcip", nets, action), choices("dstip", nets, action)]
+    return "+".join(turned(tests, n))
+
+
+def four_alike(n, action):
+    return four_fields(1, 15, action)
+
+
+def receivers_of(count, prefixes, fields=four_alike):
     """So many participants announce prefixes to the first one alone, and the policy of each has 65536 rules."""
     def start(out):
         participants(out, count + 1)
         for n in range(1, count + 1):
             out.write(line("export", named(n), f"allow {named(0)} *; deny * *"))
-            out.write(line("in", named(n), four_fields(1, 15, f">>fwd({n + 1})")))
+            out.write(line("in", named(n), fields(n, f">>fwd({n + 1})")))
         for number in range(prefixes):
             for n in range(1 + number, count + 1):
                 out.write(announced(n, bytes([8, 10 + number])))
@@ -635,6 +653,8 @@ BEYOND = [
     ("out, the same to one that tests one value more", receiver_of(behind_one_another(32, (1, 2, 3)) + ">>fwd(2)"), ("out", "A"), behind_one_another(32, (1, 2)) + ">>fwd(B)"),
     ("out, one rule to 64 receivers of 65536 rules each", receivers_of(64, 1), ("out", named(0)), each_of(64)),
     ("out, one rule to sixteen such receivers, for eight tags", receivers_of(16, 8), ("out", named(0)), each_of(16)),
+    ("out, one rule to sixteen receivers that test the same in other orders", receivers_of(16, 1, four_turned), ("out", named(0)), each_of(16)),
+    ("out, one rule to 64 such receivers", receivers_of(64, 1, four_turned), ("out", named(0)), each_of(64)),
     ("out, 65536 meets and 240 targets each, for two tags", announcers(240, 2), ("out", named(0)), four_fields(1, 15, "") + "+" + each_of(240)),
     ("in, 58 tests by `!`, each before nine assignments, in place of as many others", receiver_of(denied(13, nine_each)), ("in", "B"), denied(13, other_nine)),
     ("in, 900 assignments by tests before a sum of 255 tests, before tests that leave little, no routes", ports_without_routes, ("in", "B"),
