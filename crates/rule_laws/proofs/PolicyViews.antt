@@ -1,10 +1,11 @@
 -- The view of a part by classifiers of its policies, and rules that are right for it.
-use Rattle.std.proofs.Common.{◌≡◌, true, List, [], ◌∷◌, map, refl, inl, inr, sym, ap, ◌∙◌, subst}
+use Rattle.std.proofs.Common.{◌≡◌, arith, length, true, List, [], ◌∷◌, map, refl, inl, inr, sym, ap, ◌∙◌, subst}
+use Rattle.block_build.proofs.ByCellLemmas.{some-built}
 use Rattle.block_build.proofs.PolicyRight.{right_for_policies}
 use Rattle.block_build.proofs.RightBlocks.{right-built}
 use Rattle.block_build.proofs.ShapeBlocks.{meets-spread, own-meets, their-meets}
 use Rattle.block_build.proofs.ViewLemmas.{all_offered, rules_offered}
-use Rattle.block_build.specs.Bounds.{AreMeets, AreTheirMeets}
+use Rattle.block_build.specs.Bounds.{AreMeets, AreTheirMeets, IsBuilt}
 use Rattle.block_build.specs.Laws.{IsViewOf}
 use Rattle.block_build.specs.Offers.{each_once, has_one_left}
 use Rattle.block_build.specs.Receivers.{receivers}
@@ -50,15 +51,22 @@ module _ (all : List Cube) (best : Pid) (offers : List Offer) (rs : List Receive
     | inr m ↦ blocks-meets xs (λ y j. f y (inr j)) z m
   ]
 
-built-meets : (v : Viewed) (port : PortNo) (part : Part) → AreMeets (view_atoms v port part) (built v port part)
-built-meets v port part =
-    each-add_lines (λ z. IsMeet (view_atoms v port part) z.cube) [] (blocks part.best part.offers (receivers (inbound_of v) part.offers) (add_lines [] (restricted port v.outbound)))
+-- they are meets of any atoms of which those of the sender's and of the receivers' rules are
+built-meets : (v : Viewed) (port : PortNo) (part : Part) (atoms : List Cube) → AreTheirMeets atoms (receivers (inbound_of v) part.offers) → AreMeets atoms (add_lines [] (restricted port v.outbound))
+    → AreMeets atoms (built v port part)
+built-meets v port part atoms theirs own =
+    each-add_lines (λ z. IsMeet atoms z.cube) [] (blocks part.best part.offers (receivers (inbound_of v) part.offers) (add_lines [] (restricted port v.outbound)))
     (λ z k. elim k [ ])
-    (blocks-meets (view_atoms v port part) part.best part.offers (receivers (inbound_of v) part.offers) (their-meets (inbound_of v) part port v.outbound)
-    (add_lines [] (restricted port v.outbound)) (own-meets (inbound_of v) part port v.outbound))
+    (blocks-meets atoms part.best part.offers (receivers (inbound_of v) part.offers) theirs (add_lines [] (restricted port v.outbound)) own)
 
 built-differ : (v : Viewed) (port : PortNo) (part : Part) → lines.HasDistinctCubes (built v port part)
 built-differ v port part = distinct-add_lines [] (blocks part.best part.offers (receivers (inbound_of v) part.offers) (add_lines [] (restricted port v.outbound))) tt
+
+built-built : (v : Viewed) (port : PortNo) (part : Part)
+    → IsBuilt (length (built v port part)) part.best part.offers (receivers (inbound_of v) part.offers) (add_lines [] (restricted port v.outbound)) (built v port part)
+built-built v port part =
+    some-built (length (built v port part)) part.best part.offers (receivers (inbound_of v) part.offers) (add_lines [] (restricted port v.outbound)) (built v port part)
+    (record { whole_within = λ _. refl; differ = built-differ v port part; meets = built-meets v port part })
 
 -- ---- the view of the policies
 
@@ -102,7 +110,8 @@ module _ (ps : Policies) (part : Part) where
     right : IsRight ps part port (rules_of (built view port part))
     right =
         right_for_policies ps part port view (rules_of (built view port part)) there view-of
-        (right-built view port part view-total there once view-all (built-differ view port part) (built-meets view port part))
+        (right-built view port part view-total there once view-all (length (built view port part)) (built view port part) (built-built view port part) (omega (arith))
+        (built-meets view port part (view_atoms view port part) (their-meets (inbound_of view) part port view.outbound) (own-meets (inbound_of view) part port view.outbound)))
 
     pub some_right : (rs : List Rule) × IsRight ps part port rs
     some_right = (rules_of (built view port part), right)
