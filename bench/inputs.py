@@ -647,7 +647,7 @@ def other_nine(n):
     return "(" + settings("srcport", range(3 * n, 3 * n + 3)) + ")>>(" + settings("dstport", range(3, 6)) + ")"
 
 
-# what takes more than ten seconds or 2 GB: joining a sender's rules with receivers', and what is in place of what is as large
+# what takes long or much: joining a sender's rules with receivers', what is in place of what is as large, and what a sum goes through
 BEYOND = [
     ("out, prefixes within prefixes to a receiver that tests the same", receiver_of(behind_one_another(32, (1, 2)) + ">>fwd(2)"), ("out", "A"), behind_one_another(32, (1, 2)) + ">>fwd(B)"),
     ("out, the same to one that tests one value more", receiver_of(behind_one_another(32, (1, 2, 3)) + ">>fwd(2)"), ("out", "A"), behind_one_another(32, (1, 2)) + ">>fwd(B)"),
