@@ -33,6 +33,8 @@ pub(crate) struct Received {
     alloc: Global,
     // how many looks are left
     left: usize,
+    // with so many receivers the rules are still to be joined, the present one among them
+    receivers: usize,
     kept: Vec<Leaving>,
     unions: Unions,
 }
@@ -79,6 +81,7 @@ impl Received {
         Received {
             alloc,
             left,
+            receivers: 1,
             kept: Vec::new(alloc),
             unions: Unions::new(alloc),
         }
@@ -98,6 +101,21 @@ impl Received {
                 Ok(())
             }
             None => Err(Stop::Work),
+        }
+    }
+
+    /// With so many receivers rules are still to be joined, the next one among them.
+    pub(crate) fn expect(&mut self, receivers: usize) {
+        self.receivers = receivers;
+    }
+
+    /// Where the present receiver will take so many looks, and all that are still to come as many would be more than may be
+    /// taken, the work stops before it is begun.
+    pub(crate) fn foresee(&self, looks: usize) -> Result<(), Stop> {
+        if looks.saturating_mul(self.receivers) > self.left {
+            Err(Stop::Work)
+        } else {
+            Ok(())
         }
     }
 

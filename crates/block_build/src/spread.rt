@@ -16,6 +16,7 @@ use crate::exits::Exits;
 use crate::offers::{goes_to, has_one_left};
 use crate::received::Received;
 use crate::stop::Stop;
+use crate::uncut::looks_of;
 use classifier::{Line, Results, push_line};
 use net_types::{Assign, Cube, Loc, Memory, Offer, Pid, PortNo, TryCopy};
 use std::alloc::Global;
@@ -115,6 +116,7 @@ fn push_many(
     ensures agrees { OnOk result (Agrees lines.new.items seen.new) }
 {
     let tests = receiver.tests(received.alloc())?;
+    received.foresee(looks_of(xs.len(), tests.len()))?;
     let mut closed = true;
     for x in xs {
         closed = push_next(received, lines, seen, x, receiver, &tests, closed)?;
@@ -207,6 +209,12 @@ fn beside(
     }
 }
 
+/// With how many receivers a rule is still to be joined: the last one of all stands behind these. Nothing rests on it but when
+/// the work stops.
+fn ahead(receivers: &[Exits<'_>], receiver: &Exits<'_>) -> usize {
+    receivers.len().saturating_sub(receiver.place()).saturating_add(1)
+}
+
 /// The rules within one rule of the sender: what each receiver that its results go to makes of a packet. It stops where there
 /// are more than the limit.
 fn within_rule(
@@ -234,6 +242,7 @@ fn within_rule(
             receiver.who(),
             receiver.place(),
         );
+        received.expect(ahead(receivers, receiver));
         lines = beside(received, goes, lines, receiver, limit)?;
         if lines.len() > limit {
             return Ok(lines);
@@ -330,6 +339,7 @@ fn push_within(
         *lines = within_x;
         return Ok(());
     }
+    received.expect(1);
     push_product(received, lines, seen, &within_x, last, limit)?;
     Ok(())
 }

@@ -7,40 +7,10 @@ ghost use Rattle.net_types.specs.declared.cube.Cube.{Cube as AnyCube};
 ghost use Rattle.block_build.specs.Bounds.{AreMeets};
 ghost use Rattle.block_build.specs.Closed.{AreKept};
 
+use cells::single_fields;
 use classifier::Line;
 use net_types::{Cube, Memory};
 use std::alloc::Global;
-
-/// The cubes of the single fields of a cube. Nothing rests on them but how few tested cubes there are.
-fn fields_of(cube: &Cube) -> [Cube; 6] {
-    let all = Cube::everything();
-    [
-        Cube {
-            inport: cube.inport,
-            ..all
-        },
-        Cube {
-            proto: cube.proto,
-            ..all
-        },
-        Cube {
-            sport: cube.sport,
-            ..all
-        },
-        Cube {
-            dport: cube.dport,
-            ..all
-        },
-        Cube {
-            src: cube.src,
-            ..all
-        },
-        Cube {
-            dst: cube.dst,
-            ..all
-        },
-    ]
-}
 
 /// Puts a tested cube last, unless it is there.
 fn push_test(tests: &mut Vec<Cube>, test: &Cube) -> Result<(), Memory>
@@ -89,8 +59,8 @@ fn push_tests_of(tests: &mut Vec<Cube>, cube: &Cube) -> Result<(), Memory>
     ensures meet { OnOk result (IsMeet tests.new.items cube.now) }
     ensures kept { OnOk result (AreKept tests.old.items tests.new.items) }
 {
-    let fields = fields_of(cube);
-    let whole = push_all(tests, &fields)?;
+    // nothing rests on these but how few tested cubes there are
+    let whole = push_all(tests, &single_fields(cube))?;
     if is_same(&whole, cube) {
         return Ok(());
     }

@@ -23,6 +23,11 @@ use std::collections::HashSet;
 /// So many looks a tested cube takes, whose meet is looked for among all cubes.
 const TEST: usize = 8;
 
+/// How many looks it takes to see for so many rules whether a receiver's cut them otherwise than the rules before them.
+pub(crate) fn looks_of(rules: usize, tests: usize) -> usize {
+    rules.saturating_mul(tests).saturating_mul(TEST)
+}
+
 /// Whether what a cube has in common with a tested one is the cube of a rule, or all that it has.
 fn is_there(lines: &[Line], seen: &HashSet<Cube>, cube: &Cube, test: &Cube) -> bool
     requires agrees { Agrees lines.now seen.now }
@@ -89,7 +94,7 @@ pub(crate) fn push_uncut(
     if is_hidden(lines, seen, &x.cube) {
         return Ok(false);
     }
-    received.count(tests.len().saturating_mul(TEST))?;
+    received.count(looks_of(1, tests.len()))?;
     if !are_there(lines, seen, &x.cube, tests) {
         return Ok(false);
     }

@@ -4,3 +4,4 @@ pub mod ClosedLemmas
 pub mod FirstLemmas
 pub mod BlockLemmas
 pub mod MarkLemmas
+pub mod ListedLemmas

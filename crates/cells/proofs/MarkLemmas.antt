@@ -131,24 +131,47 @@ so-far-more i a cells start n old mid x o v full more within at was is both f =
 
 -- ---- blocks
 
--- the cells of those of the blocks that stand below one
-abbrev pub IsBelow : List ℕ → ℕ → ℕ → Type 0
-IsBelow blocks b p = (p / 64 < b) × (has_place blocks (p / 64) ≡ true)
+-- the cells of those of the blocks that stand from one on and below another
+abbrev pub IsFrom : List ℕ → ℕ → ℕ → ℕ → Type 0
+IsFrom blocks start b p = (start ≤ p / 64) × (p / 64 < b) × (has_place blocks (p / 64) ≡ true)
 
 -- the next block was looked at
-pub blocks-more : (i : ℕ) (a : Cube) (cells : List Cube) (blocks : List ℕ) (b : ℕ) (old mid new : List (Option ℕ)) → AreNoted i a cells (IsBelow blocks b) old mid → AreNoted i a cells (λ p. p / 64 ≡ b) mid new → AreNoted i a cells (IsBelow blocks (b + 1)) old new
-blocks-more i a cells blocks b old mid new f g = noted-more i a cells (IsBelow blocks b) (λ p. p / 64 ≡ b) (IsBelow blocks (b + 1)) old mid new (λ p m. elim (cases_lt (p / 64) b) [
-  | inl before ↦ inl (before, m.1)
-  | inr behind ↦ inr (omega (arith, behind, m.0))
+pub blocks-more : (i : ℕ) (a : Cube) (cells : List Cube) (blocks : List ℕ) (start b : ℕ) (old mid new : List (Option ℕ)) → AreNoted i a cells (IsFrom blocks start b) old mid → AreNoted i a cells (λ p. p / 64 ≡ b) mid new
+    → AreNoted i a cells (IsFrom blocks start (b + 1)) old new
+blocks-more i a cells blocks start b old mid new f g = noted-more i a cells (IsFrom blocks start b) (λ p. p / 64 ≡ b) (IsFrom blocks start (b + 1)) old mid new (λ p m. elim (cases_lt (p / 64) b) [
+  | inl before ↦ inl (m.0, before, m.2)
+  | inr behind ↦ inr (omega (arith, behind, m.1))
 ]) f g
 
 -- the next block is none of them
-pub blocks-skipped : (i : ℕ) (a : Cube) (cells : List Cube) (blocks : List ℕ) (b : ℕ) (old new : List (Option ℕ)) → has_place blocks b ≡ false → AreNoted i a cells (IsBelow blocks b) old new → AreNoted i a cells (IsBelow blocks (b + 1)) old new
-blocks-skipped i a cells blocks b old new absent f = noted-as i a cells (IsBelow blocks b) (IsBelow blocks (b + 1)) old new (λ p within m. elim (cases_lt (p / 64) b) [
-  | inl before ↦ (before, m.1)
+pub blocks-skipped : (i : ℕ) (a : Cube) (cells : List Cube) (blocks : List ℕ) (start b : ℕ) (old new : List (Option ℕ)) → has_place blocks b ≡ false → AreNoted i a cells (IsFrom blocks start b) old new
+    → AreNoted i a cells (IsFrom blocks start (b + 1)) old new
+blocks-skipped i a cells blocks start b old new absent f = noted-as i a cells (IsFrom blocks start b) (IsFrom blocks start (b + 1)) old new (λ p within m. elim (cases_lt (p / 64) b) [
+  | inl before ↦ (m.0, before, m.2)
   | inr behind ↦
-      let here : p / 64 ≡ b = omega (arith, behind, m.0) in
-      absurd (false≢true (sym absent ∙ ap (has_place blocks) (sym here) ∙ m.1))
+      let here : p / 64 ≡ b = omega (arith, behind, m.1) in
+      absurd (false≢true (sym absent ∙ ap (has_place blocks) (sym here) ∙ m.2))
+]) f
+
+-- the cells of those of the blocks whose bits stand in the words below one
+abbrev pub IsBelow : List ℕ → ℕ → ℕ → Type 0
+IsBelow blocks w p = (p / 64 / 64 < w) × (has_place blocks (p / 64) ≡ true)
+
+-- the blocks of the next word were looked at
+pub words-more : (i : ℕ) (a : Cube) (cells : List Cube) (blocks : List ℕ) (w : ℕ) (old mid new : List (Option ℕ)) → AreNoted i a cells (IsBelow blocks w) old mid
+    → AreNoted i a cells (λ p. (p / 64 / 64 ≡ w) × (has_place blocks (p / 64) ≡ true)) mid new → AreNoted i a cells (IsBelow blocks (w + 1)) old new
+words-more i a cells blocks w old mid new f g =
+    noted-more i a cells (IsBelow blocks w) (λ p. (p / 64 / 64 ≡ w) × (has_place blocks (p / 64) ≡ true)) (IsBelow blocks (w + 1)) old mid new (λ p m. elim (cases_lt (p / 64 / 64) w) [
+      | inl before ↦ inl (before, m.1)
+      | inr behind ↦ inr (omega (arith, behind, m.0), m.1)
+    ]) f g
+
+-- none of them stands in the next word
+pub words-skipped : (i : ℕ) (a : Cube) (cells : List Cube) (blocks : List ℕ) (w : ℕ) (old new : List (Option ℕ)) → ((k : ℕ) → k / 64 ≡ w → has_place blocks k ≡ false) → AreNoted i a cells (IsBelow blocks w) old new
+    → AreNoted i a cells (IsBelow blocks (w + 1)) old new
+words-skipped i a cells blocks w old new absent f = noted-as i a cells (IsBelow blocks w) (IsBelow blocks (w + 1)) old new (λ p within m. elim (cases_lt (p / 64 / 64) w) [
+  | inl before ↦ (before, m.1)
+  | inr behind ↦ absurd (false≢true (sym (absent (p / 64) (omega (arith, behind, m.0))) ∙ m.1))
 ]) f
 
 pub found-more : (i : ℕ) (a : Cube) (cells : List Cube) (meant : ℕ → Type 0) (old new : List (Option ℕ)) (full : List ℕ) → AreNoted i a cells meant old new → AreFound cells old full → AreFound cells new full

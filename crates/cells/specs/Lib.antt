@@ -4,3 +4,4 @@ pub mod Known
 pub mod Firsts
 pub mod Blocks
 pub mod Marks
+pub mod Listed

@@ -4,6 +4,7 @@ ghost use Rattle.std.specs.Prelude.{◌≡◌, ◌<◌, ◌≤◌, ◌*◌, ◌/
 ghost use Rattle.std.specs.Option.{is_some};
 ghost use Rattle.place_sets.specs.Places.{has_place};
 ghost use Rattle.cells.specs.Firsts.{firsts, noted};
+ghost use Rattle.cells.specs.Listed.{is_listed};
 ghost use Rattle.cells.specs.Marks.{AreAllNoted, AreFound, AreLeft, AreNoted, found_at};
 
 use crate::blocks::{BLOCK, blocks_of};
@@ -63,6 +64,33 @@ fn note_block(
     is_full
 }
 
+/// Notes the place of a cube at the cells that have none and lie within it, of those of some blocks whose bits stand in one word.
+/// Puts in the blocks of which each cell has one then.
+fn note_word(
+    cells: &[Cube],
+    cube: &Cube,
+    place: usize,
+    blocks: &PlaceSet,
+    word: usize,
+    found: &mut Vec<Option<usize>>,
+    full: &mut PlaceSet,
+) -> Result<(), Memory>
+    requires begun { word * 64 * 64 < length cells.now }
+    requires long { length found.old.items ≡ length cells.now }
+    requires full { AreFound cells.now found.old.items full.old }
+    ensures noted { OnOk result (AreNoted place cube.now cells.now (λ p. (p / 64 / 64 ≡ word) × (has_place blocks.now (p / 64) ≡ true)) found.old.items found.new.items) }
+    ensures full { OnOk result (AreFound cells.now found.new.items full.new) }
+{
+    let start = word * BLOCK;
+    let count = (blocks_of(cells.len()) - start).min(BLOCK);
+    for block in start..start + count {
+        if blocks.has(block) && note_block(cells, cube, place, block, found) {
+            full.put(block)?;
+        }
+    }
+    Ok(())
+}
+
 /// Notes the place of a cube at the cells of some blocks that have none and lie within it. The blocks of which each cell has
 /// one then.
 fn note_blocks(
@@ -78,17 +106,50 @@ fn note_blocks(
     ensures full { IfOk result (AreFound cells.now found.new.items) }
 {
     let mut full = PlaceSet::none(alloc);
-    for block in 0..blocks_of(cells.len()) {
-        if blocks.has(block) && note_block(cells, cube, place, block, found) {
-            full.put(block)?;
+    for word in 0..blocks_of(blocks_of(cells.len())) {
+        if !blocks.is_empty_at(word) {
+            note_word(cells, cube, place, blocks, word, found, &mut full)?;
         }
     }
     Ok(full)
 }
 
+/// Notes the place of a cube at a cell that has none and lies within it.
+fn note_at(
+    cells: &[Cube],
+    cube: &Cube,
+    place: usize,
+    at: usize,
+    found: &mut Vec<Option<usize>>,
+)
+    requires { length found.old.items ≡ length cells.now }
+    ensures { AreNoted place cube.now cells.now (λ p. p ≡ at) found.old.items found.new.items }
+{
+    if at < cells.len() {
+        let first = noted(found[at], &cells[at], cube, place);
+        found[at] = first;
+    }
+}
+
+/// Notes the place of a cube at the cells of a list that have none and lie within it.
+fn note_listed(
+    cells: &[Cube],
+    cube: &Cube,
+    place: usize,
+    listed: &[usize],
+    found: &mut Vec<Option<usize>>,
+)
+    requires { length found.old.items ≡ length cells.now }
+    ensures { AreNoted place cube.now cells.now (λ p. is_listed listed.now p ≡ true) found.old.items found.new.items }
+{
+    for i in 0..listed.len() {
+        note_at(cells, cube, place, listed[i], found);
+    }
+}
+
 /// Notes the place of a cube at the cells that have none and lie within it, where blocks are left that have cells without one.
 /// The blocks that are left then.
-fn note(
+fn note_within(
     alloc: Global,
     inside: &mut Inside<'_>,
     cube: &Cube,
@@ -109,6 +170,30 @@ fn note(
     Ok(rest)
 }
 
+/// The same, by the list of the cells within the cube where there is one.
+fn note(
+    alloc: Global,
+    inside: &mut Inside<'_>,
+    cube: &Cube,
+    place: usize,
+    left: PlaceSet,
+    found: &mut Vec<Option<usize>>,
+) -> Result<PlaceSet, Memory>
+    requires long { length found.old.items ≡ length inside.old.cells.now }
+    requires left { AreLeft inside.old.cells.now found.old.items left }
+    ensures noted { OnOk result (AreAllNoted place cube.now inside.old.cells.now found.old.items found.new.items) }
+    ensures left { IfOk result (AreLeft inside.old.cells.now found.new.items) }
+    ensures cells { inside.new.cells.now ≡ inside.old.cells.now }
+{
+    match inside.list_of(cube)? {
+        Some(number) => {
+            note_listed(inside.cells, cube, place, &inside.lists[number].places, found);
+            Ok(left)
+        }
+        None => note_within(alloc, inside, cube, place, &left, found),
+    }
+}
+
 /// Of each cell the place of the first of the cubes that it lies within. Cubes behind those that hold all cells aren't looked at.
 pub fn firsts_of(
     alloc: Global,
@@ -124,7 +209,7 @@ pub fn firsts_of(
         if left.is_empty() {
             return Ok(found);
         }
-        left = note(alloc, inside, &cubes[place], place, &left, &mut found)?;
+        left = note(alloc, inside, &cubes[place], place, left, &mut found)?;
     }
     Ok(found)
 }

@@ -4,10 +4,13 @@
 mod blocks;
 mod cells;
 mod cut;
+mod fields;
 mod firsts;
 mod inside;
+mod listed;
 mod tests;
 
 pub use cells::{Cells, cells_of};
+pub use fields::single_fields;
 pub use firsts::firsts_of;
 pub use inside::Inside;

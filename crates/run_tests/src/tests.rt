@@ -8,4 +8,5 @@ mod in_turn;
 mod loads;
 mod long;
 mod realistic;
+mod receivers;
 mod waiting;

@@ -1,15 +1,14 @@
-use Rattle.std.proofs.Common.{◌≡◌, ◌/◌, true}
-use Rattle.place_sets.specs.Places.{has_place}
-use Rattle.cells.proofs.MarkLemmas.{all-noted, left-after}
+use Rattle.std.proofs.Common.{◌≡◌, List, true, subst}
+use Rattle.net_types.specs.declared.cube.Cube.{Cube}
+use Rattle.cells.specs.Listed.{is_listed}
+use Rattle.cells.specs.Marks.{AreNoted}
+use Rattle.cells.proofs.ListedLemmas.{left-still, listed-noted}
 use Rattle.cells.proofs.firsts.note.Goals as goal
 
-pub returns-clause-noted : goal.returns-clause-noted
-returns-clause-noted c =
-    all-noted c.args.place c.args.cube.now c.args.inside.now.cells.now c.args.left.now c.in_ok-blocks.blocks c.args.found.now.items c.note_blocks.new.found.items
-    c.in_ok-full.ensures.noted c.in_ok-blocks.ensures.keeps c.requires.left
-
-pub returns-clause-left : goal.returns-clause-left
-returns-clause-left c =
-    let blocks = c.in_ok-blocks.blocks in
-    left-after c.args.place c.args.cube.now c.args.inside.now.cells.now (λ p. has_place blocks (p / 64) ≡ true) c.args.found.now.items c.note_blocks.new.found.items
-    c.args.left.now c.in_ok-full.full c.in_ok-rest.rest c.in_ok-full.ensures.noted c.in_ok-rest.ensures c.in_ok-full.ensures.full c.requires.left
+pub returns-in-Some-clause-left : goal.returns-in-Some-clause-left
+returns-in-Some-clause-left c =
+    let listed = c.deref.result.now in
+    let old = c.args.found.now.items in
+    let new = c.note_listed.new.found.items in
+    let noted = subst (λ (cs : List Cube). AreNoted c.args.place c.args.cube.now cs (λ p. is_listed listed p ≡ true) old new) c.in_ok-number.ensures.cells c.note_listed.ensures in
+    left-still c.args.place c.args.cube.now c.args.inside.now.cells.now (λ p. is_listed listed p ≡ true) old new c.args.left noted c.requires.left

@@ -1,40 +1,29 @@
-use Rattle.std.proofs.Common.{arith, ◌≡◌, ◌/◌, true, sym, ◌∙◌}
+use Rattle.std.proofs.Common.{arith, ◌≡◌, ◌/◌, true}
 use Rattle.place_sets.specs.Places.{has_place}
-use Rattle.cells.proofs.MarkLemmas.{IsBelow, blocks-more, blocks-skipped, found-more, found-put, noted-as}
+use Rattle.cells.proofs.MarkLemmas.{IsBelow, noted-as, words-more, words-skipped}
 use Rattle.cells.proofs.firsts.note_blocks.Goals as goal
-use Rattle.cells.proofs.firsts.note_blocks.Goals.{then-has+then-note_block+in_ok-put, else-has, else-has-via-then-has+else-note_block, else-has-via-else-has}
+use Rattle.cells.proofs.firsts.note_blocks.Goals.{then-not-is_empty_at+in_ok-note_word, else-not-is_empty_at}
 
-pub loop-block-preserved : goal.loop-block-preserved
-loop-block-preserved c =
+pub loop-word-preserved : goal.loop-word-preserved
+loop-word-preserved c =
     let place = c.args.place in
     let cube = c.args.cube.now in
     let cells = c.args.cells.now in
     let blocks = c.args.blocks.now in
     let old = c.args.found.now.items in
-    let mid = c.loop-block.found.items in
-    let b = c.loop-block.block in
-    let full = c.loop-block.full in
-    elim c.if-has.branch [
-      | then-has+then-note_block+in_ok-put w ↦
-          let new = w.note_block.new.found.items in
-          rw (w.found-is, w.full-is) (
-            blocks-more place cube cells blocks b old mid new c.loop-block.invariant.0 w.note_block.ensures.noted,
-            found-put cells new full w.put.new.self b w.in_ok-put.ensures.put (w.note_block.ensures.full w.if-note_block.true)
-                (found-more place cube cells (λ p. p / 64 ≡ b) mid new full w.note_block.ensures.noted c.loop-block.invariant.1),
-          )
-      | else-has w ↦ rw (w.found-is, w.full-is) (elim w.else-has.branch [
-        | else-has-via-then-has+else-note_block v ↦
-            let new = v.note_block.new.found.items in
-            rw v.found-is (
-              blocks-more place cube cells blocks b old mid new c.loop-block.invariant.0 v.note_block.ensures.noted,
-              found-more place cube cells (λ p. p / 64 ≡ b) mid new full v.note_block.ensures.noted c.loop-block.invariant.1,
-            )
-        | else-has-via-else-has v ↦ rw v.found-is (blocks-skipped place cube cells blocks b old mid (sym c.has.ensures ∙ v.if-has.false) c.loop-block.invariant.0, c.loop-block.invariant.1)
-      ])
+    let mid = c.loop-word.found.items in
+    let word = c.loop-word.word in
+    elim c.if-not-is_empty_at.branch [
+      | then-not-is_empty_at+in_ok-note_word w ↦ rw (w.found-is, w.full-is)
+          (words-more place cube cells blocks word old mid w.note_word.new.found.items c.loop-word.invariant.0 w.in_ok-note_word.ensures.noted, w.in_ok-note_word.ensures.full)
+      | else-not-is_empty_at w ↦ rw (w.found-is, w.full-is)
+          (words-skipped place cube cells blocks word old mid (c.is_empty_at.ensures w.if-not-is_empty_at.false) c.loop-word.invariant.0, c.loop-word.invariant.1)
     ]
 
 pub returns-clause-noted : goal.returns-clause-noted
 returns-clause-noted c =
     let blocks = c.args.blocks.now in
-    noted-as c.args.place c.args.cube.now c.args.cells.now (IsBelow blocks c.loop-block.block) (λ p. has_place blocks (p / 64) ≡ true) c.args.found.now.items c.loop-block.found.items
-    (λ p within m. let low = c.blocks_of-block-end.ensures.all p within in (omega (arith, low, c.loop-block-test.false), m)) c.loop-block.invariant.0
+    noted-as c.args.place c.args.cube.now c.args.cells.now (IsBelow blocks c.loop-word.word) (λ p. has_place blocks (p / 64) ≡ true) c.args.found.now.items c.loop-word.found.items
+    (λ p within m.
+    let low = c.blocks_of-word-end.ensures.all (p / 64) (c.blocks_of.ensures.all p within) in
+    (omega (arith, low, c.loop-word-test.false), m)) c.loop-word.invariant.0
