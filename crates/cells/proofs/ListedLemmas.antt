@@ -1,7 +1,6 @@
 -- Lists of the cells within a cube: what they have, and what is noted by them.
-use Rattle.std.proofs.Common.{arith, ◌≡◌, ◌⊎◌, ℕ, ◌||◌, Bool, eqb, refl, ◌<◌, ◌≤◌, ◌+◌, ◌/◌, true, false, Option, Some, List, [], ◌∷◌, ◌++◌, length, inl, inr, sym, ap, ◌∙◌, subst}
+use Rattle.std.proofs.Common.{arith, ◌≡◌, ◌⊎◌, ℕ, ◌||◌, eqb, ◌<◌, ◌≤◌, ◌+◌, ◌/◌, true, false, Option, Some, List, [], ◌∷◌, ◌++◌, length, inl, inr, sym, ap, ◌∙◌, subst}
 use Rattle.std.specs.List.{slice_get}
-use Rattle.std.specs.Option.{is_some}
 use Rattle.std.proofs.lemmas.Bool.{cases_Bool, cases_lt, eq-eqb, eqb-true, false≢true, or_cases}
 use Rattle.std.proofs.lemmas.Option.{same_Some, slice_get_within}
 use Rattle.net_types.specs.declared.cube.Cube.{Cube}
@@ -12,7 +11,6 @@ use Rattle.net_types.proofs.SetLemmas.{Member-append_cases}
 use Rattle.place_sets.specs.Places.{has_place}
 use Rattle.cells.specs.declared.listed.Listed.{Listed}
 use Rattle.cells.specs.Blocks.{KeepsInner}
-use Rattle.cells.specs.Firsts.{noted}
 use Rattle.cells.specs.Listed.{AreListed, IsListed, ListsAll, ListsThese, is_listed}
 use Rattle.cells.specs.Marks.{AreAllNoted, AreLeft, AreNoted, found_at}
 use Rattle.cells.proofs.BlockLemmas.{Member-slice_get, slice_get-last}

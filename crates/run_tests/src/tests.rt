@@ -1,5 +1,6 @@
 //! Tests of runs.
 
+mod behind;
 mod calls;
 mod failing;
 mod generated;

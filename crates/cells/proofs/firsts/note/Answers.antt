@@ -2,7 +2,7 @@ use Rattle.std.proofs.Common.{◌≡◌, List, true, subst}
 use Rattle.net_types.specs.declared.cube.Cube.{Cube}
 use Rattle.cells.specs.Listed.{is_listed}
 use Rattle.cells.specs.Marks.{AreNoted}
-use Rattle.cells.proofs.ListedLemmas.{left-still, listed-noted}
+use Rattle.cells.proofs.ListedLemmas.{left-still}
 use Rattle.cells.proofs.firsts.note.Goals as goal
 
 pub returns-in-Some-clause-left : goal.returns-in-Some-clause-left

@@ -1,4 +1,4 @@
-use Rattle.std.proofs.Common.{arith, ◌≡◌, ◌+◌, ◌≤◌, List, [], ◌∷◌, ◌++◌, ℕ, length, get_or, take, true, sym, ap, ◌∙◌, subst}
+use Rattle.std.proofs.Common.{arith, ◌≡◌, ◌+◌, ◌≤◌, [], ◌∷◌, ◌++◌, length, get_or, take, true, subst}
 use Rattle.std.proofs.lemmas.List.{take_all, take_more}
 use Rattle.cells.specs.Listed.{is_listed}
 use Rattle.cells.specs.Marks.{AreNoted}

@@ -1,4 +1,4 @@
-use Rattle.std.proofs.Common.{arith, ◌≡◌, ◌<◌, ◌/◌, true, sym, ◌∙◌}
+use Rattle.std.proofs.Common.{arith, sym, ◌∙◌}
 use Rattle.std.proofs.lemmas.Option.{slice_get_within}
 use Rattle.cells.proofs.ListedLemmas.{listed-block, listed-skipped}
 use Rattle.cells.proofs.listed.listed_in.Goals as goal

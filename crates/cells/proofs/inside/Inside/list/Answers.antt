@@ -1,9 +1,8 @@
-use Rattle.std.proofs.Common.{◌≡◌, ◌/◌, ◌<◌, true, List, ℕ, length, sym, ◌∙◌, subst, IfSome}
+use Rattle.std.proofs.Common.{◌≡◌, ◌/◌, true, ◌∙◌, subst, IfSome}
 use Rattle.std.proofs.lemmas.Bool.{lt-ltb}
-use Rattle.net_types.specs.declared.cube.Cube.{Cube}
 use Rattle.place_sets.specs.Places.{has_place}
 use Rattle.cells.specs.declared.listed.Listed.{Listed}
-use Rattle.cells.specs.Listed.{ListsAll, ListsThese}
+use Rattle.cells.specs.Listed.{ListsThese}
 use Rattle.cells.proofs.ListedLemmas.{listed-all, listed-last, lists-push}
 use Rattle.cells.proofs.inside.Inside.list.Goals as goal
 
