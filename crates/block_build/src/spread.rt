@@ -212,7 +212,10 @@ fn beside(
 /// With how many receivers a rule is still to be joined: the last one of all stands behind these. Nothing rests on it but when
 /// the work stops.
 fn ahead(receivers: &[Exits<'_>], receiver: &Exits<'_>) -> usize {
-    receivers.len().saturating_sub(receiver.place()).saturating_add(1)
+    receivers
+        .len()
+        .saturating_sub(receiver.place())
+        .saturating_add(1)
 }
 
 /// The rules within one rule of the sender: what each receiver that its results go to makes of a packet. It stops where there

@@ -115,13 +115,7 @@ fn note_blocks(
 }
 
 /// Notes the place of a cube at a cell that has none and lies within it.
-fn note_at(
-    cells: &[Cube],
-    cube: &Cube,
-    place: usize,
-    at: usize,
-    found: &mut Vec<Option<usize>>,
-)
+fn note_at(cells: &[Cube], cube: &Cube, place: usize, at: usize, found: &mut Vec<Option<usize>>)
     requires { length found.old.items ≡ length cells.now }
     ensures { AreNoted place cube.now cells.now (λ p. p ≡ at) found.old.items found.new.items }
 {
@@ -187,7 +181,13 @@ fn note(
 {
     match inside.list_of(cube)? {
         Some(number) => {
-            note_listed(inside.cells, cube, place, &inside.lists[number].places, found);
+            note_listed(
+                inside.cells,
+                cube,
+                place,
+                &inside.lists[number].places,
+                found,
+            );
             Ok(left)
         }
         None => note_within(alloc, inside, cube, place, &left, found),

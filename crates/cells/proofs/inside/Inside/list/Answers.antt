@@ -15,7 +15,7 @@ invariant_of-self-2 c =
     let l : Listed = record { cube = cube; places = c.in-Some.places } in
     let these = subst (λ o. IfSome o (λ v. ListsThese mid.cells.now cube (λ p. has_place blocks (p / 64) ≡ true) v.items)) c.in-Some.is c.in_ok-places.ensures in
     let all = listed-all old mid.cells.now cube c.in_ok-all.all blocks l.places.items c.in_ok-blocks.ensures.cells
-        (λ p within. c.in_ok-all.ensures (p / 64) ∙ lt-ltb (p / 64) c.blocks_of.result (c.blocks_of.ensures.all p within)) c.in_ok-blocks.ensures.keeps these in
+    (λ p within. c.in_ok-all.ensures (p / 64) ∙ lt-ltb (p / 64) c.blocks_of.result (c.blocks_of.ensures.all p within)) c.in_ok-blocks.ensures.keeps these in
     record { are = mid.are; listed = lists-push mid.cells.now mid.lists.items c.push.new.self.items l c.in_ok-push.ensures.items all mid.listed }
 
 pub returns-clause-number : goal.returns-clause-number
@@ -27,5 +27,5 @@ returns-clause-number c =
     let l : Listed = record { cube = cube; places = c.in-Some.places } in
     let these = subst (λ o. IfSome o (λ v. ListsThese mid.cells.now cube (λ p. has_place blocks (p / 64) ≡ true) v.items)) c.in-Some.is c.in_ok-places.ensures in
     let all = listed-all old mid.cells.now cube c.in_ok-all.all blocks l.places.items c.in_ok-blocks.ensures.cells
-        (λ p within. c.in_ok-all.ensures (p / 64) ∙ lt-ltb (p / 64) c.blocks_of.result (c.blocks_of.ensures.all p within)) c.in_ok-blocks.ensures.keeps these in
+    (λ p within. c.in_ok-all.ensures (p / 64) ∙ lt-ltb (p / 64) c.blocks_of.result (c.blocks_of.ensures.all p within)) c.in_ok-blocks.ensures.keeps these in
     listed-last mid.cells.now mid.lists.items c.push.new.self.items l c.len-number.result c.in_ok-push.ensures.items (c.len-number.ensures ∙ mid.lists.ok.0) all
