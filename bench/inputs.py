@@ -647,8 +647,8 @@ def other_nine(n):
     return "(" + settings("srcport", range(3 * n, 3 * n + 3)) + ")>>(" + settings("dstport", range(3, 6)) + ")"
 
 
-# what takes long or much: joining a sender's rules with receivers', what is in place of what is as large, and what a sum goes through
-BEYOND = [
+# joining a sender's rules with receivers', and what a sum goes through
+SLOWEST += [
     ("out, prefixes within prefixes to a receiver that tests the same", receiver_of(behind_one_another(32, (1, 2)) + ">>fwd(2)"), ("out", "A"), behind_one_another(32, (1, 2)) + ">>fwd(B)"),
     ("out, the same to one that tests one value more", receiver_of(behind_one_another(32, (1, 2, 3)) + ">>fwd(2)"), ("out", "A"), behind_one_another(32, (1, 2)) + ">>fwd(B)"),
     ("out, one rule to 64 receivers of 65536 rules each", receivers_of(64, 1), ("out", named(0)), each_of(64)),
@@ -656,9 +656,16 @@ BEYOND = [
     ("out, one rule to sixteen receivers that test the same in other orders", receivers_of(16, 1, four_turned), ("out", named(0)), each_of(16)),
     ("out, one rule to 64 such receivers", receivers_of(64, 1, four_turned), ("out", named(0)), each_of(64)),
     ("out, 65536 meets and 240 targets each, for two tags", announcers(240, 2), ("out", named(0)), four_fields(1, 15, "") + "+" + each_of(240)),
-    ("in, 58 tests by `!`, each before nine assignments, in place of as many others", receiver_of(denied(13, nine_each)), ("in", "B"), denied(13, other_nine)),
     ("in, 900 assignments by tests before a sum of 255 tests, before tests that leave little, no routes", ports_without_routes, ("in", "B"),
      f"{EITHER_WAY}>>(" + "+".join(f"match(proto={n})" for n in range(255)) + ")" + LITTLE),
+]
+
+# what takes longer or more by what the table holds: the pairs of many tags, each with rules of many receivers; and rules in place of as many
+BEYOND = [
+    ("out, one rule to sixteen receivers of 65536 rules each, for fifteen tags", receivers_of(16, 15), ("out", named(0)), each_of(16)),
+    ("out, one rule to 64 such receivers, for four tags", receivers_of(64, 4), ("out", named(0)), each_of(64)),
+    ("out, one rule to 64 receivers that test the same in other orders, for four tags", receivers_of(64, 4, four_turned), ("out", named(0)), each_of(64)),
+    ("in, 58 tests by `!`, each before nine assignments, in place of as many others", receiver_of(denied(13, nine_each)), ("in", "B"), denied(13, other_nine)),
 ]
 
 # a policy that is accepted, and the reply to which has 248000 actions in each of 65536 rules
