@@ -30,13 +30,8 @@ resolve 1
 /// UDP from 192.0.2.1 to 10.0.0.1, up to the source port.
 const PACKET: &str = "packet 1 4500001c000000004011aecfc00002010a000001";
 
-/// The source and destination ports of packets, and the port of the exchange by which they leave.
-const PACKETS: [(u32, u32, &str); 4] = [
-    (5, 1000, "  out 3 "),
-    (1000, 11, "  out 3 "),
-    (11, 1, "  out 3 "),
-    (12, 1000, "  out 2 "),
-];
+/// The source and destination ports of packets. The first three are among the values.
+const PACKETS: [(u32, u32); 4] = [(5, 1000), (1000, 11), (11, 1), (12, 1000)];
 
 /// The tests of the values of four fields, one beside another.
 fn push_tests(lines: &mut String) -> Result<(), Memory> {
@@ -60,7 +55,7 @@ fn lines(alloc: Global) -> Result<String, Memory> {
     push_tests(&mut lines)?;
     lines.push_str(">>fwd(3)\n")?;
     lines.push_str(ANNOUNCED)?;
-    for (source, destination, _) in PACKETS {
+    for (source, destination) in PACKETS {
         write!(lines, "{PACKET}{source:04x}{destination:04x}00080000\n")?;
     }
     Ok(lines)
@@ -71,14 +66,12 @@ fn a_policy_behind_itself_takes_what_it_tests(rt: HostRuntime) -> Result<(), Fai
     let lines = lines(rt.alloc())?;
     let ended = run_given(&rt, Given::replay(lines.as_bytes()))?;
     assert!(rt; ended.status == Status::Done);
-    let mut place = 0;
+    let mut told = Vec::new(rt.alloc());
     for line in ended.output.split(|octet| *octet == b'\n') {
         if line.starts_with(b"  out ") {
-            let (_, _, port) = PACKETS[place];
-            assert!(rt; line.starts_with(port.as_bytes()), "packet {place}");
-            place += 1;
+            told.extend_from_slice(&line[..line.len().min(8)])?;
         }
     }
-    assert!(rt; place == PACKETS.len());
+    assert!(rt; told.as_slice() == b"  out 3   out 3   out 3   out 2 ");
     Ok(())
 }

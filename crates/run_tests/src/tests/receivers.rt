@@ -50,7 +50,7 @@ fn push_declared(lines: &mut String) -> Result<(), Memory> {
 /// The tests of a field's values from one on.
 fn push_tests(lines: &mut String, field: &str, first: u32) -> Result<(), Memory> {
     write!(lines, "(match({field}={first})")?;
-    for value in first + 1..first + TESTS {
+    for value in first.saturating_add(1)..first.saturating_add(TESTS) {
         write!(lines, "+match({field}={value})")?;
     }
     lines.push_str(")")?;
@@ -60,7 +60,7 @@ fn push_tests(lines: &mut String, field: &str, first: u32) -> Result<(), Memory>
 /// The policy of a participant, which takes some source ports and some destination ports at its second port, and tests these
 /// first or those.
 fn push_policy(lines: &mut String, n: u32) -> Result<(), Memory> {
-    let port = n + 1 + SECOND;
+    let port = n.saturating_add(1 + SECOND);
     write!(lines, "in P{n} (")?;
     if n % 2 == 0 {
         push_tests(lines, "srcport", n)?;
@@ -123,10 +123,24 @@ fn leaving(alloc: Global) -> Result<Vec<u32>, Memory> {
             }
         }
         for n in first..end {
-            ports.push(n + 1 + SECOND)?;
+            ports.push(n.saturating_add(1 + SECOND))?;
         }
     }
     Ok(ports)
+}
+
+/// The number that a text begins with.
+fn number_of(text: &[u8]) -> u32 {
+    let mut number = 0u32;
+    for octet in text {
+        if !octet.is_ascii_digit() {
+            return number;
+        }
+        number = number
+            .saturating_mul(10)
+            .saturating_add(u32::from(octet.wrapping_sub(b'0')));
+    }
+    number
 }
 
 /// By which ports the replies tell that packets leave.
@@ -134,11 +148,7 @@ fn told(alloc: Global, output: &[u8]) -> Result<Vec<u32>, Memory> {
     let mut ports = Vec::new(alloc);
     for line in output.split(|octet| *octet == b'\n') {
         if let Some(told) = line.strip_prefix(b"  out ") {
-            let mut port = 0u32;
-            for octet in told.iter().take_while(|octet| octet.is_ascii_digit()) {
-                port = port * 10 + u32::from(*octet - b'0');
-            }
-            ports.push(port)?;
+            ports.push(number_of(told))?;
         }
     }
     Ok(ports)
