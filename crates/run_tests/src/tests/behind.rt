@@ -72,6 +72,6 @@ fn a_policy_behind_itself_takes_what_it_tests(rt: HostRuntime) -> Result<(), Fai
             told.extend_from_slice(&line[..line.len().min(8)])?;
         }
     }
-    assert!(rt; told.as_slice() == b"  out 3   out 3   out 3   out 2 ");
+    assert!(rt; told.as_slice() == b"  out 3   out 3   out 3   out 2 ".as_slice());
     Ok(())
 }
