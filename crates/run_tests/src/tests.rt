@@ -1,6 +1,5 @@
 //! Tests of runs.
 
-mod behind;
 mod calls;
 mod failing;
 mod generated;
@@ -9,5 +8,4 @@ mod in_turn;
 mod loads;
 mod long;
 mod realistic;
-mod receivers;
 mod waiting;
