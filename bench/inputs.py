@@ -616,6 +616,14 @@ def four_alike(n, action):
     return four_fields(1, 15, action)
 
 
+def four_assigning(n, action):
+    """Tests of four fields from 1 to 15, each before an assignment of its own, so that each rule gives a list of its own."""
+    def each(field, values, to, first):
+        return "+".join(f"match({field}={value})>>modify({to}={first + i}){action}" for i, value in enumerate(values))
+    nets = [f"{value}.0.0.0/8" for value in range(1, 16)]
+    return "+".join([each("srcport", range(1, 16), "dstport", 1), each("dstport", range(1, 16), "srcport", 1), each("srcip", nets, "srcport", 100), each("dstip", nets, "dstport", 100)])
+
+
 def receivers_of(count, prefixes, fields=four_alike):
     """So many participants announce prefixes to the first one alone, and the policy of each has 65536 rules."""
     def start(out):
@@ -643,6 +651,15 @@ def announcers(count, prefixes):
     return start
 
 
+def announcers_with_policies(count, prefixes, numbers):
+    """The same, and those with these numbers have a policy of one test."""
+    def start(out):
+        announcers(count, prefixes)(out)
+        for n in numbers:
+            out.write(line("in", named(n), f"match(proto=6)>>fwd({n + 1})"))
+    return start
+
+
 def other_nine(n):
     return "(" + settings("srcport", range(3 * n, 3 * n + 3)) + ")>>(" + settings("dstport", range(3, 6)) + ")"
 
@@ -660,11 +677,19 @@ SLOWEST += [
      f"{EITHER_WAY}>>(" + "+".join(f"match(proto={n})" for n in range(255)) + ")" + LITTLE),
 ]
 
-# what takes longer or more by what the table holds: the pairs of many tags, each with rules of many receivers; and rules in place of as many
-BEYOND = [
+# the pairs of many tags, each with rules of many receivers; and receivers whose rules give lists of their own
+SLOWEST += [
     ("out, one rule to sixteen receivers of 65536 rules each, for fifteen tags", receivers_of(16, 15), ("out", named(0)), each_of(16)),
     ("out, one rule to 64 such receivers, for four tags", receivers_of(64, 4), ("out", named(0)), each_of(64)),
     ("out, one rule to 64 receivers that test the same in other orders, for four tags", receivers_of(64, 4, four_turned), ("out", named(0)), each_of(64)),
+    ("out, 65536 meets and 240 targets each, one of whom has two rules, for two tags", announcers_with_policies(240, 2, [3]), ("out", named(0)), four_fields(1, 15, "") + "+" + each_of(240)),
+    ("out, 65536 meets and 240 targets each, who have two rules each", announcers_with_policies(240, 1, range(1, 241)), ("out", named(0)), four_fields(1, 15, "") + "+" + each_of(240)),
+    ("out, one rule to 64 receivers, each of whose 65536 rules gives another list", receivers_of(64, 1, four_assigning), ("out", named(0)), each_of(64)),
+    ("out, one rule to sixteen such receivers, for four tags", receivers_of(16, 4, four_assigning), ("out", named(0)), each_of(16)),
+]
+
+# what takes more than 2 GB by what the table holds: 32 million results in place of as many
+BEYOND = [
     ("in, 58 tests by `!`, each before nine assignments, in place of as many others", receiver_of(denied(13, nine_each)), ("in", "B"), denied(13, other_nine)),
 ]
 

@@ -253,7 +253,7 @@ all-more best offers xs zs more rs i r lt at e =
     ap (λ ws. beside_all best offers xs ws (drop (i + 1) rs)) e
     ∙ sym (at_drop_more (beside_all best offers xs zs) rs i r lt ∙ ap (λ q. beside_all best offers xs zs (q ∷ drop (i + 1) rs)) (sym at))
 
-cubes-all : (best : Pid) (offers : List Offer) (xs zs : List Line) (rs : List Receiver) → cubes_of (beside_all best offers xs zs rs) ≡ cubes_of zs
+pub cubes-all : (best : Pid) (offers : List Offer) (xs zs : List Line) (rs : List Receiver) → cubes_of (beside_all best offers xs zs rs) ≡ cubes_of zs
 cubes-all best offers xs zs [] = refl
 cubes-all best offers xs zs (r ∷ rs) = cubes-all best offers xs (map (beside_at best offers xs r) zs) rs ∙ cubes-beside best offers xs r zs
 

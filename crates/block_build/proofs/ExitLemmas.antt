@@ -23,7 +23,7 @@ cons_line-split (Some x) zs = refl
 pub received-first : (hop : PortNo) (x y : Line) (ys : List Line) → row_received hop x (y ∷ ys) ≡ row_received hop x (y ∷ []) ++ row_received hop x ys
 received-first hop x y ys = cons_line-split (option_map (line (joined Union x.results (received_items hop y.results))) (meet_cubes x.cube y.cube)) (row_received hop x ys)
 
-received_lines-append : (hop : PortNo) (ys zs : List Line) → received_lines hop (ys ++ zs) ≡ received_lines hop ys ++ received_lines hop zs
+pub received_lines-append : (hop : PortNo) (ys zs : List Line) → received_lines hop (ys ++ zs) ≡ received_lines hop ys ++ received_lines hop zs
 received_lines-append hop [] zs = refl
 received_lines-append hop (y ∷ ys) zs = ap (λ ws. line (received_items hop y.results) y.cube ∷ ws) (received_lines-append hop ys zs)
 

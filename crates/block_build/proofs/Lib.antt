@@ -20,5 +20,7 @@ pub mod SameRules
 mod LentLemmas
 mod LoopLemmas
 pub mod ByCellLemmas
+mod TableLemmas
+mod FewLemmas
 pub mod AtomLemmas
 pub mod CutLemmas

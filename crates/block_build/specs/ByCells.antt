@@ -1,5 +1,5 @@
 -- The rules of cells: what the sender's rule that holds a cell gives, and what the receivers make of that (this exchange's own rule).
-use Rattle.std.specs.Prelude.{List, [], ◌∷◌, map, if◌then◌else◌}
+use Rattle.std.specs.Prelude.{ℕ, List, [], ◌∷◌, map, take, if◌then◌else◌}
 use Rattle.std.specs.Option.{option_map_or}
 use Rattle.classifier.specs.Items.{Item, add_all}
 use Rattle.classifier.specs.Lines.{line}
@@ -32,6 +32,14 @@ beside_all best offers xs zs (r ∷ rs) = beside_all best offers xs (map (beside
 -- cells as rules that give nothing
 abbrev pub dropping : List Cube → List Line
 dropping cubes = map (line []) cubes
+
+-- what a receiver makes in a cell, where the sender's rule that holds it sends there
+abbrev pub made_at : Pid → List Offer → List Line → Receiver → Cube → List Item
+made_at best offers xs r c = if goes_to (has_one_left offers (held_by c xs)) best (held_by c xs) r.who then held_by c r.lines else []
+
+-- the rules of cells beside what each of the first so many receivers makes
+abbrev pub beside_first : Pid → List Offer → List Line → List Cube → List Receiver → ℕ → List Line
+beside_first best offers xs cubes rs n = beside_all best offers xs (dropping cubes) (take n rs)
 
 -- the cubes of the rules are among these
 abbrev pub HasCubes : List Cube → List Line → Type 0

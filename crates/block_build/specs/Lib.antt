@@ -16,3 +16,5 @@ pub mod Rules
 pub mod Tight
 pub mod Installed
 pub mod Laws
+pub mod Tables
+pub mod Few

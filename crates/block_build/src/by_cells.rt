@@ -1,45 +1,28 @@
 //! The rules of a pair, cell by cell.
 
-ghost use Rattle.std.specs.Prelude.{◌≡◌, ◌<◌, [], IfOk, IfSome, IsTrue, List, Some, length, map};
+ghost use Rattle.std.specs.Prelude.{◌≡◌, ◌<◌, ◌≤◌, [], IfOk, IfSome, IsTrue, List, Some, length, map};
 ghost use Rattle.std.specs.List.{slice_get};
 ghost use Rattle.cells.specs.Firsts.{first_place, firsts};
 ghost use Rattle.classifier.specs.Lines.{add_lines};
 ghost use Rattle.classifier.specs.Meaning.{cubes_of};
 ghost use Rattle.net_types.specs.declared.cube.Cube.{Cube as AnyCube};
 ghost use Rattle.block_build.specs.Bounds.{IsBuilt};
-ghost use Rattle.block_build.specs.ByCells.{AreCellsFor, beside_all, beside_at, dropping, held_by};
+ghost use Rattle.block_build.specs.ByCells.{AreCellsFor, beside_all, beside_at, beside_first, dropping, held_by};
+ghost use Rattle.block_build.specs.Tables.{AreTables, IsAt};
 
 use crate::atoms::atoms_of;
 use crate::cutting::add_each;
 use crate::exits::{Exits, cubes_of, line_at};
+use crate::few::{beside_next, lines_of, nothing};
 use crate::offers::goes_to;
 use crate::received::Received;
 use crate::sending::Sending;
-use crate::tested::is_same;
+use crate::tables::{Tables, Workshop};
 use cells::{Cells, Inside, firsts_of};
 use classifier::{Line, Results, push_lines};
 use net_types::{Assign, Cube, Loc, Memory, Pid};
 use std::alloc::Global;
 use std::collections::HashSet;
-
-/// Of each cell the first of some cubes that it lies within.
-#[derive(Drop)]
-struct Table {
-    cubes: Vec<Cube>,
-    firsts: Vec<Option<usize>>,
-}
-
-impl Table {
-    /// The table of no cubes.
-    fn none(alloc: Global, inside: &mut Inside<'_>) -> Result<Table, Memory>
-        ensures table { IfOk result (λ table. table.firsts.items ≡ firsts table.cubes.items inside.old.cells.now) }
-        ensures cells { inside.new.cells.now ≡ inside.old.cells.now }
-    {
-        let firsts = firsts_of(alloc, inside, &[])?;
-        let cubes = Vec::new(alloc);
-        Ok(Table { cubes, firsts })
-    }
-}
 
 /// What a table has at a place.
 fn at(table: &[Option<usize>], place: usize) -> Option<usize>
@@ -53,7 +36,7 @@ fn at(table: &[Option<usize>], place: usize) -> Option<usize>
 }
 
 /// What the rule at a place gives.
-fn items_at<'x>(xs: &'x [Line], place: Option<usize>) -> &'x [(Assign, Loc)]
+pub(crate) fn items_at<'x>(xs: &'x [Line], place: Option<usize>) -> &'x [(Assign, Loc)]
     ensures { (c : AnyCube) → place ≡ first_place c (cubes_of xs.now) → result.now ≡ held_by c xs.now }
 {
     match line_at(xs, place) {
@@ -82,7 +65,7 @@ fn beside_at(
         return Ok(cell);
     }
     let cube = cell.cube;
-    let results = receiver.beside(received, &cell.results, &cube, place)?;
+    let results = receiver.beside(received, cell.results, &cube, place)?;
     Ok(Line { cube, results })
 }
 
@@ -108,58 +91,86 @@ fn beside_each(
     Ok(more)
 }
 
-/// Whether these are the same cubes.
-fn are_same(one: &[Cube], other: &[Cube]) -> bool
-    ensures { IsTrue result → one.now ≡ other.now }
-{
-    if one.len() != other.len() {
-        return false;
-    }
-    for i in 0..one.len() {
-        if !is_same(&one[i], &other[i]) {
-            return false;
-        }
-    }
-    true
-}
-
-/// The table of some cubes: the one that there is, where it is of these.
+/// Of each cell the first of a receiver's cubes that it lies within, as the number of a table.
 fn table_of(
     alloc: Global,
     inside: &mut Inside<'_>,
-    last: Table,
-    cubes: Vec<Cube>,
-) -> Result<Table, Memory>
-    requires { last.firsts.items ≡ firsts last.cubes.items inside.old.cells.now }
-    ensures cubes { IfOk result (λ table. table.cubes.items ≡ cubes.items) }
-    ensures firsts { IfOk result (λ table. table.firsts.items ≡ firsts table.cubes.items inside.old.cells.now) }
+    tables: &mut Tables,
+    receiver: &Exits<'_>,
+) -> Result<usize, Memory>
+    requires { AreTables inside.old.cells.now tables.old.all.items }
+    ensures number { IfOk result (IsAt tables.new.all.items (cubes_of receiver.now.lines)) }
+    ensures tables { AreTables inside.old.cells.now tables.new.all.items }
     ensures cells { inside.new.cells.now ≡ inside.old.cells.now }
 {
-    if are_same(&last.cubes, &cubes) {
-        return Ok(last);
+    let cubes = receiver.cubes(alloc)?;
+    tables.number_of(alloc, inside, cubes)
+}
+
+/// Whether few lists stand for so many cells.
+fn are_few(lists: usize, cells: usize) -> bool {
+    lists <= cells / 4 + 1
+}
+
+/// The rules of cells beside what each of the first receivers makes, for as long as many cells give the same; of how many
+/// receivers that is.
+fn beside_firsts(
+    alloc: Global,
+    received: &mut Received,
+    inside: &mut Inside<'_>,
+    tables: &mut Tables,
+    sending: &Sending<'_>,
+    receivers: &[Exits<'_>],
+    own: &[Option<usize>],
+) -> Result<(Vec<Line>, usize), Memory>
+    requires tables { AreTables inside.old.cells.now tables.old.all.items }
+    requires own { own.now ≡ firsts (cubes_of sending.now.rules.now) inside.old.cells.now }
+    ensures lines { IfOk result (λ v. v.0.items ≡ beside_first sending.now.best sending.now.offers.now sending.now.rules.now inside.old.cells.now receivers.now v.1) }
+    ensures within { IfOk result (λ v. v.1 ≤ length receivers.now) }
+    ensures tables { AreTables inside.old.cells.now tables.new.all.items }
+    ensures cells { inside.new.cells.now ≡ inside.old.cells.now }
+{
+    let cells = inside.cells;
+    let mut few = nothing(alloc, cells)?;
+    let mut n = 0;
+    while n < receivers.len() && are_few(few.table.lists.len(), cells.len()) {
+        let number = table_of(alloc, inside, tables, &receivers[n])?;
+        let places = &tables.all[number].firsts;
+        few = beside_next(received, sending, receivers, n, cells, &few, own, places)?;
+        n += 1;
     }
-    let firsts = firsts_of(alloc, inside, &cubes)?;
-    Ok(Table { cubes, firsts })
+    let lines = lines_of(alloc, cells, &few)?;
+    Ok((lines, n))
 }
 
 /// The rules of cells beside what each receiver makes.
 fn beside_all(
     alloc: Global,
     inside: &mut Inside<'_>,
+    tables: &mut Tables,
     sending: &Sending<'_>,
     receivers: &[Exits<'_>],
-    cells: Vec<Line>,
 ) -> Result<Vec<Line>, Memory>
-    requires { cubes_of cells.items ≡ inside.old.cells.now }
-    ensures { IfOk result (λ v. v.items ≡ beside_all sending.now.best sending.now.offers.now sending.now.rules.now cells.items receivers.now) }
+    requires { AreTables inside.old.cells.now tables.old.all.items }
+    ensures lines { IfOk result (λ v. v.items ≡ beside_all sending.now.best sending.now.offers.now sending.now.rules.now (dropping inside.old.cells.now) receivers.now) }
+    ensures tables { AreTables inside.old.cells.now tables.new.all.items }
 {
     let mut received = Received::new(alloc, usize::MAX);
     let own = firsts_of(alloc, inside, &cubes_of(alloc, sending.rules)?)?;
-    let mut table = Table::none(alloc, inside)?;
-    let mut all = cells;
-    for receiver in receivers {
-        table = table_of(alloc, inside, table, receiver.cubes(alloc)?)?;
-        all = beside_each(&mut received, sending, receiver, all, &own, &table.firsts)?;
+    let (mut all, n) = beside_firsts(
+        alloc,
+        &mut received,
+        inside,
+        tables,
+        sending,
+        receivers,
+        &own,
+    )?;
+    for i in n..receivers.len() {
+        let receiver = &receivers[i];
+        let number = table_of(alloc, inside, tables, receiver)?;
+        let places = &tables.all[number].firsts;
+        all = beside_each(&mut received, sending, receiver, all, &own, places)?;
     }
     Ok(all)
 }
@@ -188,20 +199,19 @@ fn reached_of(alloc: Global, lines: Vec<Line>) -> Result<Vec<Line>, Memory>
     Ok(reached)
 }
 
-/// The rules of cells by which they can be built.
+/// The rules of the workshop's cells, by which they can be built.
 fn lines_by(
     alloc: Global,
+    workshop: &mut Workshop,
     sending: &Sending<'_>,
     receivers: &[Exits<'_>],
-    cubes: &[Cube],
     limit: usize,
 ) -> Result<Vec<Line>, Memory>
-    requires { AreCellsFor receivers.now sending.now.rules.now cubes.now }
+    requires { AreCellsFor receivers.now sending.now.rules.now workshop.old.cells }
     ensures { IfOk result (λ v. IsBuilt limit sending.now.best sending.now.offers.now receivers.now sending.now.rules.now v.items) }
 {
-    let mut inside = Inside::new(alloc, cubes);
-    let cells = dropping(alloc, cubes)?;
-    let lines = beside_all(alloc, &mut inside, sending, receivers, cells)?;
+    let mut inside = Inside::new(alloc, workshop.cells.cubes());
+    let lines = beside_all(alloc, &mut inside, &mut workshop.tables, sending, receivers)?;
     reached_of(alloc, lines)
 }
 
@@ -222,6 +232,7 @@ fn too_many(alloc: Global, cubes: &[Cube], limit: usize) -> Result<Option<Vec<Li
 /// else more than the limit. None where that would be too much work.
 pub(crate) fn by_cells(
     alloc: Global,
+    workshop: &mut Workshop,
     sending: &Sending<'_>,
     receivers: &[Exits<'_>],
     limit: usize,
@@ -237,6 +248,7 @@ pub(crate) fn by_cells(
     if !are_all {
         return Ok(None);
     }
-    let lines = lines_by(alloc, sending, receivers, cells.cubes(), limit)?;
+    workshop.turn_to(alloc, cells);
+    let lines = lines_by(alloc, workshop, sending, receivers, limit)?;
     Ok(Some(lines))
 }

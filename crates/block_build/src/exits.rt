@@ -7,6 +7,7 @@ ghost use Rattle.net_types.specs.declared.cube.Cube.{Cube as AnyCube};
 ghost use Rattle.cells.specs.Firsts.{first_place};
 ghost use Rattle.classifier.specs.Items.{add_all};
 ghost use Rattle.classifier.specs.Meaning.{cubes_of};
+ghost use Rattle.classifier.specs.Numbered.{AreNumbered};
 ghost use Rattle.classifier.specs.Lines.{add_line, add_lines, line, row};
 ghost use Rattle.classifier.specs.Runs.{lines_in};
 ghost use Rattle.classifier.specs.Seen.{Agrees};
@@ -18,6 +19,7 @@ ghost use Rattle.block_build.specs.Groups.{lines_within};
 ghost use Rattle.block_build.specs.Receivers.{IsAlone, received_items, received_lines, receiver};
 ghost use Rattle.block_build.specs.Views.{inbound_of};
 
+use crate::given::{Given, given_alone, given_by};
 use crate::group::Group;
 use crate::grouped::Grouped;
 use crate::kept::{Kept, kept_of};
@@ -34,6 +36,9 @@ use std::marker::Model;
 
 /// So many looks a rule takes that may be joined with one.
 const RULE: usize = 4;
+
+/// So many looks it takes to join a rule with one for all headers, beside what their results take.
+const ALONE: usize = 16;
 
 /// A participant in the offers, with what is kept of its rules. Contracts see these as ports to leave by.
 #[derive(Drop)]
@@ -124,6 +129,7 @@ fn push_each(
     ensures agrees { OnOk result (Agrees lines.new.items seen.new) }
 {
     received.count(ys.len().saturating_mul(RULE))?;
+    received.count_union(x.results.len(), 0)?;
     let mut last = None;
     for y in ys {
         last = push_met(received, lines, seen, x, hop, y, last)?;
@@ -271,17 +277,17 @@ pub(crate) fn line_at<'x>(xs: &'x [Line], place: Option<usize>) -> Option<&'x Li
 /// How the results leave of the first rule that holds a cell, beside what leaves by others: the place of that rule is known.
 fn beside_many(
     received: &mut Received,
-    others: &Results,
+    others: Results,
     rows: &Grouped<'_>,
     cell: &Cube,
     place: Option<usize>,
 ) -> Result<Results, Memory>
     requires { place ≡ first_place cell.now (cubes_of rows.now.lines.now) }
-    ensures { IfOk result (λ r. r ≡ add_all others.now (held_by cell.now (received_lines rows.now.hop rows.now.lines.now))) }
+    ensures { IfOk result (λ r. r ≡ add_all others (held_by cell.now (received_lines rows.now.hop rows.now.lines.now))) }
 {
     match line_at(rows.lines, place) {
-        Some(y) => received.beside(others, rows.hop, &y.results),
-        None => others.copy(),
+        Some(y) => received.joined(others, rows.hop, &y.results),
+        None => Ok(others),
     }
 }
 
@@ -339,19 +345,29 @@ impl<'v> Exits<'v> {
         }
     }
 
+    /// What its rules give, with numbers.
+    pub(crate) fn given(&self, received: &mut Received) -> Result<Given, Memory>
+        ensures { IfOk result (λ g. AreNumbered g.table.lists.items self.now.lines g.numbers.items) }
+    {
+        match &self.kept {
+            Kept::Alone(results) => given_alone(received.alloc(), results),
+            Kept::Many(rows) => given_by(received, rows.hop, rows.lines),
+        }
+    }
+
     /// What it makes of a cell, beside what others do: the place of the first of its rules that holds the cell is known.
     pub(crate) fn beside(
         &self,
         received: &mut Received,
-        others: &Results,
+        others: Results,
         cell: &Cube,
         place: Option<usize>,
     ) -> Result<Results, Memory>
         requires { place ≡ first_place cell.now (cubes_of self.now.lines) }
-        ensures { IfOk result (λ r. r ≡ add_all others.now (held_by cell.now self.now.lines)) }
+        ensures { IfOk result (λ r. r ≡ add_all others (held_by cell.now self.now.lines)) }
     {
         match &self.kept {
-            Kept::Alone(results) => received.union(others, results),
+            Kept::Alone(results) => received.joined_with(others, results),
             Kept::Many(rows) => beside_many(received, others, rows, cell, place),
         }
     }
@@ -408,6 +424,8 @@ impl<'v> Exits<'v> {
     {
         match &self.kept {
             Kept::Alone(results) => {
+                received.count(ALONE)?;
+                received.count_union(x.results.len(), results.len())?;
                 push_alone(received, lines, seen, x, results)?;
                 Ok(())
             }

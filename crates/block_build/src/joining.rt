@@ -13,6 +13,7 @@ use crate::exits::Exits;
 use crate::sending::Sending;
 use crate::spread::{are_for_any_port, restricted, spread_all};
 use crate::stop::Stop;
+use crate::tables::Workshop;
 use crate::view::View;
 use classifier::Line;
 use net_types::{Memory, Part, PortNo};
@@ -60,13 +61,14 @@ fn one_by_one(
 /// The rules built cell by cell, or joined one by one where that would be no less work.
 fn by_cells_or_one_by_one(
     alloc: Global,
+    workshop: &mut Workshop,
     sending: &Sending<'_>,
     receivers: &[Exits<'_>],
     limit: usize,
 ) -> Result<Vec<Line>, Memory>
     ensures { IfOk result (λ v. IsBuilt limit sending.now.best sending.now.offers.now receivers.now sending.now.rules.now v.items) }
 {
-    match by_cells(alloc, sending, receivers, limit)? {
+    match by_cells(alloc, workshop, sending, receivers, limit)? {
         Some(lines) => Ok(lines),
         None => one_by_one(alloc, sending, receivers, limit),
     }
@@ -75,6 +77,7 @@ fn by_cells_or_one_by_one(
 /// The rules within each of the sender's: all of them, where there are no more than the limit, and else more than the limit.
 fn joined(
     alloc: Global,
+    workshop: &mut Workshop,
     sending: &Sending<'_>,
     receivers: &[Exits<'_>],
     limit: usize,
@@ -84,7 +87,7 @@ fn joined(
     let (best, offers, rules) = (sending.best, sending.offers, sending.rules);
     match spread_all(alloc, best, offers, receivers, rules, limit, MOST) {
         Ok(lines) => Ok(lines),
-        Err(Stop::Work) => by_cells_or_one_by_one(alloc, sending, receivers, limit),
+        Err(Stop::Work) => by_cells_or_one_by_one(alloc, workshop, sending, receivers, limit),
         Err(Stop::Memory) => Err(Memory),
     }
 }
@@ -92,6 +95,7 @@ fn joined(
 /// The same for a part, by the participants in its offers.
 fn within_part(
     alloc: Global,
+    workshop: &mut Workshop,
     view: &View<'_>,
     part: &Part,
     rules: &[Line],
@@ -101,7 +105,7 @@ fn within_part(
 {
     let sending = Sending::new(alloc, part.best, part.offers.items(), rules)?;
     let receivers = reached(alloc, view, &sending)?;
-    let lines = joined(alloc, &sending, &receivers, limit)?;
+    let lines = joined(alloc, workshop, &sending, &receivers, limit)?;
     Ok(lines)
 }
 
@@ -109,6 +113,7 @@ fn within_part(
 /// more than the limit.
 pub(crate) fn blocks_of(
     alloc: Global,
+    workshop: &mut Workshop,
     view: &View<'_>,
     port: PortNo,
     part: &Part,
@@ -118,9 +123,9 @@ pub(crate) fn blocks_of(
 {
     let own = view.outbound();
     if are_for_any_port(own) {
-        return within_part(alloc, view, part, own, limit);
+        return within_part(alloc, workshop, view, part, own, limit);
     }
     let at_port = restricted(alloc, port, own)?;
-    let lines = within_part(alloc, view, part, &at_port, limit)?;
+    let lines = within_part(alloc, workshop, view, part, &at_port, limit)?;
     Ok(lines)
 }

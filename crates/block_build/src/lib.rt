@@ -10,6 +10,8 @@ mod building;
 mod by_cells;
 mod cutting;
 mod exits;
+mod few;
+mod given;
 mod group;
 mod grouped;
 mod groups;
@@ -24,6 +26,7 @@ mod same;
 mod sending;
 mod spread;
 mod stop;
+mod tables;
 mod tested;
 mod tight;
 mod turned;
@@ -33,12 +36,13 @@ mod views;
 
 pub use block::{Block, BuildFault};
 pub use blocks::Blocks;
-pub use building::build;
+pub use building::{build, build_with};
 pub use laws::{
     no_inports, no_more_cells, right_for_policies, right_for_views, tight_forms_stay_right,
     views_are_of,
 };
 pub use same::same_rules;
+pub use tables::Workshop;
 pub use tight::build_tight;
 pub use view::View;
 pub use views::Views;

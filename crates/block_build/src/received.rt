@@ -6,7 +6,7 @@ ghost use Rattle.block_build.specs.Receivers.{received_items};
 
 use crate::receive::received_results;
 use crate::stop::Stop;
-use classifier::{Results, Unions};
+use classifier::{Results, Unions, push_all};
 use net_types::{Memory, PortNo, TryCopy};
 use std::alloc::Global;
 
@@ -15,6 +15,18 @@ const FEW: usize = 16;
 
 /// How many lists are kept.
 const MOST: usize = 16;
+
+/// So many results are joined to others by a set of these.
+const MANY: usize = 64;
+
+/// Among so many results one is looked for in the time of a look.
+const AMONG: usize = 8;
+
+/// So many looks it takes to put a result into a set.
+const HASHED: usize = 8;
+
+/// So many looks a result takes of two lists that are joined.
+const JOINED: usize = 2;
 
 /// How results leave, with the port of a NEXT_HOP.
 #[derive(Drop)]
@@ -104,6 +116,21 @@ impl Received {
         }
     }
 
+    /// Counts what it takes to put so many results last where they grow: they are looked for among those that are there, or by a
+    /// set where they are many.
+    pub(crate) fn count_pushes(&mut self, results: usize, others: usize) -> Result<(), Stop> {
+        if others < MANY {
+            self.count(results.saturating_mul(others) / AMONG)
+        } else {
+            self.count(results.saturating_add(others).saturating_mul(HASHED))
+        }
+    }
+
+    /// Counts what it takes to join so many results with others: to see whether their union was made, and to make it.
+    pub(crate) fn count_union(&mut self, results: usize, others: usize) -> Result<(), Stop> {
+        self.count(results.saturating_add(others).saturating_mul(JOINED))
+    }
+
     /// With so many receivers rules are still to be joined, the next one among them.
     pub(crate) fn expect(&mut self, receivers: usize) {
         self.receivers = receivers;
@@ -120,7 +147,7 @@ impl Received {
     }
 
     /// How the results leave, and the packet as it is where there are none.
-    fn exits(&mut self, hop: PortNo, results: &Results) -> Result<Results, Memory>
+    pub(crate) fn exits(&mut self, hop: PortNo, results: &Results) -> Result<Results, Memory>
         ensures { IfOk result (λ r. r ≡ received_items hop results.now) }
     {
         if results.len() <= FEW {
@@ -151,6 +178,34 @@ impl Received {
             return Ok(results);
         }
         self.unions.union(others, &results)
+    }
+
+    /// Results that leave by ports, behind those by which others leave. Few grow where they are.
+    pub(crate) fn joined_with(
+        &mut self,
+        mut others: Results,
+        results: &Results,
+    ) -> Result<Results, Memory>
+        ensures { IfOk result (λ r. r ≡ add_all others results.now) }
+    {
+        if results.len() <= FEW {
+            push_all(self.alloc, &mut others, results)?;
+            return Ok(others);
+        }
+        self.unions.union(&others, results)
+    }
+
+    /// How a receiver's results leave, behind those by which others leave.
+    pub(crate) fn joined(
+        &mut self,
+        others: Results,
+        hop: PortNo,
+        results: &Results,
+    ) -> Result<Results, Memory>
+        ensures { IfOk result (λ r. r ≡ add_all others (received_items hop results.now)) }
+    {
+        let exits = self.exits(hop, results)?;
+        self.joined_with(others, &exits)
     }
 
     /// How a receiver's results leave, beside what leaves by receivers before it.

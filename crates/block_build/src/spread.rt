@@ -199,6 +199,8 @@ fn beside(
     }
     match receiver.alone() {
         Some(results) if lines.len() == 1 => {
+            received.count(1)?;
+            received.count_pushes(lines[0].results.len(), results.len())?;
             let more = beside_alone(lines, results)?;
             Ok(more)
         }

@@ -19,7 +19,7 @@ use crate::known::{KnownClasses, part_in};
 use crate::last::{Lasts, built_again, noted};
 use crate::planned::{Class, FastFault};
 use block_build::{
-    Block, Blocks, BuildFault, Views, build, no_more_cells, right_for_policies, views_are_of,
+    Block, Blocks, BuildFault, Views, build_with, no_more_cells, right_for_policies, views_are_of,
 };
 use events::{Flow, Flows};
 use net_types::{Items, Memory, Pair, Part, Pid, PortNo, Rule, Steps, Tag, TryCopy};
@@ -102,7 +102,7 @@ fn block_of<L: Ledger>(
         return Ok(block);
     }
     let view = views.view(alloc, part)?;
-    let block = build(alloc, &view, port, part, room, steps)?;
+    let block = build_with(alloc, &mut lasts.workshop, &view, port, part, room, steps)?;
     noted(views, lasts, blocks, part, &block)?;
     Ok(block)
 }
@@ -221,7 +221,7 @@ fn blocks_for<L: Ledger>(
 {
     let mut blocks = Vec::new(alloc);
     let mut built = 0;
-    let mut lasts = Lasts::new();
+    let mut lasts = Lasts::new(alloc);
     for &pair in pairs {
         let block = match block_beside(
             alloc, names, known, fresh, views, pair, built, room, &blocks, &mut lasts, steps,

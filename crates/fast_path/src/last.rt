@@ -7,8 +7,9 @@ ghost use Rattle.block_build.specs.Lent.{Lent, outbound_at};
 ghost use Rattle.block_build.specs.Right.{are_for_any_port};
 ghost use Rattle.fast_path.specs.Last.{AreLast, IsAlike, IsLast, IsRightByViews};
 
-use block_build::{Block, Views};
+use block_build::{Block, Views, Workshop};
 use net_types::{Memory, Pair, Part, TryCopy, same_items};
+use std::alloc::Global;
 
 /// Blocks of so many rules are few.
 const FEW: usize = 16;
@@ -20,11 +21,13 @@ pub struct Last {
     place: usize,
 }
 
-/// The block of few rules that was built last, and that of many: neither hides the other.
+/// The block of few rules that was built last, and that of many: neither hides the other. And what was found while they were
+/// built.
 #[derive(Drop)]
 pub struct Lasts {
     few: Option<Last>,
     many: Option<Last>,
+    pub workshop: Workshop,
 }
 
 /// Whether two parts have the same rules: the same offers, and senders with the same rules.
@@ -85,12 +88,13 @@ pub(crate) fn built_again(
 
 impl Lasts {
     /// Nothing was built yet.
-    pub(crate) fn new() -> Lasts
+    pub(crate) fn new(alloc: Global) -> Lasts
         ensures { (all : List Lent) → AreLast all [] result }
     {
         Lasts {
             few: None,
             many: None,
+            workshop: Workshop::new(alloc),
         }
     }
 }

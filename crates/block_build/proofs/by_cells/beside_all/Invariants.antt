@@ -2,15 +2,17 @@
 use Rattle.std.proofs.Common.{◌≡◌, drop}
 use Rattle.cells.specs.Firsts.{firsts}
 use Rattle.classifier.specs.Meaning.{cubes_of}
-use Rattle.block_build.specs.ByCells.{beside_all}
+use Rattle.block_build.specs.ByCells.{beside_all, dropping}
+use Rattle.block_build.specs.Tables.{AreTables}
 use Rattle.block_build.proofs.by_cells.beside_all.Given as goal
 
-abbrev pub invariant-loop-receiver : goal.invariant-loop-receiver
-invariant-loop-receiver l = record {
+abbrev pub invariant-loop-i : goal.invariant-loop-i
+invariant-loop-i l = record {
   whole :
-      beside_all l.sending.best l.sending.offers.now l.sending.rules.now l.all.items (drop l.receiver-index l.receivers)
-      ≡ beside_all l.sending.best l.sending.offers.now l.sending.rules.now l.fn.cells.items l.receivers;
-  table : l.table.firsts.items ≡ firsts l.table.cubes.items l.inside.cells.now;
+      beside_all l.sending.best l.sending.offers.now l.sending.rules.now l.all.items (drop l.i l.receivers)
+      ≡ beside_all l.sending.best l.sending.offers.now l.sending.rules.now (dropping l.fn.inside.cells.now) l.receivers;
   own : l.own.items ≡ firsts (cubes_of l.sending.rules.now) l.inside.cells.now;
   cubes : cubes_of l.all.items ≡ l.inside.cells.now;
+  tables : AreTables l.inside.cells.now l.tables.all.items;
+  cells : l.inside.cells.now ≡ l.fn.inside.cells.now;
 }

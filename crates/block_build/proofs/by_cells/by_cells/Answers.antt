@@ -29,11 +29,12 @@ lines_by-requires c =
     let sending = c.args.sending.now in
     let rs = c.args.receivers.now in
     let has = c.in_ok-atoms.ensures.has in
-    let there : (x : Cube) → Member x c.in_ok-atoms.atoms.items → Member x c.add_each.new.cells = λ x k.
-    c.in_ok-are_all.ensures.there c.if-not-are_all.false x (subst (Member x) (sym c.deref.ensures.value) k) in
-    subst (AreCellsFor rs sending.rules.now) (sym c.cubes-2.ensures.value) (record {
-      closed = c.cubes-2.ensures.closed;
+    let turned = c.turn_to.ensures in
+    let there : (x : Cube) → Member x c.in_ok-atoms.atoms.items → Member x c.turn_to.new.self.cells = λ x k.
+    turned.all x (c.in_ok-are_all.ensures.there c.if-not-are_all.false x (subst (Member x) (sym c.deref.ensures.value) k)) in
+    record {
+      closed = turned.closed;
       has = record { own = λ x k. there x.cube (has.own x k); theirs = λ r k y i. there y.cube (has.theirs r k y i) };
-      theirs = λ atoms theirs own.
-          c.add_each.ensures.meets atoms (subst (AreMeets atoms) (sym c.new-cells.ensures) (λ x k. elim k [ ])) (subst (AreMeets atoms) (sym c.deref.ensures.value) (c.in_ok-atoms.ensures.theirs atoms theirs own));
-    })
+      theirs = λ atoms theirs own x k.
+          c.add_each.ensures.meets atoms (subst (AreMeets atoms) (sym c.new-cells.ensures) (λ y i. elim i [ ])) (subst (AreMeets atoms) (sym c.deref.ensures.value) (c.in_ok-atoms.ensures.theirs atoms theirs own)) x (turned.no_more x k);
+    }

@@ -36,3 +36,6 @@ returns-clause-right g c = λ ps of.
 
 pub returns-in-Some-clause-last : goal.returns-in-Some-clause-last
 returns-in-Some-clause-last g c = λ next. lasts-more c.args.views.now c.args.blocks.now (next, c.in-Some.block) c.args.lasts.now c.requires.last
+
+pub noted-requires-clause-last : goal.noted-requires-clause-last
+noted-requires-clause-last g c = record { few = c.requires.last.few; many = c.requires.last.many }

@@ -24,12 +24,12 @@ beside_many-requires c =
 pub returns-in-Many : goal.returns-in-Many
 returns-in-Many c =
     let rows = c.in-Many.rows in
-    subst (λ (r : Receiver). IfOk c.beside_many.result (λ v. v ≡ add_all c.args.others.now (held_by c.args.cell.now r.lines))) c.self.view_is
-    (subst (λ (kept : Kept). IfOk c.beside_many.result (λ v. v ≡ add_all c.args.others.now (held_by c.args.cell.now (kept_lines kept)))) (sym c.in-Many.is)
-    (subst (λ ys. IfOk c.beside_many.result (λ v. v ≡ add_all c.args.others.now (held_by c.args.cell.now (received_lines rows.hop ys)))) (sym rows.same) c.beside_many.ensures))
+    subst (λ (r : Receiver). IfOk c.beside_many.result (λ v. v ≡ add_all c.args.others (held_by c.args.cell.now r.lines))) c.self.view_is
+    (subst (λ (kept : Kept). IfOk c.beside_many.result (λ v. v ≡ add_all c.args.others (held_by c.args.cell.now (kept_lines kept)))) (sym c.in-Many.is)
+    (subst (λ ys. IfOk c.beside_many.result (λ v. v ≡ add_all c.args.others (held_by c.args.cell.now (received_lines rows.hop ys)))) (sym rows.same) c.beside_many.ensures))
 
 pub returns-in-Alone : goal.returns-in-Alone
 returns-in-Alone c =
-    subst (λ (r : Receiver). IfOk c.union.result (λ v. v ≡ add_all c.args.others.now (held_by c.args.cell.now r.lines))) c.self.view_is
-    (subst (λ (kept : Kept). IfOk c.union.result (λ v. v ≡ add_all c.args.others.now (held_by c.args.cell.now (kept_lines kept)))) (sym c.in-Alone.is)
-    (subst (λ items. IfOk c.union.result (λ v. v ≡ add_all c.args.others.now items)) (sym (held-everything c.args.cell.now c.in-Alone.results)) c.union.ensures))
+    subst (λ (r : Receiver). IfOk c.joined_with.result (λ v. v ≡ add_all c.args.others (held_by c.args.cell.now r.lines))) c.self.view_is
+    (subst (λ (kept : Kept). IfOk c.joined_with.result (λ v. v ≡ add_all c.args.others (held_by c.args.cell.now (kept_lines kept)))) (sym c.in-Alone.is)
+    (subst (λ items. IfOk c.joined_with.result (λ v. v ≡ add_all c.args.others items)) (sym (held-everything c.args.cell.now c.in-Alone.results)) c.joined_with.ensures))

@@ -1,7 +1,7 @@
 -- One more cube is the same.
 use Rattle.std.proofs.Common.{◌≡◌, ◌+◌, ◌<◌, ◌++◌, ◌∷◌, [], ap, length, sym, subst, take, ◌∙◌}
 use Rattle.std.proofs.lemmas.List.{take_more}
-use Rattle.block_build.proofs.by_cells.are_same.Goals as goal
+use Rattle.block_build.proofs.tables.are_same.Goals as goal
 
 pub loop-i-preserved : goal.loop-i-preserved
 loop-i-preserved c =

@@ -1,7 +1,7 @@
 -- Where the lines are right at every port, the rules that they become are.
 use Rattle.std.proofs.Common.{◌≤◌, length, sym, subst, ◌∙◌, arith}
 use Rattle.block_build.specs.Right.{IsRightFor}
-use Rattle.block_build.proofs.building.build.Goals as goal
+use Rattle.block_build.proofs.building.build_with.Goals as goal
 
 pub returns-clause-anywhere : goal.returns-clause-anywhere
 returns-clause-anywhere g c = λ any port.

@@ -1,6 +1,6 @@
 -- The cubes so far are the same.
 use Rattle.std.proofs.Common.{◌≡◌, length, take}
-use Rattle.block_build.proofs.by_cells.are_same.Given as goal
+use Rattle.block_build.proofs.tables.are_same.Given as goal
 
 abbrev pub invariant-loop-i : goal.invariant-loop-i
 invariant-loop-i l = record {
