@@ -9,7 +9,7 @@ use Rattle.net_types.proofs.WidthLemmas.{HasNoRepeats-push}
 use Rattle.net_types.specs.Sets.{HasNoRepeats, Member}
 use Rattle.classifier.proofs.GatherLemmas.{among-push}
 use Rattle.classifier.proofs.ItemLemmas.{among-member, item_exact, item_refl, member-among}
-use Rattle.classifier.specs.Items.{Item, add, add_all, is_among, same_item}
+use Rattle.classifier.specs.Items.{AreNew, Item, add, add_all, is_among, same_item}
 
 absent : (ks ys : List Item) (y : Item) → HasNoRepeats (ks ++ y ∷ ys) → Member y ks → ⊥
 absent [] ys y d k = elim k [ ]
@@ -98,3 +98,12 @@ pub none_joined : (ps xs ys : List Item) → HasNoRepeats ys → ps ≡ add_all 
 none_joined ps xs ys d made long =
     let all : add_all xs ys ≡ xs ++ besides xs ys = joined_items xs xs ys d (λ y k. refl) in
     sym (all ∙ same_length xs (besides xs ys) (sym (ap length (made ∙ all)) ∙ long))
+
+-- where one of the new items is put last, the others are new still
+pub left-new : (xs ys : List Item) (y : Item) → HasNoRepeats (y ∷ ys) → AreNew xs (y ∷ ys) → AreNew (xs ++ y ∷ []) ys
+left-new xs ys y once new z stands =
+    among-push xs y z ∙ ap (λ b. b || same_item y z) (new z (inr stands)) ∙ unequal y ys z once stands
+
+-- it is put last where each is put last unless it is there
+pub put-new : (xs ys : List Item) (y : Item) → AreNew xs (y ∷ ys) → add_all (xs ++ y ∷ []) ys ≡ add_all xs (y ∷ ys)
+put-new xs ys y new = ap (λ zs. add_all zs ys) (sym (ap (λ b. if b then xs else xs ++ y ∷ []) (new y (inl refl))))
