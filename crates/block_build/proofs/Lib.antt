@@ -22,5 +22,6 @@ mod LoopLemmas
 pub mod ByCellLemmas
 mod TableLemmas
 mod FewLemmas
+mod TakenLemmas
 pub mod AtomLemmas
 pub mod CutLemmas

@@ -17,4 +17,5 @@ pub mod Tight
 pub mod Installed
 pub mod Laws
 pub mod Tables
+pub mod Ports
 pub mod Few

@@ -5,22 +5,27 @@ ghost use Rattle.std.specs.List.{slice_get};
 ghost use Rattle.cells.specs.Firsts.{first_place, firsts};
 ghost use Rattle.classifier.specs.Lines.{add_lines};
 ghost use Rattle.classifier.specs.Meaning.{cubes_of};
+ghost use Rattle.classifier.specs.declared.line.Line.{Line as AnyLine};
+ghost use Rattle.net_types.specs.Sets.{Member};
 ghost use Rattle.net_types.specs.declared.cube.Cube.{Cube as AnyCube};
 ghost use Rattle.block_build.specs.Bounds.{IsBuilt};
 ghost use Rattle.block_build.specs.ByCells.{AreCellsFor, beside_all, beside_at, beside_first, dropping, held_by};
+ghost use Rattle.block_build.specs.Ports.{GiveNew};
 ghost use Rattle.block_build.specs.Tables.{AreTables, IsAt};
 
 use crate::atoms::atoms_of;
 use crate::cutting::add_each;
 use crate::exits::{Exits, cubes_of, line_at};
-use crate::few::{beside_next, lines_of, nothing};
+use crate::few::{are_shared, beside_next, lines_of, nothing};
 use crate::offers::goes_to;
+use crate::ports::take_lines;
 use crate::received::Received;
 use crate::sending::Sending;
 use crate::tables::{Tables, Workshop};
 use cells::{Cells, Inside, firsts_of};
 use classifier::{Line, Results, push_lines};
 use net_types::{Assign, Cube, Loc, Memory, Pid};
+use place_sets::PlaceSet;
 use std::alloc::Global;
 use std::collections::HashSet;
 
@@ -46,7 +51,7 @@ pub(crate) fn items_at<'x>(xs: &'x [Line], place: Option<usize>) -> &'x [(Assign
 }
 
 /// The rule of a cell beside what a receiver makes in it: the places are known of the sender's rule that holds the cell, and of
-/// the receiver's.
+/// the receiver's, and whether nothing that the receiver makes is there.
 fn beside_at(
     received: &mut Received,
     sending: &Sending<'_>,
@@ -54,7 +59,9 @@ fn beside_at(
     cell: Line,
     own: Option<usize>,
     place: Option<usize>,
+    apart: bool,
 ) -> Result<Line, Memory>
+    requires apart { IsTrue apart → GiveNew cell.results receiver.now.lines }
     requires own { own ≡ first_place cell.cube (cubes_of sending.now.rules.now) }
     requires place { place ≡ first_place cell.cube (cubes_of receiver.now.lines) }
     ensures { IfOk result (λ z. z ≡ beside_at sending.now.best sending.now.offers.now sending.now.rules.now receiver.now cell) }
@@ -65,11 +72,11 @@ fn beside_at(
         return Ok(cell);
     }
     let cube = cell.cube;
-    let results = receiver.beside(received, cell.results, &cube, place)?;
+    let results = receiver.beside(received, cell.results, &cube, place, apart)?;
     Ok(Line { cube, results })
 }
 
-/// The rules of cells beside what a receiver makes.
+/// The rules of cells beside what a receiver makes; whether nothing of that is in any of them is known.
 fn beside_each(
     received: &mut Received,
     sending: &Sending<'_>,
@@ -77,7 +84,9 @@ fn beside_each(
     cells: Vec<Line>,
     own: &[Option<usize>],
     places: &[Option<usize>],
+    apart: bool,
 ) -> Result<Vec<Line>, Memory>
+    requires apart { IsTrue apart → (z : AnyLine) → Member z cells.items → GiveNew z.results receiver.now.lines }
     requires own { own.now ≡ firsts (cubes_of sending.now.rules.now) (cubes_of cells.items) }
     requires places { places.now ≡ firsts (cubes_of receiver.now.lines) (cubes_of cells.items) }
     ensures { IfOk result (λ v. v.items ≡ map (beside_at sending.now.best sending.now.offers.now sending.now.rules.now receiver.now) cells.items) }
@@ -86,7 +95,7 @@ fn beside_each(
     for cell in cells {
         let place = more.len();
         let (own, place) = (at(own, place), at(places, place));
-        more.push(beside_at(received, sending, receiver, cell, own, place)?)?;
+        more.push(beside_at(received, sending, receiver, cell, own, place, apart)?)?;
     }
     Ok(more)
 }
@@ -105,11 +114,6 @@ fn table_of(
 {
     let cubes = receiver.cubes(alloc)?;
     tables.number_of(alloc, inside, cubes)
-}
-
-/// Whether few lists stand for so many cells.
-fn are_few(lists: usize, cells: usize) -> bool {
-    lists <= cells / 4 + 1
 }
 
 /// The rules of cells beside what each of the first receivers makes, for as long as many cells give the same; of how many
@@ -133,7 +137,7 @@ fn beside_firsts(
     let cells = inside.cells;
     let mut few = nothing(alloc, cells)?;
     let mut n = 0;
-    while n < receivers.len() && are_few(few.table.lists.len(), cells.len()) {
+    while n < receivers.len() && are_shared(&few) {
         let number = table_of(alloc, inside, tables, &receivers[n])?;
         let places = &tables.all[number].firsts;
         few = beside_next(received, sending, receivers, n, cells, &few, own, places)?;
@@ -166,11 +170,15 @@ fn beside_all(
         receivers,
         &own,
     )?;
+    let mut ports = PlaceSet::none(alloc);
+    take_lines(&mut ports, &all)?;
     for i in n..receivers.len() {
         let receiver = &receivers[i];
+        let apart = receiver.is_apart(&ports);
+        receiver.take_ports(&mut ports)?;
         let number = table_of(alloc, inside, tables, receiver)?;
         let places = &tables.all[number].firsts;
-        all = beside_each(&mut received, sending, receiver, all, &own, places)?;
+        all = beside_each(&mut received, sending, receiver, all, &own, places, apart)?;
     }
     Ok(all)
 }

@@ -16,6 +16,7 @@ ghost use Rattle.block_build.specs.Bounds.{AreMeets, IsPast};
 ghost use Rattle.block_build.specs.ByCells.{held_by};
 ghost use Rattle.block_build.specs.Closed.{AreClosed, first_holding};
 ghost use Rattle.block_build.specs.Groups.{lines_within};
+ghost use Rattle.block_build.specs.Ports.{AllFree, AllTaken, GiveNew, KeepPorts};
 ghost use Rattle.block_build.specs.Receivers.{IsAlone, received_items, received_lines, receiver};
 ghost use Rattle.block_build.specs.Views.{inbound_of};
 
@@ -23,6 +24,7 @@ use crate::given::{Given, given_alone, given_by};
 use crate::group::Group;
 use crate::grouped::Grouped;
 use crate::kept::{Kept, kept_of};
+use crate::ports::{are_free, are_lines_free, take_items, take_received};
 use crate::received::Received;
 use crate::stop::Stop;
 use crate::tested::tests_of;
@@ -30,6 +32,7 @@ use crate::uncut::push_uncut;
 use crate::view::View;
 use classifier::{Line, Results, Run, is_hidden, push_reached};
 use net_types::{Cube, Memory, Offer, Pid, PortNo, TryCopy};
+use place_sets::PlaceSet;
 use std::alloc::Global;
 use std::collections::HashSet;
 use std::marker::Model;
@@ -281,12 +284,14 @@ fn beside_many(
     rows: &Grouped<'_>,
     cell: &Cube,
     place: Option<usize>,
+    apart: bool,
 ) -> Result<Results, Memory>
-    requires { place ≡ first_place cell.now (cubes_of rows.now.lines.now) }
+    requires place { place ≡ first_place cell.now (cubes_of rows.now.lines.now) }
+    requires apart { IsTrue apart → GiveNew others (received_lines rows.now.hop rows.now.lines.now) }
     ensures { IfOk result (λ r. r ≡ add_all others (held_by cell.now (received_lines rows.now.hop rows.now.lines.now))) }
 {
     match line_at(rows.lines, place) {
-        Some(y) => received.joined(others, rows.hop, &y.results),
+        Some(y) => received.joined(others, rows.hop, &y.results, apart),
         None => Ok(others),
     }
 }
@@ -355,20 +360,44 @@ impl<'v> Exits<'v> {
         }
     }
 
-    /// What it makes of a cell, beside what others do: the place of the first of its rules that holds the cell is known.
+    /// What it makes of a cell, beside what others do: the place of the first of its rules that holds the cell is known, and
+    /// whether nothing that it makes is among that.
     pub(crate) fn beside(
         &self,
         received: &mut Received,
         others: Results,
         cell: &Cube,
         place: Option<usize>,
+        apart: bool,
     ) -> Result<Results, Memory>
-        requires { place ≡ first_place cell.now (cubes_of self.now.lines) }
+        requires place { place ≡ first_place cell.now (cubes_of self.now.lines) }
+        requires apart { IsTrue apart → GiveNew others self.now.lines }
         ensures { IfOk result (λ r. r ≡ add_all others (held_by cell.now self.now.lines)) }
     {
         match &self.kept {
-            Kept::Alone(results) => received.joined_with(others, results),
-            Kept::Many(rows) => beside_many(received, others, rows, cell, place),
+            Kept::Alone(results) => received.joined_with(others, results, apart),
+            Kept::Many(rows) => beside_many(received, others, rows, cell, place, apart),
+        }
+    }
+
+    /// Whether nothing that it makes leaves by one of the ports.
+    pub(crate) fn is_apart(&self, ports: &PlaceSet) -> bool
+        ensures { IsTrue result → AllFree ports.now self.now.lines }
+    {
+        match &self.kept {
+            Kept::Alone(results) => are_free(ports, results.items()),
+            Kept::Many(rows) => are_lines_free(ports, rows.hop, rows.lines),
+        }
+    }
+
+    /// Adds the ports by which it makes packets leave.
+    pub(crate) fn take_ports(&self, ports: &mut PlaceSet) -> Result<(), Memory>
+        ensures taken { OnOk result (AllTaken ports.new self.now.lines) }
+        ensures kept { OnOk result (KeepPorts ports.old ports.new) }
+    {
+        match &self.kept {
+            Kept::Alone(results) => take_items(ports, results.items()),
+            Kept::Many(rows) => take_received(ports, rows.hop, rows.lines),
         }
     }
 

@@ -22,6 +22,15 @@ use classifier::{Joins, Line, ListTable, Results};
 use net_types::{Cube, Memory, TryCopy};
 use std::alloc::Global;
 
+/// With so many results in all cells, each cell isn't given a list of its own.
+const MOST: usize = 16777216;
+
+/// A list that so many cells have is worth being made anew with each receiver.
+const SHARED: usize = 64;
+
+/// So many results for each cell are no work to make anew.
+const SHORT: usize = 16;
+
 /// Of each of some cells the number of the list of its results.
 #[derive(Drop)]
 pub struct Few {
@@ -100,6 +109,44 @@ pub(crate) fn nothing(alloc: Global, cells: &[Cube]) -> Result<Few, Memory>
         numbers.push(number)?;
     }
     Ok(Few { numbers, table })
+}
+
+/// How many results a list has, none where there is no such list.
+fn length_at(lists: &[Results], number: usize) -> usize {
+    if number < lists.len() {
+        lists[number].len()
+    } else {
+        0
+    }
+}
+
+/// How many results the lists with these numbers have together.
+fn results_in(lists: &[Results], numbers: &[usize]) -> usize {
+    let mut results: usize = 0;
+    for number in numbers {
+        results = results.saturating_add(length_at(lists, *number));
+    }
+    results
+}
+
+/// How many results lists have together.
+fn results_of(lists: &[Results]) -> usize {
+    let mut results: usize = 0;
+    for list in lists {
+        results = results.saturating_add(list.len());
+    }
+    results
+}
+
+/// Whether it is less work to join lists for many cells than to have a list grow in each cell. Nothing rests on it but how soon
+/// the rules are built.
+pub(crate) fn are_shared(few: &Few) -> bool {
+    let lists = &few.table.lists;
+    let cells = few.numbers.len();
+    let made = results_of(lists);
+    let had = results_in(lists, &few.numbers);
+    let few_lists = lists.len() <= cells / 4 + 1 && made <= cells.saturating_mul(SHORT);
+    few_lists || had > made.saturating_mul(SHARED) || had > MOST
 }
 
 /// The cells beside what the next receiver makes in them.

@@ -20,6 +20,7 @@ mod joining;
 mod kept;
 mod laws;
 mod offers;
+mod ports;
 mod receive;
 mod received;
 mod same;

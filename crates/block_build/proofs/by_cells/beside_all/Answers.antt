@@ -7,7 +7,9 @@ use Rattle.net_types.specs.declared.cube.Cube.{Cube}
 use Rattle.block_build.proofs.ByCellLemmas.{all-more, cubes-kept}
 use Rattle.block_build.proofs.FewLemmas.{cubes-first, first-rest}
 use Rattle.block_build.proofs.TableLemmas.{table-places, table-within}
+use Rattle.block_build.proofs.TakenLemmas.{beside-taken, give-new, taken-kept}
 use Rattle.block_build.specs.ByCells.{beside_all, dropping}
+use Rattle.block_build.specs.Ports.{AllTaken}
 use Rattle.block_build.specs.Tables.{AreTables}
 use Rattle.block_build.proofs.by_cells.beside_all.Goals as goal
 
@@ -32,6 +34,7 @@ loop-i-init c =
       cubes = ap cubes_of lines ∙ cubes-first s.best s.offers.now s.rules.now mid rs n ∙ sym second;
       tables = subst (λ (cells : List Cube). AreTables cells c.beside_firsts.new.tables.all.items) (sym second) c.beside_firsts.ensures.tables;
       cells = second ∙ first;
+      taken = subst (AllTaken c.take_lines.new.ports) c.deref-3.ensures.value c.in_ok-take_lines.ensures.taken;
     }
 
 pub index-requires : goal.index-requires
@@ -47,6 +50,10 @@ beside_each-requires-clause-places c =
     ∙ table-places c.loop-i.inside.cells.now (cubes_of r.lines) c.table_of.new.tables.all.items c.in_ok-number.number c.index.result.now c.table_of.ensures.tables c.in_ok-number.ensures.number c.index.ensures
     ∙ ap (firsts (cubes_of r.lines)) (sym c.loop-i.invariant.cubes)
 
+pub beside_each-requires-clause-apart : goal.beside_each-requires-clause-apart
+beside_each-requires-clause-apart c = λ yes.
+    give-new c.loop-i.ports c.loop-i.all.items c.index-receivers-i.result.lines c.loop-i.invariant.taken (c.is_apart-apart.ensures yes)
+
 pub loop-i-preserved : goal.loop-i-preserved
 loop-i-preserved c =
     let s = c.args.sending.now in
@@ -58,4 +65,9 @@ loop-i-preserved c =
       cubes = cubes-kept s.best s.offers.now s.rules.now c.index-receivers-i.result c.loop-i.all.items c.in_ok-all-2.all.items c.in_ok-all-2.ensures ∙ c.loop-i.invariant.cubes ∙ sym same;
       tables = subst (λ (cells : List Cube). AreTables cells c.table_of.new.tables.all.items) (sym same) c.table_of.ensures.tables;
       cells = same ∙ c.loop-i.invariant.cells;
+      taken =
+          subst (AllTaken c.take_ports.new.ports) (sym c.in_ok-all-2.ensures)
+          (beside-taken c.take_ports.new.ports s.best s.offers.now s.rules.now c.index-receivers-i.result c.loop-i.all.items
+          (taken-kept c.loop-i.ports c.take_ports.new.ports c.loop-i.all.items c.in_ok-take_ports.ensures.kept c.loop-i.invariant.taken)
+          c.in_ok-take_ports.ensures.taken);
     }

@@ -1,8 +1,9 @@
--- What is left makes the whole; the tables are right, and the cells keep their cubes.
+-- What is left makes the whole; the tables are right, the cells keep their cubes, and all that they give leaves by the ports.
 use Rattle.std.proofs.Common.{◌≡◌, drop}
 use Rattle.cells.specs.Firsts.{firsts}
 use Rattle.classifier.specs.Meaning.{cubes_of}
 use Rattle.block_build.specs.ByCells.{beside_all, dropping}
+use Rattle.block_build.specs.Ports.{AllTaken}
 use Rattle.block_build.specs.Tables.{AreTables}
 use Rattle.block_build.proofs.by_cells.beside_all.Given as goal
 
@@ -15,4 +16,5 @@ invariant-loop-i l = record {
   cubes : cubes_of l.all.items ≡ l.inside.cells.now;
   tables : AreTables l.inside.cells.now l.tables.all.items;
   cells : l.inside.cells.now ≡ l.fn.inside.cells.now;
+  taken : AllTaken l.ports l.all.items;
 }

@@ -1,6 +1,5 @@
 -- The table is that of the next receiver's cubes; what the cells give at the end are their rules.
-use Rattle.std.proofs.Common.{◌≡◌, List, Some, ap, length, refl, subst, sym, ◌∙◌}
-use Rattle.std.specs.List.{slice_get}
+use Rattle.std.proofs.Common.{◌≡◌, List, ap, length, refl, subst, sym, ◌∙◌}
 use Rattle.std.proofs.lemmas.Option.{same_Some, slice_get_read}
 use Rattle.cells.specs.Firsts.{firsts}
 use Rattle.classifier.specs.Meaning.{cubes_of}

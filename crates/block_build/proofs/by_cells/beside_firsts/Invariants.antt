@@ -1,8 +1,6 @@
 -- The cells beside what the receivers so far make; the tables are right.
 use Rattle.std.proofs.Common.{◌≡◌, ◌≤◌, ◌-◌, length}
-use Rattle.classifier.specs.Meaning.{cubes_of}
 use Rattle.classifier.specs.Numbered.{AreNumbered}
-use Rattle.cells.specs.Firsts.{firsts}
 use Rattle.block_build.specs.ByCells.{beside_first}
 use Rattle.block_build.specs.Tables.{AreTables}
 use Rattle.block_build.proofs.by_cells.beside_firsts.Given as goal

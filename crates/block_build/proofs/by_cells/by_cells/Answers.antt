@@ -7,7 +7,7 @@ use Rattle.net_types.specs.Sets.{Member}
 use Rattle.net_types.specs.declared.cube.Cube.{Cube}
 use Rattle.block_build.proofs.ByCellLemmas.{many-built, ok-map, some-map}
 use Rattle.block_build.specs.Bounds.{IsBuilt}
-use Rattle.block_build.specs.ByCells.{AreCellsFor, AreTheirs, dropping}
+use Rattle.block_build.specs.ByCells.{AreTheirs, dropping}
 use Rattle.block_build.proofs.by_cells.by_cells.Goals as goal
 
 pub returns-then-len-limit : goal.returns-then-len-limit

@@ -1,13 +1,12 @@
 -- One more cell gives what it gave beside what the receiver makes in it.
-use Rattle.std.proofs.Common.{◌≡◌, ◌+◌, ◌<◌, List, None, Some, ap, arith, get_or, length, map, refl, subst, sym, take, ◌∙◌}
+use Rattle.std.proofs.Common.{◌≡◌, ◌<◌, List, None, Some, ap, arith, length, map, refl, subst, sym, take, ◌∙◌}
 use Rattle.std.specs.List.{slice_get}
-use Rattle.std.proofs.lemmas.List.{length-map, take_all}
-use Rattle.std.proofs.lemmas.Option.{slice_get-get_or, slice_get_read, slice_get_within}
+use Rattle.std.proofs.lemmas.List.{take_all}
+use Rattle.std.proofs.lemmas.Option.{slice_get_read, slice_get_within}
 use Rattle.classifier.proofs.NumberLemmas.{list_there, numbered_length}
 use Rattle.classifier.specs.Items.{Item, add_all}
 use Rattle.classifier.specs.Meaning.{cubes_of}
 use Rattle.classifier.specs.Numbered.{AreNumbered, list_at}
-use Rattle.classifier.specs.declared.line.Line.{Line}
 use Rattle.net_types.specs.declared.cube.Cube.{Cube}
 use Rattle.block_build.proofs.FewLemmas.{cell-at, cubes-first, cubes-length, first-more, first-read, made-results, numbered-next, stands}
 use Rattle.block_build.specs.ByCells.{beside_at, beside_first, made_at}

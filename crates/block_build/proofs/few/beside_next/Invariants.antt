@@ -1,5 +1,5 @@
 -- The cells so far have the numbers of what they give beside what the receiver makes in them.
-use Rattle.std.proofs.Common.{◌≡◌, get_or, map, take}
+use Rattle.std.proofs.Common.{◌≡◌, map, take}
 use Rattle.std.specs.Prelude.{IfSome}
 use Rattle.classifier.specs.Numbered.{AreNumbered}
 use Rattle.block_build.specs.ByCells.{beside_at, beside_first}

@@ -1,5 +1,5 @@
 -- The list at the number is the one that was read.
-use Rattle.std.proofs.Common.{◌≡◌, ◌<◌, arith, length, ◌∙◌}
+use Rattle.std.proofs.Common.{◌<◌, arith, length, ◌∙◌}
 use Rattle.std.proofs.lemmas.Option.{get_or_from_slice_get, slice_get_within}
 use Rattle.block_build.proofs.ByCellLemmas.{ok-map}
 use Rattle.block_build.proofs.few.list_of.Goals as goal

@@ -1,5 +1,5 @@
 -- The cell has the list with its number.
-use Rattle.std.proofs.Common.{◌≡◌, ◌<◌, Some, ap, arith, length, refl, ◌∙◌, subst, sym}
+use Rattle.std.proofs.Common.{◌≡◌, ◌<◌, Some, ap, arith, length, refl, ◌∙◌}
 use Rattle.std.specs.List.{slice_get}
 use Rattle.std.proofs.lemmas.Option.{slice_get_read, slice_get_within}
 use Rattle.classifier.proofs.NumberLemmas.{numbered_at, numbered_length}

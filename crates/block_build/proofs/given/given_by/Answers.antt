@@ -1,7 +1,6 @@
 -- One more rule has its number.
 use Rattle.std.proofs.Common.{◌≡◌, Some, [], ap, sym, subst, take, ◌∙◌}
 use Rattle.std.specs.List.{slice_get}
-use Rattle.classifier.proofs.NumberLemmas.{numbered_kept, numbered_push}
 use Rattle.classifier.specs.Lines.{line}
 use Rattle.classifier.specs.Numbered.{AreNumbered}
 use Rattle.block_build.proofs.FewLemmas.{numbered-more, received-more}

@@ -1,6 +1,5 @@
 -- The rule at the place has that number.
-use Rattle.std.proofs.Common.{◌≡◌, ◌<◌, Some, arith, length, refl, subst, sym}
-use Rattle.std.specs.List.{slice_get}
+use Rattle.std.proofs.Common.{◌≡◌, ◌<◌, arith, length, refl}
 use Rattle.std.proofs.lemmas.Option.{slice_get_read, slice_get_within}
 use Rattle.classifier.proofs.NumberLemmas.{numbered_at, numbered_length}
 use Rattle.block_build.proofs.given.Given.number_of.Goals as goal

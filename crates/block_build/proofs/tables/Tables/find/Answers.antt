@@ -1,6 +1,5 @@
 -- The table with these cubes is found.
-use Rattle.std.proofs.Common.{◌≡◌, ◌<◌, Some, arith, length, refl, sym, ◌∙◌}
-use Rattle.std.specs.List.{slice_get}
+use Rattle.std.proofs.Common.{◌<◌, arith, length, refl, sym, ◌∙◌}
 use Rattle.std.proofs.lemmas.Option.{slice_get_read}
 use Rattle.block_build.proofs.tables.Tables.find.Goals as goal
 

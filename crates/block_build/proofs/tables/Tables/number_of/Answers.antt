@@ -1,6 +1,5 @@
 -- The table that was found is that of the cubes.
 use Rattle.std.proofs.Common.{List, subst}
-use Rattle.std.specs.Prelude.{IfSome}
 use Rattle.net_types.specs.declared.cube.Cube.{Cube}
 use Rattle.block_build.specs.Tables.{IsAt}
 use Rattle.block_build.proofs.tables.Tables.number_of.Goals as goal

@@ -1,7 +1,5 @@
 -- The table is the last one.
-use Rattle.std.proofs.Common.{◌≡◌, [], List, sym, ap, ◌∙◌, subst}
-use Rattle.net_types.specs.Sets.{Member}
-use Rattle.net_types.specs.declared.cube.Cube.{Cube}
+use Rattle.std.proofs.Common.{List, sym, ap, ◌∙◌, subst}
 use Rattle.block_build.proofs.TableLemmas.{table-last, tables-push}
 use Rattle.block_build.specs.Tables.{AreTables}
 use Rattle.block_build.specs.declared.tables.Table.{Table}
