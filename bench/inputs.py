@@ -616,12 +616,27 @@ def four_alike(n, action):
     return four_fields(1, 15, action)
 
 
+def set_each(field, values, to, first, action, numbers=1000):
+    """A sum of tests of a field's values, each before one of so many assignments."""
+    return "+".join(f"match({field}={value})>>modify({to}={first + i % numbers}){action}" for i, value in enumerate(values))
+
+
 def four_assigning(n, action):
     """Tests of four fields from 1 to 15, each before an assignment of its own, so that each rule gives a list of its own."""
-    def each(field, values, to, first):
-        return "+".join(f"match({field}={value})>>modify({to}={first + i}){action}" for i, value in enumerate(values))
-    nets = [f"{value}.0.0.0/8" for value in range(1, 16)]
-    return "+".join([each("srcport", range(1, 16), "dstport", 1), each("dstport", range(1, 16), "srcport", 1), each("srcip", nets, "srcport", 100), each("dstip", nets, "dstport", 100)])
+    return "+".join([set_each("srcport", range(1, 16), "dstport", 1, action), set_each("dstport", range(1, 16), "srcport", 1, action),
+                     set_each("srcip", nets(15), "srcport", 100, action), set_each("dstip", nets(15), "dstport", 100, action)])
+
+
+def four_assigning_alike(n, action):
+    """The same, but that the tests of the last field are before four assignments, so that four rules each give one list."""
+    return "+".join([set_each("srcport", range(1, 16), "dstport", 1, action), set_each("dstport", range(1, 16), "srcport", 1, action),
+                     set_each("srcip", nets(15), "srcport", 100, action), set_each("dstip", nets(15), "dstport", 100, action, 4)])
+
+
+def two_of_four(n, action):
+    """Tests of two of four fields from 1 to 30, of the others where the number is even, each before an assignment of its own."""
+    one, other = (("srcport", range(1, 31)), ("dstport", range(1, 31))) if n % 2 else (("srcip", nets(30)), ("dstip", nets(30)))
+    return set_each(*one, "dstport", 1, action) + "+" + set_each(*other, "srcport", 1, action)
 
 
 def receivers_of(count, prefixes, fields=four_alike):
@@ -686,10 +701,14 @@ SLOWEST += [
     ("out, 65536 meets and 240 targets each, who have two rules each", announcers_with_policies(240, 1, range(1, 241)), ("out", named(0)), four_fields(1, 15, "") + "+" + each_of(240)),
     ("out, one rule to 64 receivers, each of whose 65536 rules gives another list", receivers_of(64, 1, four_assigning), ("out", named(0)), each_of(64)),
     ("out, one rule to sixteen such receivers, for four tags", receivers_of(16, 4, four_assigning), ("out", named(0)), each_of(16)),
+    ("out, one rule to 240 receivers of 65536 rules each that test the same in other orders", receivers_of(240, 1, four_turned), ("out", named(0)), each_of(240)),
 ]
 
-# what takes more than 2 GB by what the table holds: 32 million results in place of as many
+# what gives more than 16 million results, and takes more than ten seconds, or 2 GB with what it stands in place of
 BEYOND = [
+    ("out, one rule to 120 receivers, each of whose 65536 rules gives another list", receivers_of(120, 1, four_assigning), ("out", named(0)), each_of(120)),
+    ("out, one rule to 120 receivers, four rules each of whose 65536 give another list", receivers_of(120, 1, four_assigning_alike), ("out", named(0)), each_of(120)),
+    ("out, one rule to sixteen receivers of 961 rules each, by two fields and by two others: 923521 rules", receivers_of(16, 1, two_of_four), ("out", named(0)), each_of(16)),
     ("in, 58 tests by `!`, each before nine assignments, in place of as many others", receiver_of(denied(13, nine_each)), ("in", "B"), denied(13, other_nine)),
 ]
 
