@@ -1,5 +1,6 @@
 //! Tests of runs.
 
+mod behind;
 mod calls;
 mod failing;
 mod generated;
@@ -8,4 +9,5 @@ mod in_turn;
 mod loads;
 mod long;
 mod realistic;
+mod receivers;
 mod waiting;
