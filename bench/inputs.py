@@ -707,7 +707,7 @@ SLOWEST += [
 # what gives more than 16 million results, and takes more than ten seconds, or 2 GB with what it stands in place of
 BEYOND = [
     ("out, one rule to 120 receivers, each of whose 65536 rules gives another list", receivers_of(120, 1, four_assigning), ("out", named(0)), each_of(120)),
-    ("out, one rule to 120 receivers, four rules each of whose 65536 give another list", receivers_of(120, 1, four_assigning_alike), ("out", named(0)), each_of(120)),
+    ("out, one rule to 120 receivers, of whose 65536 rules some four give one list", receivers_of(120, 1, four_assigning_alike), ("out", named(0)), each_of(120)),
     ("out, one rule to sixteen receivers of 961 rules each, by two fields and by two others: 923521 rules", receivers_of(16, 1, two_of_four), ("out", named(0)), each_of(16)),
     ("in, 58 tests by `!`, each before nine assignments, in place of as many others", receiver_of(denied(13, nine_each)), ("in", "B"), denied(13, other_nine)),
 ]
