@@ -30,7 +30,7 @@ use Rattle.net_types.specs.declared.headers.Headers.{Headers}
 use Rattle.net_types.specs.declared.route.Offer.{Offer}
 use Rattle.block_build.proofs.DecideBlocks.{decide-blocks}
 use Rattle.block_build.specs.Bounds.{AreMeets, IsBuilt, IsSome}
-use Rattle.block_build.specs.ByCells.{AreCellsFor, AreTheirs, HasCubes, beside_all, beside_at, dropping, held_by}
+use Rattle.block_build.specs.ByCells.{AreCellsFor, AreTheirs, HasCubes, beside_all, beside_at, beside_them, dropping, held_by}
 use Rattle.block_build.specs.Closed.{first_holding}
 use Rattle.block_build.specs.Gathered.{gathered, gathered_by}
 use Rattle.block_build.specs.Offers.{goes_to, has_one_left}
@@ -192,21 +192,16 @@ module _ (best : Pid) (offers : List Offer) (xs : List Line) where
   first-beside r [] h = refl
   first-beside r (z ∷ zs) h = beside-step r z (has z.cube h) (first_line (map (beside_at best offers xs r) zs) h) (first_line zs h) (first-beside r zs h)
 
-  -- a cell beside what each receiver makes
-  abbrev made_of : Line → List Receiver → Line
-  made_of z [] = z
-  made_of z (r ∷ rs) = made_of (beside_at best offers xs r z) rs
-
-  first-all : (zs : List Line) (rs : List Receiver) (h : Headers) → first_line (beside_all best offers xs zs rs) h ≡ option_map (λ z. made_of z rs) (first_line zs h)
+  first-all : (zs : List Line) (rs : List Receiver) (h : Headers) → first_line (beside_all best offers xs zs rs) h ≡ option_map (λ z. beside_them best offers xs rs z) (first_line zs h)
   first-all zs [] h = line_id (first_line zs h)
   first-all zs (r ∷ rs) h =
       first-all (map (beside_at best offers xs r) zs) rs h
-      ∙ ap (option_map (λ z. made_of z rs)) (first-beside r zs h)
-      ∙ map_twice (λ z. made_of z rs) (beside_at best offers xs r) (first_line zs h)
+      ∙ ap (option_map (λ z. beside_them best offers xs rs z)) (first-beside r zs h)
+      ∙ map_twice (λ z. beside_them best offers xs rs z) (beside_at best offers xs r) (first_line zs h)
 
   -- it is what the receivers' rules give, where each holds all of the cell or none of the headers
   made-gathered : (z : Line) (rs : List Receiver) (h : Headers) → ((r : Receiver) → Member r rs → given r.lines h ≡ held_by z.cube r.lines)
-      → (made_of z rs).results ≡ gathered (has_one_left offers (held_by z.cube xs)) best (held_by z.cube xs) h z.results rs
+      → (beside_them best offers xs rs z).results ≡ gathered (has_one_left offers (held_by z.cube xs)) best (held_by z.cube xs) h z.results rs
   made-gathered z [] h same = refl
   made-gathered z (r ∷ rs) h same =
       made-gathered (beside_at best offers xs r z) rs h (λ q k. same q (inr k))
@@ -224,7 +219,7 @@ module _ (best : Pid) (offers : List Offer) (rs : List Receiver) (xs : List Line
       decide-add_lines [] (beside_all best offers xs (dropping cubes) rs) h
       ∙ decide-first (beside_all best offers xs (dropping cubes) rs) h
       ∙ ap (option_map (λ (y : Line). y.results)) (first-all best offers xs (dropping cubes) rs h
-      ∙ ap (option_map (λ y. made_of best offers xs y rs)) (dropping-first cubes h d.rule.cube (are.has.own d.rule d.stands) d.holds))
+      ∙ ap (option_map (λ y. beside_them best offers xs rs y)) (dropping-first cubes h d.rule.cube (are.has.own d.rule d.stands) d.holds))
       ∙ ap Some (made-gathered best offers xs (line [] c) rs h (λ r k. given-held c r.lines h (agrees h r.lines (are.has.theirs r k)))
       ∙ ap (λ sent. gathered (has_one_left offers sent) best sent h [] rs) own)
 

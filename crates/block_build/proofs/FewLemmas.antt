@@ -55,7 +55,7 @@ module _ (best : Pid) (offers : List Offer) (xs : List Line) where
       ap (beside_all best offers xs (dropping cells)) (take_more rs n r lt ∙ ap (λ q. take n rs ++ q ∷ []) (sym is))
       ∙ all-append (dropping cells) (take n rs) r
 
-  all-both : (zs : List Line) (rs qs : List Receiver) → beside_all best offers xs zs (rs ++ qs) ≡ beside_all best offers xs (beside_all best offers xs zs rs) qs
+  pub all-both : (zs : List Line) (rs qs : List Receiver) → beside_all best offers xs zs (rs ++ qs) ≡ beside_all best offers xs (beside_all best offers xs zs rs) qs
   all-both zs [] qs = refl
   all-both zs (r ∷ rs) qs = all-both (map (beside_at best offers xs r) zs) rs qs
 

@@ -23,5 +23,6 @@ pub mod ByCellLemmas
 mod TableLemmas
 mod FewLemmas
 mod TakenLemmas
+mod RowLemmas
 pub mod AtomLemmas
 pub mod CutLemmas

@@ -1,5 +1,5 @@
 -- How results leave that leave apart: one by one.
-use Rattle.std.proofs.Common.{◌≡◌, Option, Some, None, List, [], ◌∷◌, ◌++◌, refl, inl, inr, sym, ap, ◌∙◌, subst}
+use Rattle.std.proofs.Common.{◌≡◌, Option, Some, None, List, [], ◌∷◌, ◌++◌, append_assoc, refl, inl, inr, sym, ap, ◌∙◌, subst}
 use Rattle.std.proofs.lemmas.List.{append-nil}
 use Rattle.net_types.proofs.SetLemmas
 use Rattle.net_types.specs.Sets.{HasNoRepeats, Member}
@@ -7,9 +7,9 @@ use Rattle.net_types.specs.declared.address.PortNo.{PortNo}
 use Rattle.net_types.specs.declared.headers.Assign.{Assign}
 use Rattle.net_types.specs.declared.headers.Loc.{Loc}
 use Rattle.net_types.specs.declared.headers.Loc.TheVariants.{Stay, To, Out, Nowhere}
-use Rattle.classifier.proofs.UnionLemmas.{beside_none}
-use Rattle.classifier.specs.Items.{Item, add, add_all}
-use Rattle.block_build.specs.Receivers.{AreApart, add_exit, add_exits, exit_at, exit_of, exits_in}
+use Rattle.classifier.proofs.UnionLemmas.{beside_none, joined-HasNoRepeats, left-new, put-new}
+use Rattle.classifier.specs.Items.{AreNew, Item, add, add_all}
+use Rattle.block_build.specs.Receivers.{AreApart, add_exit, add_exits, exit_at, exit_of, exits_in, received_items}
 
 -- each item leaves beside those before it
 one_leaves : (hop : PortNo) (kept : List Item) (set : Assign) (items : List Item) → ((ks : List Item) → add_exits hop ks items ≡ add_all ks (exits_in hop items))
@@ -62,6 +62,24 @@ exits-once hop (i ∷ items) d apart = by (exits-once hop items d.1 (λ a b k l.
 pub add_exits-apart : (hop : PortNo) (items : List Item) → HasNoRepeats items → AreApart hop items → add_exits hop [] items ≡ exits_in hop items
 add_exits-apart hop items d apart = each_leaves hop [] items ∙ sym (beside_none [] (exits_in hop items) refl (exits-once hop items d apart))
 
--- once nothing is left, these are the exits of all
-pub all_left : (hop : PortNo) (pairs left items : List Item) → left ≡ [] → pairs ++ exits_in hop left ≡ exits_in hop items → pairs ≡ exits_in hop items
-all_left hop pairs left items none made = sym (append-nil pairs) ∙ ap (λ zs. pairs ++ exits_in hop zs) (sym none) ∙ made
+-- once nothing is left, these are all
+pub all_left : (hop : PortNo) (pairs left whole : List Item) → left ≡ [] → pairs ++ exits_in hop left ≡ whole → pairs ≡ whole
+all_left hop pairs left whole none made = sym (append-nil pairs) ∙ ap (λ zs. pairs ++ exits_in hop zs) (sym none) ∙ made
+
+-- how items leave is there once
+pub added-once : (hop : PortNo) (items : List Item) → HasNoRepeats (add_exits hop [] items)
+added-once hop items = joined-HasNoRepeats (add_exits hop [] items) [] (exits_in hop items) tt (each_leaves hop [] items)
+
+pub received-once : (hop : PortNo) (items : List Item) → HasNoRepeats (received_items hop items)
+received-once hop [] = ((λ k. elim k [ ]), tt)
+received-once hop (i ∷ items) = added-once hop (i ∷ items)
+
+-- where there are items, they leave
+pub received-some : (hop : PortNo) (items : List Item) → (items ≡ [] → ⊥) → received_items hop items ≡ add_exits hop [] items
+received-some hop [] some = absurd (some refl)
+received-some hop (i ∷ items) some = refl
+
+-- what is new and once there is put last as it is
+pub all-new : (xs ys : List Item) → HasNoRepeats ys → AreNew xs ys → add_all xs ys ≡ xs ++ ys
+all-new xs [] once new = sym (append-nil xs)
+all-new xs (y ∷ ys) once new = sym (put-new xs ys y new) ∙ all-new (xs ++ y ∷ []) ys once.1 (left-new xs ys y once new) ∙ append_assoc xs (y ∷ []) ys

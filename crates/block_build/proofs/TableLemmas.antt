@@ -21,10 +21,10 @@ pub table-last : (tables more : List Table) (t : Table) (n : ℕ) → more ≡ t
 table-last tables more t n e last = (t, ap (λ xs. slice_get xs n) e ∙ ap (slice_get (tables ++ t ∷ [])) last ∙ slice_get-last tables t, refl)
 
 -- what the table with a number tells
-pub table-places : (cells cubes : List Cube) (tables : List Table) (n : ℕ) (t : Table) → AreTables cells tables → IsAt tables cubes n → t ≡ get_or tables n t → t.firsts.items ≡ firsts cubes cells
+pub table-places : (cells cubes : List Cube) (tables : List Table) (n : ℕ) (t : Table) → AreTables cells tables → IsAt tables cubes n → t ≡ get_or tables n t → t.firsts.value.items ≡ firsts cubes cells
 table-places cells cubes tables n t are at is =
     let same : t ≡ at.0 = is ∙ get_or_from_slice_get tables n at.0 t at.1 in
-    ap (λ s. s.firsts.items) same ∙ are at.0 (Member-slice_get tables n at.0 at.1) ∙ ap (λ (xs : List Cube). firsts xs cells) at.2
+    ap (λ s. s.firsts.value.items) same ∙ are at.0 (Member-slice_get tables n at.0 at.1) ∙ ap (λ (xs : List Cube). firsts xs cells) at.2
 
 pub table-within : (tables : List Table) (cubes : List Cube) (n : ℕ) → IsAt tables cubes n → n < length tables
 table-within tables cubes n at = slice_get_within tables n at.0 at.1

@@ -24,6 +24,11 @@ abbrev pub beside_at : Pid → List Offer → List Line → Receiver → Line �
 beside_at best offers xs r z =
     line (if goes_to (has_one_left offers (held_by z.cube xs)) best (held_by z.cube xs) r.who then add_all z.results (held_by z.cube r.lines) else z.results) z.cube
 
+-- the rule of a cell beside what each receiver makes in it
+abbrev pub beside_them : Pid → List Offer → List Line → List Receiver → Line → Line
+beside_them best offers xs [] z = z
+beside_them best offers xs (r ∷ rs) z = beside_them best offers xs rs (beside_at best offers xs r z)
+
 -- the rules of cells beside what each receiver makes
 abbrev pub beside_all : Pid → List Offer → List Line → List Line → List Receiver → List Line
 beside_all best offers xs zs [] = zs

@@ -19,3 +19,4 @@ pub mod Laws
 pub mod Tables
 pub mod Ports
 pub mod Few
+pub mod Known

@@ -8,7 +8,7 @@ use Rattle.block_build.specs.declared.tables.Table.{Table}
 
 -- the table tells of each cell the first of its cubes that it lies within
 abbrev pub IsTable : List Cube → Table → Type 0
-IsTable cells t = t.firsts.items ≡ firsts t.cubes.items cells
+IsTable cells t = t.firsts.value.items ≡ firsts t.cubes.items cells
 
 -- each of the tables does
 abbrev pub AreTables : List Cube → List Table → Type 0

@@ -1,120 +1,29 @@
 //! The rules of a pair, cell by cell.
 
-ghost use Rattle.std.specs.Prelude.{◌≡◌, ◌<◌, ◌≤◌, [], IfOk, IfSome, IsTrue, List, Some, length, map};
-ghost use Rattle.std.specs.List.{slice_get};
-ghost use Rattle.cells.specs.Firsts.{first_place, firsts};
+ghost use Rattle.std.specs.Prelude.{◌≡◌, ◌<◌, ◌≤◌, [], IfOk, IfSome, length};
+ghost use Rattle.cells.specs.Firsts.{firsts};
 ghost use Rattle.classifier.specs.Lines.{add_lines};
 ghost use Rattle.classifier.specs.Meaning.{cubes_of};
-ghost use Rattle.classifier.specs.declared.line.Line.{Line as AnyLine};
-ghost use Rattle.net_types.specs.Sets.{Member};
-ghost use Rattle.net_types.specs.declared.cube.Cube.{Cube as AnyCube};
 ghost use Rattle.block_build.specs.Bounds.{IsBuilt};
-ghost use Rattle.block_build.specs.ByCells.{AreCellsFor, beside_all, beside_at, beside_first, dropping, held_by};
-ghost use Rattle.block_build.specs.Ports.{GiveNew};
-ghost use Rattle.block_build.specs.Tables.{AreTables, IsAt};
+ghost use Rattle.block_build.specs.ByCells.{AreCellsFor, beside_all, beside_first, dropping};
+ghost use Rattle.block_build.specs.Tables.{AreTables};
 
 use crate::atoms::atoms_of;
 use crate::cutting::add_each;
-use crate::exits::{Exits, cubes_of, line_at};
+use crate::exits::{Exits, cubes_of};
 use crate::few::{are_shared, beside_next, lines_of, nothing};
-use crate::offers::goes_to;
+use crate::known::{known_firsts, table_of};
 use crate::ports::take_lines;
 use crate::received::Received;
+use crate::rows::{Sent, beside_each};
 use crate::sending::Sending;
 use crate::tables::{Tables, Workshop};
 use cells::{Cells, Inside, firsts_of};
 use classifier::{Line, Results, push_lines};
-use net_types::{Assign, Cube, Loc, Memory, Pid};
+use net_types::{Cube, Memory};
 use place_sets::PlaceSet;
 use std::alloc::Global;
 use std::collections::HashSet;
-
-/// What a table has at a place.
-fn at(table: &[Option<usize>], place: usize) -> Option<usize>
-    ensures { (cubes cells : List AnyCube) (c : AnyCube) → table.now ≡ firsts cubes cells → slice_get cells place ≡ Some c → result ≡ first_place c cubes }
-{
-    if place < table.len() {
-        table[place]
-    } else {
-        None
-    }
-}
-
-/// What the rule at a place gives.
-pub(crate) fn items_at<'x>(xs: &'x [Line], place: Option<usize>) -> &'x [(Assign, Loc)]
-    ensures { (c : AnyCube) → place ≡ first_place c (cubes_of xs.now) → result.now ≡ held_by c xs.now }
-{
-    match line_at(xs, place) {
-        Some(x) => x.results.items(),
-        None => &[],
-    }
-}
-
-/// The rule of a cell beside what a receiver makes in it: the places are known of the sender's rule that holds the cell, and of
-/// the receiver's, and whether nothing that the receiver makes is there.
-fn beside_at(
-    received: &mut Received,
-    sending: &Sending<'_>,
-    receiver: &Exits<'_>,
-    cell: Line,
-    own: Option<usize>,
-    place: Option<usize>,
-    apart: bool,
-) -> Result<Line, Memory>
-    requires apart { IsTrue apart → GiveNew cell.results receiver.now.lines }
-    requires own { own ≡ first_place cell.cube (cubes_of sending.now.rules.now) }
-    requires place { place ≡ first_place cell.cube (cubes_of receiver.now.lines) }
-    ensures { IfOk result (λ z. z ≡ beside_at sending.now.best sending.now.offers.now sending.now.rules.now receiver.now cell) }
-{
-    let items = items_at(sending.rules, own);
-    let left = sending.left_at(own);
-    if !goes_to(left, sending.best, items, receiver.who(), receiver.place()) {
-        return Ok(cell);
-    }
-    let cube = cell.cube;
-    let results = receiver.beside(received, cell.results, &cube, place, apart)?;
-    Ok(Line { cube, results })
-}
-
-/// The rules of cells beside what a receiver makes; whether nothing of that is in any of them is known.
-fn beside_each(
-    received: &mut Received,
-    sending: &Sending<'_>,
-    receiver: &Exits<'_>,
-    cells: Vec<Line>,
-    own: &[Option<usize>],
-    places: &[Option<usize>],
-    apart: bool,
-) -> Result<Vec<Line>, Memory>
-    requires apart { IsTrue apart → (z : AnyLine) → Member z cells.items → GiveNew z.results receiver.now.lines }
-    requires own { own.now ≡ firsts (cubes_of sending.now.rules.now) (cubes_of cells.items) }
-    requires places { places.now ≡ firsts (cubes_of receiver.now.lines) (cubes_of cells.items) }
-    ensures { IfOk result (λ v. v.items ≡ map (beside_at sending.now.best sending.now.offers.now sending.now.rules.now receiver.now) cells.items) }
-{
-    let mut more = Vec::with_capacity(received.alloc(), cells.len())?;
-    for cell in cells {
-        let place = more.len();
-        let (own, place) = (at(own, place), at(places, place));
-        more.push(beside_at(received, sending, receiver, cell, own, place, apart)?)?;
-    }
-    Ok(more)
-}
-
-/// Of each cell the first of a receiver's cubes that it lies within, as the number of a table.
-fn table_of(
-    alloc: Global,
-    inside: &mut Inside<'_>,
-    tables: &mut Tables,
-    receiver: &Exits<'_>,
-) -> Result<usize, Memory>
-    requires { AreTables inside.old.cells.now tables.old.all.items }
-    ensures number { IfOk result (IsAt tables.new.all.items (cubes_of receiver.now.lines)) }
-    ensures tables { AreTables inside.old.cells.now tables.new.all.items }
-    ensures cells { inside.new.cells.now ≡ inside.old.cells.now }
-{
-    let cubes = receiver.cubes(alloc)?;
-    tables.number_of(alloc, inside, cubes)
-}
 
 /// The rules of cells beside what each of the first receivers makes, for as long as many cells give the same; of how many
 /// receivers that is.
@@ -139,7 +48,7 @@ fn beside_firsts(
     let mut n = 0;
     while n < receivers.len() && are_shared(&few) {
         let number = table_of(alloc, inside, tables, &receivers[n])?;
-        let places = &tables.all[number].firsts;
+        let places = tables.all[number].firsts.as_ref();
         few = beside_next(received, sending, receivers, n, cells, &few, own, places)?;
         n += 1;
     }
@@ -172,13 +81,19 @@ fn beside_all(
     )?;
     let mut ports = PlaceSet::none(alloc);
     take_lines(&mut ports, &all)?;
-    for i in n..receivers.len() {
-        let receiver = &receivers[i];
-        let apart = receiver.is_apart(&ports);
-        receiver.take_ports(&mut ports)?;
-        let number = table_of(alloc, inside, tables, receiver)?;
-        let places = &tables.all[number].firsts;
-        all = beside_each(&mut received, sending, receiver, all, &own, places, apart)?;
+    let cells = inside.cells;
+    let mut next = n;
+    while next < receivers.len() {
+        let sent = Sent {
+            sending,
+            cells,
+            own: &own,
+        };
+        let rest = &receivers[next..];
+        let known = known_firsts(alloc, inside, tables, &mut ports, rest)?;
+        let firsts = &rest[..known.len()];
+        all = beside_each(&mut received, &sent, firsts, &known, all)?;
+        next += known.len();
     }
     Ok(all)
 }

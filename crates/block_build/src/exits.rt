@@ -5,7 +5,7 @@ ghost use Rattle.std.specs.List.{slice_get};
 ghost use Rattle.net_types.specs.Cubes.{everything};
 ghost use Rattle.net_types.specs.declared.cube.Cube.{Cube as AnyCube};
 ghost use Rattle.cells.specs.Firsts.{first_place};
-ghost use Rattle.classifier.specs.Items.{add_all};
+ghost use Rattle.classifier.specs.Items.{AreNew, add_all};
 ghost use Rattle.classifier.specs.Meaning.{cubes_of};
 ghost use Rattle.classifier.specs.Numbered.{AreNumbered};
 ghost use Rattle.classifier.specs.Lines.{add_line, add_lines, line, row};
@@ -16,7 +16,7 @@ ghost use Rattle.block_build.specs.Bounds.{AreMeets, IsPast};
 ghost use Rattle.block_build.specs.ByCells.{held_by};
 ghost use Rattle.block_build.specs.Closed.{AreClosed, first_holding};
 ghost use Rattle.block_build.specs.Groups.{lines_within};
-ghost use Rattle.block_build.specs.Ports.{AllFree, AllTaken, GiveNew, KeepPorts};
+ghost use Rattle.block_build.specs.Ports.{AllFree, AllTaken, KeepPorts};
 ghost use Rattle.block_build.specs.Receivers.{IsAlone, received_items, received_lines, receiver};
 ghost use Rattle.block_build.specs.Views.{inbound_of};
 
@@ -25,13 +25,14 @@ use crate::group::Group;
 use crate::grouped::Grouped;
 use crate::kept::{Kept, kept_of};
 use crate::ports::{are_free, are_lines_free, take_items, take_received};
+use crate::receive::push_received;
 use crate::received::Received;
 use crate::stop::Stop;
 use crate::tested::tests_of;
 use crate::uncut::push_uncut;
 use crate::view::View;
 use classifier::{Line, Results, Run, is_hidden, push_reached};
-use net_types::{Cube, Memory, Offer, Pid, PortNo, TryCopy};
+use net_types::{Assign, Cube, Loc, Memory, Offer, Pid, PortNo, TryCopy};
 use place_sets::PlaceSet;
 use std::alloc::Global;
 use std::collections::HashSet;
@@ -277,6 +278,16 @@ pub(crate) fn line_at<'x>(xs: &'x [Line], place: Option<usize>) -> Option<&'x Li
     }
 }
 
+/// What the rule at a place gives.
+pub(crate) fn items_at<'x>(xs: &'x [Line], place: Option<usize>) -> &'x [(Assign, Loc)]
+    ensures { (c : AnyCube) → place ≡ first_place c (cubes_of xs.now) → result.now ≡ held_by c xs.now }
+{
+    match line_at(xs, place) {
+        Some(x) => x.results.items(),
+        None => &[],
+    }
+}
+
 /// How the results leave of the first rule that holds a cell, beside what leaves by others: the place of that rule is known.
 fn beside_many(
     received: &mut Received,
@@ -284,15 +295,31 @@ fn beside_many(
     rows: &Grouped<'_>,
     cell: &Cube,
     place: Option<usize>,
-    apart: bool,
 ) -> Result<Results, Memory>
-    requires place { place ≡ first_place cell.now (cubes_of rows.now.lines.now) }
-    requires apart { IsTrue apart → GiveNew others (received_lines rows.now.hop rows.now.lines.now) }
+    requires { place ≡ first_place cell.now (cubes_of rows.now.lines.now) }
     ensures { IfOk result (λ r. r ≡ add_all others (held_by cell.now (received_lines rows.now.hop rows.now.lines.now))) }
 {
     match line_at(rows.lines, place) {
-        Some(y) => received.joined(others, rows.hop, &y.results, apart),
+        Some(y) => received.joined(others, rows.hop, &y.results),
         None => Ok(others),
+    }
+}
+
+/// Puts how the results leave last of the first rule that holds a cell: the place of that rule is known.
+fn push_many(
+    alloc: Global,
+    row: &mut Vec<(Assign, Loc)>,
+    rows: &Grouped<'_>,
+    cell: &Cube,
+    place: Option<usize>,
+) -> Result<(), Memory>
+    requires place { place ≡ first_place cell.now (cubes_of rows.now.lines.now) }
+    requires new { AreNew row.old.items (held_by cell.now (received_lines rows.now.hop rows.now.lines.now)) }
+    ensures { OnOk result (row.new.items ≡ add_all row.old.items (held_by cell.now (received_lines rows.now.hop rows.now.lines.now))) }
+{
+    match line_at(rows.lines, place) {
+        Some(y) => push_received(alloc, row, rows.hop, &y.results),
+        None => Ok(()),
     }
 }
 
@@ -360,23 +387,43 @@ impl<'v> Exits<'v> {
         }
     }
 
-    /// What it makes of a cell, beside what others do: the place of the first of its rules that holds the cell is known, and
-    /// whether nothing that it makes is among that.
+    /// What it makes of a cell, beside what others do: the place of the first of its rules that holds the cell is known.
     pub(crate) fn beside(
         &self,
         received: &mut Received,
         others: Results,
         cell: &Cube,
         place: Option<usize>,
-        apart: bool,
     ) -> Result<Results, Memory>
-        requires place { place ≡ first_place cell.now (cubes_of self.now.lines) }
-        requires apart { IsTrue apart → GiveNew others self.now.lines }
+        requires { place ≡ first_place cell.now (cubes_of self.now.lines) }
         ensures { IfOk result (λ r. r ≡ add_all others (held_by cell.now self.now.lines)) }
     {
         match &self.kept {
-            Kept::Alone(results) => received.joined_with(others, results, apart),
-            Kept::Many(rows) => beside_many(received, others, rows, cell, place, apart),
+            Kept::Alone(results) => received.joined_with(others, results),
+            Kept::Many(rows) => beside_many(received, others, rows, cell, place),
+        }
+    }
+
+    /// Puts what it makes of a cell last, where nothing of that is there: the place of the first of its rules that holds the cell
+    /// is known.
+    pub(crate) fn push_made(
+        &self,
+        alloc: Global,
+        row: &mut Vec<(Assign, Loc)>,
+        cell: &Cube,
+        place: Option<usize>,
+    ) -> Result<(), Memory>
+        requires place { place ≡ first_place cell.now (cubes_of self.now.lines) }
+        requires new { AreNew row.old.items (held_by cell.now self.now.lines) }
+        ensures { OnOk result (row.new.items ≡ add_all row.old.items (held_by cell.now self.now.lines)) }
+    {
+        match &self.kept {
+            Kept::Alone(results) => {
+                results.known();
+                row.extend_from_slice(results.items())?;
+                Ok(())
+            }
+            Kept::Many(rows) => push_many(alloc, row, rows, cell, place),
         }
     }
 

@@ -12,8 +12,7 @@ ghost use Rattle.block_build.specs.ByCells.{beside_first, dropping, made_at};
 ghost use Rattle.block_build.specs.Few.{IsUnion};
 ghost use Rattle.block_build.specs.declared.receive.Receiver.{Receiver as AnyReceiver};
 
-use crate::by_cells::items_at;
-use crate::exits::Exits;
+use crate::exits::{Exits, items_at};
 use crate::given::Given;
 use crate::offers::goes_to;
 use crate::received::Received;

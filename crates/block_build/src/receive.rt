@@ -1,6 +1,7 @@
 //! What a receiver makes of a packet, as ports to leave by.
 
 ghost use Rattle.std.specs.Prelude.{◌≡◌, ◌++◌, ◌∷◌, [], IfOk, IsTrue, OnOk};
+ghost use Rattle.classifier.specs.Items.{AreNew, add_all};
 ghost use Rattle.net_types.specs.Headers.{no_change};
 ghost use Rattle.net_types.specs.declared.headers.Loc.TheVariants.{Out};
 ghost use Rattle.block_build.specs.Receivers.{AreApart, NoneGoes, add_exit, add_exits, exit_at, exit_of, received_items};
@@ -75,16 +76,25 @@ fn push_pair(
     Ok(())
 }
 
+/// Puts how each of the results leaves last, where none of them leaves as another does.
+fn push_apart(pairs: &mut Vec<(Assign, Loc)>, hop: PortNo, results: &Results) -> Result<(), Memory>
+    requires { AreApart hop results.now }
+    ensures { OnOk result (pairs.new.items ≡ pairs.old.items ++ add_exits hop [] results.now) }
+{
+    results.known();
+    for pair in results.items() {
+        push_pair(pairs, pair.0, exit_of(hop, pair.1))?;
+    }
+    Ok(())
+}
+
 /// How each of the results leaves, where none of them leaves as another does.
 fn exits_apart(alloc: Global, hop: PortNo, results: &Results) -> Result<Results, Memory>
     requires { AreApart hop results.now }
     ensures { IfOk result (λ r. r ≡ add_exits hop [] results.now) }
 {
-    results.known();
     let mut pairs = Vec::with_capacity(alloc, results.len())?;
-    for pair in results.items() {
-        push_pair(&mut pairs, pair.0, exit_of(hop, pair.1))?;
-    }
+    push_apart(&mut pairs, hop, results)?;
     Ok(Results::from_vec(pairs))
 }
 
@@ -120,4 +130,26 @@ pub(crate) fn received_results(
     } else {
         exits_of(alloc, hop, results)
     }
+}
+
+/// Puts how the results leave last, where none of that is there.
+pub(crate) fn push_received(
+    alloc: Global,
+    row: &mut Vec<(Assign, Loc)>,
+    hop: PortNo,
+    results: &Results,
+) -> Result<(), Memory>
+    requires { AreNew row.old.items (received_items hop results.now) }
+    ensures { OnOk result (row.new.items ≡ add_all row.old.items (received_items hop results.now)) }
+{
+    if results.is_empty() {
+        row.push((Assign::none(), Loc::Out(hop)))?;
+        return Ok(());
+    }
+    if are_apart(hop, results.items()) {
+        return push_apart(row, hop, results);
+    }
+    let exits = exits_of(alloc, hop, results)?;
+    row.extend_from_slice(exits.items())?;
+    Ok(())
 }

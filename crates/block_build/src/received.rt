@@ -1,7 +1,7 @@
 //! What receivers make of results, kept for the next rules that give them the same.
 
-ghost use Rattle.std.specs.Prelude.{◌≡◌, IfOk, IfSome, IsTrue};
-ghost use Rattle.classifier.specs.Items.{AreNew, add_all};
+ghost use Rattle.std.specs.Prelude.{◌≡◌, IfOk, IfSome};
+ghost use Rattle.classifier.specs.Items.{add_all};
 ghost use Rattle.block_build.specs.Receivers.{received_items};
 
 use crate::receive::received_results;
@@ -180,21 +180,14 @@ impl Received {
         self.unions.union(others, &results)
     }
 
-    /// Results that leave by ports, behind those by which others leave: where they are apart, without a look at these. Few grow
-    /// where they are.
+    /// Results that leave by ports, behind those by which others leave. Few grow where they are.
     pub(crate) fn joined_with(
         &mut self,
         mut others: Results,
         results: &Results,
-        apart: bool,
     ) -> Result<Results, Memory>
-        requires { IsTrue apart → AreNew others results.now }
         ensures { IfOk result (λ r. r ≡ add_all others results.now) }
     {
-        if apart {
-            others.put_all_last(results)?;
-            return Ok(others);
-        }
         if results.len() <= FEW {
             push_all(self.alloc, &mut others, results)?;
             return Ok(others);
@@ -208,13 +201,11 @@ impl Received {
         others: Results,
         hop: PortNo,
         results: &Results,
-        apart: bool,
     ) -> Result<Results, Memory>
-        requires { IsTrue apart → AreNew others (received_items hop results.now) }
         ensures { IfOk result (λ r. r ≡ add_all others (received_items hop results.now)) }
     {
         let exits = self.exits(hop, results)?;
-        self.joined_with(others, &exits, apart)
+        self.joined_with(others, &exits)
     }
 
     /// How a receiver's results leave, beside what leaves by receivers before it.

@@ -10,15 +10,16 @@ use crate::tested::is_same;
 use cells::{Cells, Inside, firsts_of};
 use net_types::{Cube, Memory};
 use std::alloc::Global;
+use std::rc::Rc;
 
 /// So many places stand in all tables but the last one.
-const MOST: usize = 4_194_304;
+pub(crate) const MOST: usize = 4_194_304;
 
 /// Of each of some cells the first of some cubes that it lies within.
 #[derive(Drop)]
 pub struct Table {
     pub cubes: Vec<Cube>,
-    pub firsts: Vec<Option<usize>>,
+    pub firsts: Rc<Vec<Option<usize>>>,
 }
 
 /// Tables of the same cells.
@@ -84,7 +85,7 @@ impl Tables {
             self.all.clear();
             self.places = 0;
         }
-        self.places = self.places.saturating_add(table.firsts.len());
+        self.places = self.places.saturating_add(table.firsts.as_ref().len());
         let number = self.all.len();
         self.all.push(table)?;
         Ok(number)
@@ -105,7 +106,7 @@ impl Tables {
         if let Some(number) = self.find(&cubes) {
             return Ok(number);
         }
-        let firsts = firsts_of(alloc, inside, &cubes)?;
+        let firsts = Rc::new(alloc, firsts_of(alloc, inside, &cubes)?)?;
         self.put(Table { cubes, firsts })
     }
 }

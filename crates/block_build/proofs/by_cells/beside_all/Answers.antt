@@ -1,20 +1,22 @@
--- One more receiver.
-use Rattle.std.proofs.Common.{◌≡◌, ◌<◌, List, arith, drop, length, ap, subst, sym, ◌∙◌}
+-- Some receivers more.
+use Rattle.std.proofs.Common.{◌≡◌, ◌≤◌, ◌+◌, ◌-◌, List, ℕ, arith, drop, length, map, refl, take, ap, subst, sym, ◌∙◌}
+use Rattle.std.proofs.lemmas.List.{drop-drop, length-drop, take_rest}
 use Rattle.cells.specs.Firsts.{firsts}
 use Rattle.classifier.specs.Meaning.{cubes_of}
 use Rattle.classifier.specs.declared.line.Line.{Line}
 use Rattle.net_types.specs.declared.cube.Cube.{Cube}
-use Rattle.block_build.proofs.ByCellLemmas.{all-more, cubes-kept}
+use Rattle.block_build.proofs.ByCellLemmas.{cubes-all}
 use Rattle.block_build.proofs.FewLemmas.{cubes-first, first-rest}
-use Rattle.block_build.proofs.TableLemmas.{table-places, table-within}
-use Rattle.block_build.proofs.TakenLemmas.{beside-taken, give-new, taken-kept}
-use Rattle.block_build.specs.ByCells.{beside_all, dropping}
+use Rattle.block_build.proofs.RowLemmas.{all-each, all-rest, all-taken}
+use Rattle.block_build.specs.ByCells.{beside_all, beside_them, dropping}
+use Rattle.block_build.specs.Known.{AreKnown}
 use Rattle.block_build.specs.Ports.{AllTaken}
 use Rattle.block_build.specs.Tables.{AreTables}
+use Rattle.block_build.specs.declared.receive.Receiver.{Receiver}
 use Rattle.block_build.proofs.by_cells.beside_all.Goals as goal
 
-pub loop-i-init : goal.loop-i-init
-loop-i-init c =
+pub loop-next-init : goal.loop-next-init
+loop-next-init c =
     let s = c.args.sending.now in
     let rs = c.args.receivers.now in
     let n = c.in_ok-all.n in
@@ -31,43 +33,47 @@ loop-i-init c =
           c.in_ok-own.ensures.firsts
           ∙ ap (λ (cubes : List Cube). firsts cubes c.args.inside.now.cells.now) (c.deref.ensures.value ∙ c.in_ok-cubes_of.ensures)
           ∙ ap (firsts (cubes_of s.rules.now)) (sym (second ∙ first));
+      within = c.in_ok-all.ensures.within;
       cubes = ap cubes_of lines ∙ cubes-first s.best s.offers.now s.rules.now mid rs n ∙ sym second;
       tables = subst (λ (cells : List Cube). AreTables cells c.beside_firsts.new.tables.all.items) (sym second) c.beside_firsts.ensures.tables;
-      cells = second ∙ first;
+      cells = refl;
+      same = second ∙ first;
       taken = subst (AllTaken c.take_lines.new.ports) c.deref-3.ensures.value c.in_ok-take_lines.ensures.taken;
     }
 
-pub index-requires : goal.index-requires
-index-requires c =
-    let tables = c.table_of.new.tables.all in
-    let within : c.in_ok-number.number < length tables.items = table-within tables.items (cubes_of c.index-receivers-i.result.lines) c.in_ok-number.number c.in_ok-number.ensures.number in
-    omega (arith, within, tables.ok.0)
-
-pub beside_each-requires-clause-places : goal.beside_each-requires-clause-places
-beside_each-requires-clause-places c =
-    let r = c.index-receivers-i.result in
-    c.deref-in-loop-i-2.ensures.value
-    ∙ table-places c.loop-i.inside.cells.now (cubes_of r.lines) c.table_of.new.tables.all.items c.in_ok-number.number c.index.result.now c.table_of.ensures.tables c.in_ok-number.ensures.number c.index.ensures
-    ∙ ap (firsts (cubes_of r.lines)) (sym c.loop-i.invariant.cubes)
-
-pub beside_each-requires-clause-apart : goal.beside_each-requires-clause-apart
-beside_each-requires-clause-apart c = λ yes.
-    give-new c.loop-i.ports c.loop-i.all.items c.index-receivers-i.result.lines c.loop-i.invariant.taken (c.is_apart-apart.ensures yes)
-
-pub loop-i-preserved : goal.loop-i-preserved
-loop-i-preserved c =
+pub loop-next-preserved : goal.loop-next-preserved
+loop-next-preserved c =
     let s = c.args.sending.now in
-    let same = c.table_of.ensures.cells in
+    let l = c.loop-next in
+    let all : List Receiver = c.args.receivers.now in
+    let rs : List Receiver = take (length all - l.next) (drop l.next all) in
+    let rest : rs ≡ drop l.next all = take_rest all l.next in
+    let known = c.in_ok-known.known.items in
+    let n = length known in
+    let one : c.len.result ≡ n = omega (arith, c.len.ensures, c.in_ok-known.known.ok.0) in
+    let other : c.len-in-loop-next.result ≡ n = omega (arith, c.len-in-loop-next.ensures, c.in_ok-known.known.ok.0) in
+    let more : c.in_ok-all-2.all.items ≡ map (beside_them s.best s.offers.now s.rules.now (take n rs)) l.all.items =
+    c.in_ok-all-2.ensures ∙ ap (λ (m : ℕ). map (beside_them s.best s.offers.now s.rules.now (take m rs)) l.all.items) one in
+    let same = c.known_firsts.ensures.cells in
+    let fewer : n ≤ length (drop l.next all) = subst (λ (qs : List Receiver). n ≤ length qs) rest c.in_ok-known.ensures.within in
     record {
-      whole = all-more s.best s.offers.now s.rules.now c.loop-i.all.items c.in_ok-all-2.all.items c.args.receivers.now c.loop-i.i c.index-receivers-i.result c.loop-i-test.true c.index-receivers-i.is c.in_ok-all-2.ensures
-          ∙ c.loop-i.invariant.whole;
-      own = c.loop-i.invariant.own ∙ ap (firsts (cubes_of s.rules.now)) (sym same);
-      cubes = cubes-kept s.best s.offers.now s.rules.now c.index-receivers-i.result c.loop-i.all.items c.in_ok-all-2.all.items c.in_ok-all-2.ensures ∙ c.loop-i.invariant.cubes ∙ sym same;
-      tables = subst (λ (cells : List Cube). AreTables cells c.table_of.new.tables.all.items) (sym same) c.table_of.ensures.tables;
-      cells = same ∙ c.loop-i.invariant.cells;
+      whole =
+          ap (λ (zs : List Line). beside_all s.best s.offers.now s.rules.now zs (drop (l.next + c.len-in-loop-next.result) all)) more
+          ∙ ap (beside_all s.best s.offers.now s.rules.now (map (beside_them s.best s.offers.now s.rules.now (take n rs)) l.all.items))
+          (ap (λ (m : ℕ). drop (l.next + m) all) other ∙ sym (drop-drop n l.next all) ∙ ap (λ (qs : List Receiver). drop n qs) (sym rest))
+          ∙ all-rest s.best s.offers.now s.rules.now l.all.items rs n
+          ∙ ap (beside_all s.best s.offers.now s.rules.now l.all.items) rest
+          ∙ l.invariant.whole;
+      own = l.invariant.own;
+      within = omega (arith, fewer, other, l.invariant.within, length-drop l.next all);
+      cubes =
+          ap cubes_of (more ∙ sym (all-each s.best s.offers.now s.rules.now l.all.items (take n rs)))
+          ∙ cubes-all s.best s.offers.now s.rules.now l.all.items (take n rs)
+          ∙ l.invariant.cubes;
+      tables = subst (λ (cells : List Cube). AreTables cells c.known_firsts.new.tables.all.items) (sym same) c.known_firsts.ensures.tables;
+      cells = same ∙ l.invariant.cells;
+      same = l.invariant.same;
       taken =
-          subst (AllTaken c.take_ports.new.ports) (sym c.in_ok-all-2.ensures)
-          (beside-taken c.take_ports.new.ports s.best s.offers.now s.rules.now c.index-receivers-i.result c.loop-i.all.items
-          (taken-kept c.loop-i.ports c.take_ports.new.ports c.loop-i.all.items c.in_ok-take_ports.ensures.kept c.loop-i.invariant.taken)
-          c.in_ok-take_ports.ensures.taken);
+          subst (AllTaken c.known_firsts.new.ports) (sym more)
+          (all-taken s.best s.offers.now s.rules.now l.inside.cells.now l.ports l.all.items known (take n rs) c.known_firsts.new.ports l.invariant.taken c.in_ok-known.ensures.known);
     }

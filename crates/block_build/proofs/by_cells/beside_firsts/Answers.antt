@@ -21,6 +21,7 @@ beside_next-requires-clause-places c = λ r among.
     let are : AreTables cells tables = subst (λ (cs : List Cube). AreTables cs tables) c.loop-n.invariant.cells c.table_of.ensures.tables in
     let one : at ≡ r = same_Some at r (sym (slice_get_read rs (length rs) n at refl c.loop-n-test.true c.index-receivers-n.is) ∙ among) in
     c.deref.ensures.value
+    ∙ ap (λ v. v.items) c.as_ref-places.ensures
     ∙ table-places cells (cubes_of at.lines) tables c.in_ok-number.number c.index.result.now are c.in_ok-number.ensures.number c.index.ensures
     ∙ ap (λ (q : Receiver). firsts (cubes_of q.lines) cells) one
 

@@ -1,42 +1,25 @@
 -- The rules to leave by hold what the receiver's own do.
-use Rattle.std.proofs.Common.{◌≡◌, IfOk, inl, refl, sym, ap, ◌∙◌, subst}
+use Rattle.std.proofs.Common.{◌≡◌, IfOk, sym, ap, ◌∙◌, subst}
 use Rattle.cells.specs.Firsts.{first_place}
 use Rattle.classifier.specs.Items.{add_all}
-use Rattle.classifier.specs.Lines.{line}
 use Rattle.classifier.specs.Meaning.{cubes_of}
-use Rattle.net_types.specs.Cubes.{everything}
 use Rattle.block_build.proofs.ByCellLemmas.{held-everything}
 use Rattle.block_build.proofs.ShapeBlocks.{cubes-received}
 use Rattle.block_build.specs.ByCells.{held_by}
 use Rattle.block_build.specs.Groups.{lines_within}
 use Rattle.block_build.specs.Kept.{kept_lines}
-use Rattle.block_build.specs.Ports.{GiveNew}
 use Rattle.block_build.specs.Receivers.{received_lines}
 use Rattle.block_build.specs.declared.kept.Kept.{Kept}
-use Rattle.block_build.specs.declared.kept.Kept.TheVariants.{Alone}
 use Rattle.block_build.specs.declared.receive.Receiver.{Receiver}
 use Rattle.block_build.proofs.exits.Exits.beside.Goals as goal
 
-pub beside_many-requires-clause-place : goal.beside_many-requires-clause-place
-beside_many-requires-clause-place c =
+pub beside_many-requires : goal.beside_many-requires
+beside_many-requires c =
     let rows = c.in-Many.rows in
-    c.requires.place
+    c.requires
     ∙ ap (first_place c.args.cell.now) (sym (ap (λ (r : Receiver). cubes_of r.lines) c.self.view_is)
     ∙ ap (λ (kept : Kept). cubes_of (kept_lines kept)) c.in-Many.is
     ∙ cubes-received rows.hop (lines_within rows.groups.items) ∙ ap cubes_of rows.same)
-
-pub beside_many-requires-clause-apart : goal.beside_many-requires-clause-apart
-beside_many-requires-clause-apart c = λ yes.
-    let rows = c.in-Many.rows in
-    subst (λ ys. GiveNew c.args.others (received_lines rows.hop ys)) rows.same
-    (subst (λ (kept : Kept). GiveNew c.args.others (kept_lines kept)) c.in-Many.is
-    (subst (λ (r : Receiver). GiveNew c.args.others r.lines) (sym c.self.view_is) (c.requires.apart yes)))
-
-pub joined_with-requires : goal.joined_with-requires
-joined_with-requires c = λ yes.
-    let given : GiveNew c.args.others (kept_lines (Alone c.in-Alone.results)) = subst (λ (kept : Kept). GiveNew c.args.others (kept_lines kept)) c.in-Alone.is
-    (subst (λ (r : Receiver). GiveNew c.args.others r.lines) (sym c.self.view_is) (c.requires.apart yes)) in
-    given (line c.in-Alone.results everything) (inl refl)
 
 pub returns-in-Many : goal.returns-in-Many
 returns-in-Many c =

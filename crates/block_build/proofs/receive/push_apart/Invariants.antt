@@ -1,7 +1,7 @@
 -- What is left makes the whole.
 use Rattle.std.proofs.Common.{◌≡◌, ◌++◌, drop}
 use Rattle.block_build.specs.Receivers.{exits_in}
-use Rattle.block_build.proofs.receive.exits_apart.Given as goal
+use Rattle.block_build.proofs.receive.push_apart.Given as goal
 
 abbrev pub invariant-loop-pair : goal.invariant-loop-pair
-invariant-loop-pair l = l.pairs.items ++ exits_in l.hop (drop l.pair-index l.results) ≡ exits_in l.hop l.results
+invariant-loop-pair l = l.pairs.items ++ exits_in l.hop (drop l.pair-index l.results) ≡ l.fn.pairs.items ++ exits_in l.hop l.results
