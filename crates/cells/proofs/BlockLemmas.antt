@@ -1,10 +1,9 @@
 -- Blocks of cells: which stay where cells lie within a cube.
-use Rattle.std.proofs.Common.{arith, ◌≡◌, ℕ, zero, suc, ◌<◌, ◌+◌, ◌/◌, true, false, ◌||◌, ◌&&◌, eqb, Some, List, [], ◌∷◌, ◌++◌, length, get_or, refl, inl, inr, sym, ap, ◌∙◌, subst}
+use Rattle.std.proofs.Common.{arith, ◌≡◌, ℕ, zero, suc, ◌<◌, ◌+◌, ◌/◌, true, false, ◌&&◌, Some, List, [], ◌∷◌, ◌++◌, length, get_or, refl, inl, inr, sym, ap, ◌∙◌, subst}
 use Rattle.std.specs.List.{slice_get}
 use Rattle.std.specs.Option.{is_some}
-use Rattle.std.proofs.lemmas.Bool.{and_from, cases_lt, eq-eqb, false≢true}
+use Rattle.std.proofs.lemmas.Bool.{and_from, cases_lt, false≢true}
 use Rattle.std.proofs.lemmas.Option.{same_Some}
-use Rattle.std.proofs.Math.Bool.{or-true}
 use Rattle.net_types.specs.declared.cube.Cube.{Cube}
 use Rattle.net_types.specs.Cubes.{lies_within_cube}
 use Rattle.net_types.specs.Sets.{Member}
@@ -20,18 +19,7 @@ use Rattle.cells.specs.Blocks.{HasInner, IsInner, KeepsInner, KnowInner, single_
 abbrev pub HasBefore : List Cube → Cube → List ℕ → ℕ → Type 0
 HasBefore cells cube blocks n = (p : ℕ) (c : Cube) → slice_get cells p ≡ Some c → p < n → lies_within_cube c cube ≡ true → has_place blocks (p / 64) ≡ true
 
--- one cell more, whose block is put in
-pub before-put : (cells : List Cube) (cube : Cube) (old new : List ℕ) (n block : ℕ) → block ≡ n / 64 → ((k : ℕ) → has_place new k ≡ (has_place old k || eqb k block))
-    → HasBefore cells cube old n → HasBefore cells cube new (n + 1)
-before-put cells cube old new n block at put before p c there less inside = elim (cases_lt p n) [
-  | inl earlier ↦ put (p / 64) ∙ ap (λ b. b || eqb (p / 64) block) (before p c there earlier inside)
-  | inr last ↦
-      let here : p ≡ n = omega (arith, last, less) in
-      let same : p / 64 ≡ block = ap (λ k. k / 64) here ∙ sym at in
-      put (p / 64) ∙ ap (λ b. has_place old (p / 64) || b) (eq-eqb (p / 64) block same) ∙ or-true (has_place old (p / 64))
-]
-
--- one that doesn't lie within the cube
+-- one cell more, that doesn't lie within the cube
 pub before-left : (cells : List Cube) (cube : Cube) (old : List ℕ) (n : ℕ) (x : Cube) → slice_get cells n ≡ Some x → lies_within_cube x cube ≡ false
     → HasBefore cells cube old n → HasBefore cells cube old (n + 1)
 before-left cells cube old n x at outside before p c there less inside = elim (cases_lt p n) [

@@ -1,6 +1,7 @@
 -- Lists of the cells within a cube: what they have, and what is noted by them.
-use Rattle.std.proofs.Common.{arith, ◌≡◌, ◌⊎◌, ℕ, ◌||◌, eqb, ◌<◌, ◌≤◌, ◌+◌, ◌/◌, true, false, Option, Some, List, [], ◌∷◌, ◌++◌, length, inl, inr, sym, ap, ◌∙◌, subst}
+use Rattle.std.proofs.Common.{arith, ◌≡◌, ◌⊎◌, ℕ, ◌||◌, eqb, ◌<◌, ◌≤◌, ◌+◌, ◌/◌, Bool, true, false, cond, Option, Some, None, List, [], ◌∷◌, ◌++◌, length, refl, inl, inr, sym, ap, ◌∙◌, subst}
 use Rattle.std.specs.List.{slice_get}
+use Rattle.std.specs.Option.{is_some}
 use Rattle.std.proofs.lemmas.Bool.{cases_Bool, cases_lt, eq-eqb, eqb-true, false≢true, or_cases}
 use Rattle.std.proofs.lemmas.Option.{same_Some, slice_get_within}
 use Rattle.net_types.specs.declared.cube.Cube.{Cube}
@@ -11,10 +12,10 @@ use Rattle.net_types.proofs.SetLemmas.{Member-append_cases}
 use Rattle.place_sets.specs.Places.{has_place}
 use Rattle.cells.specs.declared.listed.Listed.{Listed}
 use Rattle.cells.specs.Blocks.{KeepsInner}
-use Rattle.cells.specs.Listed.{AreListed, IsListed, ListsAll, ListsThese, is_listed}
-use Rattle.cells.specs.Marks.{AreAllNoted, AreLeft, AreNoted, found_at}
+use Rattle.cells.specs.Firsts.{noted}
+use Rattle.cells.specs.Listed.{AreListed, IsListed, ListsAll, ListsOnly, ListsThese, is_listed}
+use Rattle.cells.specs.Marks.{AreAllNoted, AreGiven, AreLeft, found_at, given}
 use Rattle.cells.proofs.BlockLemmas.{Member-slice_get, slice_get-last}
-use Rattle.cells.proofs.MarkLemmas.{noted-found, noted-more, noted-outside}
 
 -- ---- what a list has
 
@@ -75,12 +76,27 @@ module _ (cells : List Cube) (cube : Cube) where
         absurd (false≢true (sym absent ∙ ap (has_place blocks) (sym here) ∙ m.1))
   ]
 
+-- one more, of a cell within the cube
+pub only-push : (cells : List Cube) (cube : Cube) (n : ℕ) (x : Cube) (old new : List ℕ) → new ≡ old ++ n ∷ [] → slice_get cells n ≡ Some x → lies_within_cube x cube ≡ true → ListsOnly cells cube old → ListsOnly cells cube new
+only-push cells cube n x old new e at inside before p c there stands = elim (listed-cases old n p (sym (ap (λ xs. is_listed xs p) e) ∙ there)) [
+  | inl earlier ↦ before p c earlier stands
+  | inr last ↦
+      let one : x ≡ c = same_Some x c (sym at ∙ ap (slice_get cells) (sym last) ∙ stands) in
+      ap (λ y. lies_within_cube y cube) (sym one) ∙ inside
+]
+
 -- where the blocks are those that may have cells within the cube, all are listed
 pub listed-all : (old new : List Cube) (cube : Cube) (all blocks : List ℕ) (places : List ℕ) → new ≡ old → ((p : ℕ) → p < length old → has_place all (p / 64) ≡ true) → KeepsInner old cube all blocks
-    → ListsThese new cube (λ p. has_place blocks (p / 64) ≡ true) places → ListsAll new cube places
-listed-all old new cube all blocks places same each keeps f p c at inside =
+    → ListsThese new cube (λ p. has_place blocks (p / 64) ≡ true) places → ListsOnly new cube places → ListsAll new cube places
+listed-all old new cube all blocks places same each keeps f only p c at =
     let before : slice_get old p ≡ Some c = ap (λ cs. slice_get cs p) (sym same) ∙ at in
-    f p c (keeps p c before inside (each p (slice_get_within old p c before))) at inside
+    elim (cases_Bool (lies_within_cube c cube)) [
+      | inl inside ↦ f p c (keeps p c before inside (each p (slice_get_within old p c before))) at inside ∙ sym inside
+      | inr beyond ↦ elim (cases_Bool (is_listed places p)) [
+        | inl there ↦ there ∙ sym (only p c there at)
+        | inr absent ↦ absent ∙ sym beyond
+      ]
+    ]
 
 -- ---- what is listed
 
@@ -96,23 +112,63 @@ lists-push cells lists more l e all are k there = elim (Member-append_cases list
 pub listed-last : (cells : List Cube) (lists more : List Listed) (l : Listed) (n : ℕ) → more ≡ lists ++ l ∷ [] → n ≡ length lists → ListsAll cells l.cube l.places.items → IsListed cells more l.cube n
 listed-last cells lists more l n e last all = (l, ap (λ xs. slice_get xs n) e ∙ ap (slice_get (lists ++ l ∷ [])) last ∙ slice_get-last lists l, all)
 
--- ---- what is noted
+-- ---- what is given
 
--- the other cells don't lie within the cube
-pub listed-noted : (i : ℕ) (a : Cube) (cells : List Cube) (places : List ℕ) (old new : List (Option ℕ)) → AreNoted i a cells (λ p. is_listed places p ≡ true) old new → ListsAll cells a places → AreAllNoted i a cells old new
-listed-noted i a cells places old new f all = record {
-  long = f.long;
-  all = λ p c at. elim (cases_Bool (lies_within_cube c a)) [
-    | inl inside ↦ f.these p c (all p c at inside) at
-    | inr beyond ↦ elim (f.each p c at) [ inl same ↦ same ∙ sym (noted-outside i a c (found_at old p) beyond) | inr step ↦ step ]
-  ];
-}
+given-some : (i : ℕ) (o : Option ℕ) → is_some o ≡ true → given i o ≡ o
+given-some i None h = absurd (false≢true h)
+given-some i (Some k) h = refl
 
--- what was found before is found now, so the same blocks are left
-pub left-still : (i : ℕ) (a : Cube) (cells : List Cube) (meant : ℕ → Type 0) (old new : List (Option ℕ)) (left : List ℕ) → AreNoted i a cells meant old new → AreLeft cells old left → AreLeft cells new left
-left-still i a cells meant old new left f rest p within gone = noted-found i a cells meant old new p f within (rest p within gone)
+listed-end : (xs : List ℕ) (n p : ℕ) → is_listed (xs ++ n ∷ []) p ≡ (is_listed xs p || eqb n p)
+listed-end [] n p = of (eqb n p)
+  where
+    of : (b : Bool) → (b || false) ≡ b
+    of true = refl
+    of false = refl
+listed-end (x ∷ xs) n p = ap (λ b. eqb x p || b) (listed-end xs n p) ∙ of (eqb x p)
+  where
+    of : (b : Bool) → (b || (is_listed xs p || eqb n p)) ≡ ((b || is_listed xs p) || eqb n p)
+    of true = refl
+    of false = refl
+
+given-parts : (i : ℕ) (o : Option ℕ) (a b : Bool) → cond b (given i (cond a (given i o) o)) (cond a (given i o) o) ≡ cond (a || b) (given i o) o
+given-parts i None true true = refl
+given-parts i (Some k) true true = refl
+given-parts i o true false = refl
+given-parts i o false true = refl
+given-parts i o false false = refl
 
 -- the next place of the list was looked at
-pub places-more : (i : ℕ) (a : Cube) (cells : List Cube) (front more : List ℕ) (n : ℕ) (old mid new : List (Option ℕ)) → more ≡ front ++ n ∷ [] → AreNoted i a cells (λ p. is_listed front p ≡ true) old mid → AreNoted i a cells (λ p. p ≡ n) mid new
-    → AreNoted i a cells (λ p. is_listed more p ≡ true) old new
-places-more i a cells front more n old mid new e f g = noted-more i a cells (λ p. is_listed front p ≡ true) (λ p. p ≡ n) (λ p. is_listed more p ≡ true) old mid new (λ p m. listed-cases front n p (sym (ap (λ xs. is_listed xs p) e) ∙ m)) f g
+pub given-more : (i : ℕ) (front more : List ℕ) (n : ℕ) (old mid new : List (Option ℕ)) → more ≡ front ++ n ∷ [] → AreGiven i (is_listed front) old mid → AreGiven i (eqb n) mid new → AreGiven i (is_listed more) old new
+given-more i front more n old mid new e f g = record {
+  long = g.long ∙ f.long;
+  each = λ p less.
+      let o = found_at old p in
+      g.each p (subst (λ m. p < m) (sym f.long) less) ∙ ap (λ y. cond (eqb n p) (given i y) y) (f.each p less)
+      ∙ given-parts i o (is_listed front p) (eqb n p) ∙ ap (λ b. cond b (given i o) o) (sym (listed-end front n p) ∙ ap (λ xs. is_listed xs p) (sym e));
+}
+
+given-keeps : (i : ℕ) (o : Option ℕ) (b : Bool) → is_some o ≡ true → is_some (cond b (given i o) o) ≡ true
+given-keeps i o true h = ap is_some (given-some i o h) ∙ h
+given-keeps i o false h = h
+
+-- what was found before is found now, so the same blocks are left
+pub left-still : (i : ℕ) (cells : List Cube) (meant : ℕ → Bool) (old new : List (Option ℕ)) (left : List ℕ) → length old ≡ length cells → AreGiven i meant old new → AreLeft cells old left → AreLeft cells new left
+left-still i cells meant old new left long f rest p within gone =
+    ap is_some (f.each p (subst (λ n. p < n) (sym long) within)) ∙ given-keeps i (found_at old p) (meant p) (rest p within gone)
+
+-- where the cells within the cube were given its place, each was looked at
+pub given-noted : (i : ℕ) (a : Cube) (cells : List Cube) (places : List ℕ) (old new : List (Option ℕ)) → length old ≡ length cells → AreGiven i (is_listed places) old new → ListsAll cells a places → AreAllNoted i a cells old new
+given-noted i a cells places old new long f lists = record {
+  long = f.long;
+  all = λ p c at.
+      let o = found_at old p in
+      f.each p (subst (λ n. p < n) (sym long) (slice_get_within cells p c at)) ∙ ap (λ b. cond b (given i o) o) (lists p c at) ∙ as_noted c o;
+}
+  where
+    same : (b : Bool) (o : Option ℕ) → cond b o o ≡ o
+    same true o = refl
+    same false o = refl
+
+    as_noted : (c : Cube) (o : Option ℕ) → cond (lies_within_cube c a) (given i o) o ≡ noted i a c o
+    as_noted c None = refl
+    as_noted c (Some k) = same (lies_within_cube c a) (Some k)

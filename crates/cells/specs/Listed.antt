@@ -15,9 +15,13 @@ is_listed (q ∷ places) p = nat_eq q p || is_listed places p
 abbrev pub ListsThese : List Cube → Cube → (ℕ → Type 0) → List ℕ → Type 0
 ListsThese cells cube meant places = (p : ℕ) (c : Cube) → meant p → slice_get cells p ≡ Some c → lies_within_cube c cube ≡ true → is_listed places p ≡ true
 
--- it has that of each cell within the cube
+-- each cell of which it has the place lies within the cube
+abbrev pub ListsOnly : List Cube → Cube → List ℕ → Type 0
+ListsOnly cells cube places = (p : ℕ) (c : Cube) → is_listed places p ≡ true → slice_get cells p ≡ Some c → lies_within_cube c cube ≡ true
+
+-- it has the place of each cell within the cube, and of no other cell
 abbrev pub ListsAll : List Cube → Cube → List ℕ → Type 0
-ListsAll cells cube places = (p : ℕ) (c : Cube) → slice_get cells p ≡ Some c → lies_within_cube c cube ≡ true → is_listed places p ≡ true
+ListsAll cells cube places = (p : ℕ) (c : Cube) → slice_get cells p ≡ Some c → is_listed places p ≡ lies_within_cube c cube
 
 -- what is listed of each cube is the cells within it
 abbrev pub AreListed : List Cube → List Listed → Type 0

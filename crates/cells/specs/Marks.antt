@@ -1,5 +1,5 @@
 -- Places of cubes that are noted of cells, one cube after another.
-use Rattle.std.specs.Prelude.{◌≡◌, ◌⊎◌, ◌<◌, ◌/◌, ℕ, true, false, List, Option, Some, None, length, slice_index_or}
+use Rattle.std.specs.Prelude.{◌≡◌, ◌⊎◌, ◌<◌, ◌/◌, ℕ, Bool, true, false, if◌then◌else◌, List, Option, Some, None, length, slice_index_or}
 use Rattle.std.specs.Option.{is_some}
 use Rattle.std.specs.List.{slice_get}
 use Rattle.net_types.specs.declared.cube.Cube.{Cube}
@@ -20,6 +20,16 @@ pub record AreNoted (place : ℕ) (cube : Cube) (cells : List Cube) (meant : ℕ
 pub record AreAllNoted (place : ℕ) (cube : Cube) (cells : List Cube) (old new : List (Option ℕ)) : Type 0 where
   pub long : length new ≡ length old
   pub all : (p : ℕ) (c : Cube) → slice_get cells p ≡ Some c → found_at new p ≡ noted place cube c (found_at old p)
+
+-- what a cell has once it was given a place: what it had, if anything
+abbrev pub given : ℕ → Option ℕ → Option ℕ
+given place (Some earlier) = Some earlier
+given place None = Some place
+
+-- those of the cells that are meant were given a place
+pub record AreGiven (place : ℕ) (meant : ℕ → Bool) (old new : List (Option ℕ)) : Type 0 where
+  pub long : length new ≡ length old
+  pub each : (p : ℕ) → p < length old → found_at new p ≡ if meant p then given place (found_at old p) else found_at old p
 
 -- something was found of each cell of the blocks of a set
 abbrev pub AreFound : List Cube → List (Option ℕ) → List ℕ → Type 0

@@ -23,9 +23,14 @@ pub fn blocks_within(alloc: Global, cells: &[Cube], outer: &Cube) -> Result<Plac
     ensures { IfOk result (HasInner cells.now outer.now) }
 {
     let mut blocks = PlaceSet::none(alloc);
-    for place in 0..cells.len() {
+    let mut place = 0;
+    while place < cells.len() {
         if cube::within(&cells[place], outer) {
             blocks.put(place / BLOCK)?;
+            // the rest of the block changes nothing
+            place = (place / BLOCK + 1) * BLOCK;
+        } else {
+            place += 1;
         }
     }
     Ok(blocks)

@@ -1,11 +1,11 @@
 //! Of each cell the first of some cubes that it lies within.
 
-ghost use Rattle.std.specs.Prelude.{◌≡◌, ◌<◌, ◌≤◌, ◌*◌, ◌/◌, ℕ, true, [], length, Option, IfOk, OnOk};
+ghost use Rattle.std.specs.Prelude.{◌≡◌, ◌<◌, ◌≤◌, ◌*◌, ◌/◌, ℕ, nat_eq, true, [], length, Option, IfOk, OnOk};
 ghost use Rattle.std.specs.Option.{is_some};
 ghost use Rattle.place_sets.specs.Places.{has_place};
 ghost use Rattle.cells.specs.Firsts.{firsts, noted};
 ghost use Rattle.cells.specs.Listed.{is_listed};
-ghost use Rattle.cells.specs.Marks.{AreAllNoted, AreFound, AreLeft, AreNoted, found_at};
+ghost use Rattle.cells.specs.Marks.{AreAllNoted, AreFound, AreGiven, AreLeft, AreNoted, found_at};
 
 use crate::blocks::{BLOCK, blocks_of};
 use crate::inside::Inside;
@@ -114,30 +114,21 @@ fn note_blocks(
     Ok(full)
 }
 
-/// Notes the place of a cube at a cell that has none and lies within it.
-fn note_at(cells: &[Cube], cube: &Cube, place: usize, at: usize, found: &mut Vec<Option<usize>>)
-    requires { length found.old.items ≡ length cells.now }
-    ensures { AreNoted place cube.now cells.now (λ p. p ≡ at) found.old.items found.new.items }
+/// Gives a cell a place where it has none.
+fn note_at(place: usize, at: usize, found: &mut Vec<Option<usize>>)
+    ensures { AreGiven place (nat_eq at) found.old.items found.new.items }
 {
-    if at < cells.len() {
-        let first = noted(found[at], &cells[at], cube, place);
-        found[at] = first;
+    if at < found.len() && found[at].is_none() {
+        found[at] = Some(place);
     }
 }
 
-/// Notes the place of a cube at the cells of a list that have none and lie within it.
-fn note_listed(
-    cells: &[Cube],
-    cube: &Cube,
-    place: usize,
-    listed: &[usize],
-    found: &mut Vec<Option<usize>>,
-)
-    requires { length found.old.items ≡ length cells.now }
-    ensures { AreNoted place cube.now cells.now (λ p. is_listed listed.now p ≡ true) found.old.items found.new.items }
+/// Gives the cells of a list that have none a place.
+fn note_listed(place: usize, listed: &[usize], found: &mut Vec<Option<usize>>)
+    ensures { AreGiven place (is_listed listed.now) found.old.items found.new.items }
 {
     for i in 0..listed.len() {
-        note_at(cells, cube, place, listed[i], found);
+        note_at(place, listed[i], found);
     }
 }
 
@@ -181,13 +172,7 @@ fn note(
 {
     match inside.list_of(cube)? {
         Some(number) => {
-            note_listed(
-                inside.cells,
-                cube,
-                place,
-                &inside.lists[number].places,
-                found,
-            );
+            note_listed(place, &inside.lists[number].places, found);
             Ok(left)
         }
         None => note_within(alloc, inside, cube, place, &left, found),

@@ -2,7 +2,7 @@
 
 ghost use Rattle.std.specs.Prelude.{◌≡◌, ◌<◌, ◌*◌, ◌/◌, ℕ, true, length, IfOk, IfSome, OnOk};
 ghost use Rattle.place_sets.specs.Places.{has_place};
-ghost use Rattle.cells.specs.Listed.{ListsThese, is_listed};
+ghost use Rattle.cells.specs.Listed.{ListsOnly, ListsThese, is_listed};
 
 use crate::blocks::{BLOCK, blocks_of};
 use net_types::{Cube, Memory};
@@ -23,8 +23,10 @@ fn push_block(
     cube: &Cube,
     block: usize,
 ) -> Result<(), Memory>
-    requires { block * 64 < length cells.now }
+    requires begun { block * 64 < length cells.now }
+    requires only { ListsOnly cells.now cube.now places.old.items }
     ensures these { OnOk result (ListsThese cells.now cube.now (λ p. p / 64 ≡ block) places.new.items) }
+    ensures only { OnOk result (ListsOnly cells.now cube.now places.new.items) }
     ensures kept { OnOk result ((p : ℕ) → is_listed places.old.items p ≡ true → is_listed places.new.items p ≡ true) }
 {
     let start = block * BLOCK;
@@ -45,7 +47,8 @@ pub fn listed_in(
     blocks: &PlaceSet,
     room: usize,
 ) -> Result<Option<Vec<usize>>, Memory>
-    ensures { IfOk result (λ o. IfSome o (λ v. ListsThese cells.now cube.now (λ p. has_place blocks.now (p / 64) ≡ true) v.items)) }
+    ensures these { IfOk result (λ o. IfSome o (λ v. ListsThese cells.now cube.now (λ p. has_place blocks.now (p / 64) ≡ true) v.items)) }
+    ensures only { IfOk result (λ o. IfSome o (λ v. ListsOnly cells.now cube.now v.items)) }
 {
     let mut places = Vec::new(alloc);
     for block in 0..blocks_of(cells.len()) {

@@ -12,11 +12,11 @@ loop-block-preserved c =
     let old = c.loop-block.places.items in
     let b = c.loop-block.block in
     elim c.if-has.branch [
-      | then-has+in_ok-push_block w ↦ rw w.places-is (listed-block cells cube blocks b old w.push_block.new.places.items w.in_ok-push_block.ensures.kept w.in_ok-push_block.ensures.these c.loop-block.invariant)
-      | else-has w ↦ rw w.places-is (listed-skipped cells cube blocks b old (sym c.has.ensures ∙ w.if-has.false) c.loop-block.invariant)
+      | then-has+in_ok-push_block w ↦ rw w.places-is (listed-block cells cube blocks b old w.push_block.new.places.items w.in_ok-push_block.ensures.kept w.in_ok-push_block.ensures.these c.loop-block.invariant.0, w.in_ok-push_block.ensures.only)
+      | else-has w ↦ rw w.places-is (listed-skipped cells cube blocks b old (sym c.has.ensures ∙ w.if-has.false) c.loop-block.invariant.0, c.loop-block.invariant.1)
     ]
 
-pub returns : goal.returns
-returns c = λ p cell m at inside.
+pub returns-clause-these : goal.returns-clause-these
+returns-clause-these c = λ p cell m at inside.
     let low = c.blocks_of-block-end.ensures.all p (slice_get_within c.args.cells.now p cell at) in
-    c.loop-block.invariant p cell (omega (arith, low, c.loop-block-test.false), m) at inside
+    c.loop-block.invariant.0 p cell (omega (arith, low, c.loop-block-test.false), m) at inside
