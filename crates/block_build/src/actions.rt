@@ -1,6 +1,6 @@
 //! Rules over ports to leave by, as rules of the table.
 
-ghost use Rattle.std.specs.Prelude.{◌≡◌, ◌++◌, ◌∷◌, [], IfOk, OnOk};
+ghost use Rattle.std.specs.Prelude.{◌≡◌, ◌<◌, ◌++◌, ◌∷◌, [], IfOk, OnOk, IsPermutation, length};
 ghost use Rattle.block_build.specs.Rules.{action_at, actions_in, actions_of, rule_of, rules_of};
 
 use crate::turned::Turned;
@@ -29,11 +29,54 @@ fn actions_in(alloc: Global, items: &[(Assign, Loc)]) -> Result<Vec<Action>, Mem
     Ok(actions)
 }
 
-/// The actions of what leaves by ports, in order, each once.
+/// Whether an assignment comes before another, by srcip, dstip, srcport and dstport, an absent field before a present one.
+fn sets_before(a: &Assign, b: &Assign) -> bool {
+    let ports = a.sport.cmp(&b.sport).then(a.dport.cmp(&b.dport));
+    let targets = a.dst.cmp(&b.dst).then(ports);
+    a.src.cmp(&b.src).then(targets).is_lt()
+}
+
+/// Whether an action comes before another: by port, and at the same port by what is set.
+fn comes_before(a: &Action, b: &Action) -> bool {
+    if a.port.0 == b.port.0 {
+        sets_before(&a.set, &b.set)
+    } else {
+        a.port.0 < b.port.0
+    }
+}
+
+/// How many places an action is moved back at most.
+const NEAR: usize = 8;
+
+/// Moves an action back past those just before it that it comes before.
+fn settle_at(actions: &mut [Action], place: usize)
+    requires { place < length actions.old }
+    ensures { IsPermutation actions.old actions.new }
+{
+    for at in (place.saturating_sub(NEAR)..place).rev() {
+        if !comes_before(&actions[at + 1], &actions[at]) {
+            return;
+        }
+        actions.swap(at, at + 1);
+    }
+}
+
+/// Moves each action back past those just before it that it comes before. Actions that are nearly in order, as results
+/// mostly give them, then are in order.
+fn settle(actions: &mut [Action])
+    ensures { IsPermutation actions.old actions.new }
+{
+    for place in 0..actions.len() {
+        settle_at(actions, place);
+    }
+}
+
+/// The actions of what leaves by ports, in order, each once. Sorting takes one look an action where they are in order.
 pub(crate) fn actions_of(alloc: Global, items: &[(Assign, Loc)]) -> Result<Actions, Memory>
     ensures { IfOk result (λ a. a ≡ actions_of items.now) }
 {
-    let actions = actions_in(alloc, items)?;
+    let mut actions = actions_in(alloc, items)?;
+    settle(actions.as_mut_slice());
     Ok(Actions::from_vec(actions))
 }
 
@@ -60,11 +103,9 @@ fn push_rule(
 ) -> Result<(), Memory>
     ensures { OnOk result (rules.new.items ≡ rules.old.items ++ rule_of x ∷ []) }
 {
-    let actions = held(turned.actions(&x.results)?, count)?;
-    rules.push(Rule {
-        cube: x.cube,
-        actions,
-    })?;
+    let Line { cube, results } = x;
+    let actions = held(turned.actions(results)?, count)?;
+    rules.push(Rule { cube, actions })?;
     Ok(())
 }
 

@@ -43,18 +43,12 @@ fn found<'u>(kept: &'u [Turn], print: u64, results: &Results) -> Option<&'u Acti
 }
 
 /// Keeps the actions that results became. Where there are many, the earlier ones go.
-fn keep(
-    kept: &mut Vec<Turn>,
-    print: u64,
-    results: &Results,
-    actions: &Actions,
-) -> Result<(), Memory>
-    requires { actions.now ≡ actions_of results.now }
+fn keep(kept: &mut Vec<Turn>, print: u64, results: Results, actions: &Actions) -> Result<(), Memory>
+    requires { actions.now ≡ actions_of results }
 {
     if kept.len() >= MOST {
         kept.clear();
     }
-    let results = results.copy()?;
     let actions = actions.copy()?;
     kept.push(Turn {
         print,
@@ -74,14 +68,14 @@ impl Turned {
     }
 
     /// The actions of what leaves by ports, in order, each once.
-    pub(crate) fn actions(&mut self, results: &Results) -> Result<Actions, Memory>
-        ensures { IfOk result (λ a. a ≡ actions_of results.now) }
+    pub(crate) fn actions(&mut self, results: Results) -> Result<Actions, Memory>
+        ensures { IfOk result (λ a. a ≡ actions_of results) }
     {
         if results.len() <= FEW {
             return actions_of(self.alloc, results.items());
         }
         let print = results.print();
-        if let Some(actions) = found(&self.kept, print, results) {
+        if let Some(actions) = found(&self.kept, print, &results) {
             return actions.copy();
         }
         let actions = actions_of(self.alloc, results.items())?.shared()?;
