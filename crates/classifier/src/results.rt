@@ -2,7 +2,7 @@
 
 ghost use Rattle.std.specs.Prelude.{◌≡◌, ◌↔◌, IsTrue, IfOk, OnOk, OnErr, ◌++◌, ◌∷◌, [], length, false};
 ghost use Rattle.std.specs.Cmp.Lexicographic.{pointwise};
-ghost use Rattle.classifier.specs.Items.{AreNew, add, add_all, is_among, same_item};
+ghost use Rattle.classifier.specs.Items.{add, add_all, is_among, same_item};
 ghost use Rattle.net_types.specs.Sets.{HasNoRepeats};
 
 use crate::prints::print_of;
@@ -100,18 +100,6 @@ impl Results {
     {
         self.pairs.push(pair)?;
         self.print = 0;
-        Ok(())
-    }
-
-    /// Puts each of the pairs last, none of which is there.
-    pub fn put_all_last(&mut self, others: &Results) -> Result<(), Memory>
-        requires { AreNew self.old others.now }
-        ensures { OnOk result (self.new ≡ add_all self.old others.now) }
-    {
-        others.known();
-        for pair in others.items() {
-            self.put_last(*pair)?;
-        }
         Ok(())
     }
 
