@@ -11,6 +11,9 @@ use net_types::{Action, Assign, Cube, Ip, Memory, Prefix, Rule, same_items};
 /// So many actions are written anew at once, which is no more work than to look whether they are those of the last rule.
 const FEW: usize = 8;
 
+/// So many octets an action and its sign usually take, so the text of a list seldom moves while it is written.
+const ROOM: usize = 24;
+
 /// The last list of many actions, and how it is written: rules often have the same list.
 #[derive(Drop)]
 pub struct LastActions<'a> {
@@ -220,7 +223,7 @@ fn push_listed<'a>(
             return Ok(());
         }
     }
-    let mut written = Vec::new(*text.allocator());
+    let mut written = Vec::with_capacity(*text.allocator(), actions.len().saturating_mul(ROOM))?;
     push_actions(&mut written, actions)?;
     text.extend_from_slice(written.as_slice())?;
     *last = Some(LastActions {
