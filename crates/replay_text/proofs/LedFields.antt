@@ -1,7 +1,6 @@
 -- Fields that are written one after the other.
 use Rattle.std.proofs.Common.{◌≡◌, ℕ, List, [], ◌∷◌, ◌++◌, refl, sym, ap, ◌∙◌, append_assoc, append-nil, codes, map, length, ◌<◌, ◌-◌, ◌≢◌, get_or, take, drop, Bool, true, false, arith}
-use Rattle.events.specs.Text.{joined, or_star, or_none, in_brackets, action_text, prefix_field, prefix_text}
-use Rattle.std.specs.Str.{bytes_eq}
+use Rattle.events.specs.Text.{joined, or_star, or_none, action_text, prefix_field, prefix_text}
 use Rattle.std.proofs.lemmas.List.{take_rest}
 use Rattle.std.proofs.lemmas.Bool.{cond-false, ne_eqb}
 use Rattle.net_types.specs.declared.prefix.Prefix.{Prefix}
@@ -57,16 +56,6 @@ pub star-some : (xs : List (List ℕ)) → 0 < length (next_lead [] xs) → or_s
 star-some [] h = absurd (omega arith)
 star-some (x ∷ xs) h = joined-led x xs
 
-pub bracket-none : (xs : List (List ℕ)) → bytes_eq (next_lead (codes "[") xs) (codes ",") ≡ false → in_brackets xs ≡ led (codes "[") xs
-bracket-none [] e = refl
-bracket-none (x ∷ xs) e = cc
-
-pub bracket-some : (xs : List (List ℕ)) → bytes_eq (next_lead (codes "[") xs) (codes ",") ≡ true → in_brackets xs ≡ led (codes "[") xs ++ codes "]"
-bracket-some [] e = cc
-bracket-some (x ∷ xs) e =
-    ap (λ l. (codes "[" ++ l) ++ codes "]") (joined-led x xs)
-    ∙ ap (λ l. l ++ codes "]") (sym (append_assoc (codes "[") x (led (codes ",") xs)))
-
 pub joined-more : (x : List ℕ) (actions : List Action) → joined (codes " + ") (x ∷ map action_text actions) ≡ x ++ more_text actions
 joined-more x [] = sym (append-nil x)
 joined-more x (a ∷ actions) = ap (λ l. (x ++ codes " + ") ++ l) (joined-more (action_text a) actions) ∙ behind x (codes " + ") (action_text a) (more_text actions)
@@ -81,7 +70,5 @@ pub prefix-some : (name : List ℕ) (p : Prefix) → p.len ≢ 0 → prefix_fiel
 prefix-some name p some = cond-false _ _ _ (ne_eqb p.len 0 some)
 
 pub ruleset star_rules = (star-none, star-some, append_assoc)
-
-pub ruleset bracket_rules = (bracket-none, bracket-some, append_assoc)
 
 pub ruleset action_rules = (joined-more, append_assoc)

@@ -4,5 +4,6 @@ pub mod Verbs
 pub mod Formed
 pub mod Utf8
 pub mod HexFields
+pub mod ClosedFields
 pub mod LedFields
 pub mod RuleLines

@@ -16,6 +16,16 @@ abbrev pub next_lead : List ℕ → List (List ℕ) → List ℕ
 next_lead lead [] = lead
 next_lead lead (x ∷ xs) = codes ","
 
+-- What stands behind the field before these.
+abbrev pub next_close : ℕ → List (List ℕ) → ℕ
+next_close close [] = close
+next_close close (x ∷ xs) = 44
+
+-- Fields with commas between them, and behind the last one what closes them.
+abbrev pub closed : ℕ → List (List ℕ) → List ℕ
+closed close [] = []
+closed close (x ∷ xs) = x ++ (next_close close xs ∷ closed close xs)
+
 -- The fields of a cube that are not any.
 abbrev pub cube_fields : Cube → List (List ℕ)
 cube_fields c = prefix_field (codes "srcip") c.src ++ prefix_field (codes "dstip") c.dst ++ number_field (codes "proto") c.proto ++ number_field (codes "srcport") c.sport ++ number_field (codes "dstport") c.dport

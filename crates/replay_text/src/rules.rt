@@ -1,15 +1,18 @@
 //! Writing addresses, prefixes and rules.
 ghost use Rattle.std.specs.Prelude.{◌≡◌, ◌++◌, [], OnOk, IfOk, codes, map};
 ghost use Rattle.std.specs.Fmt.{decimal};
-ghost use Rattle.events.specs.Text.{address_text, prefix_text, number_field, address_field, prefix_field, cube_text, action_text, in_brackets, or_none, rule_text};
-ghost use Rattle.replay_text.specs.Fields.{cube_fields, led, more_text, next_lead, set_fields};
+ghost use Rattle.events.specs.Text.{address_text, prefix_text, number_field, prefix_field, cube_text, action_text, or_none, rule_text};
+ghost use Rattle.replay_text.specs.Fields.{cube_fields, led, more_text, next_lead};
 
 use super::front::Front;
 use itoa::Buffer;
-use net_types::{Action, Assign, Cube, Ip, Memory, Prefix, Rule, same_items};
+use net_types::{Action, Cube, Ip, Memory, Prefix, Rule, same_items};
 
 /// So many actions are written anew at once, which is no more work than to look whether they are those of the last rule.
 const FEW: usize = 8;
+
+/// So many octets an action and its sign usually take, so the text of a list seldom moves while it is written.
+const ROOM: usize = 24;
 
 /// The last list of many actions, and how it is written: rules often have the same list.
 #[derive(Drop)]
@@ -94,26 +97,6 @@ fn push_number_field(
     }
 }
 
-/// Writes an address with its name, where there is one; gives what leads the next field.
-fn push_address_field(
-    text: &mut Vec<u8>,
-    lead: &'static str,
-    name: &str,
-    ip: Option<Ip>,
-) -> Result<&'static str, Memory>
-    ensures written { OnOk result (text.new.items ≡ text.old.items ++ led lead.now (address_field name.now ip)) }
-    ensures next { IfOk result (λ next. next.now ≡ next_lead lead.now (address_field name.now ip)) }
-{
-    match ip {
-        Some(ip) => {
-            push_name(text, lead, name)?;
-            push_address(text, ip)?;
-            Ok(",")
-        }
-        None => Ok(lead),
-    }
-}
-
 fn widened(number: Option<u8>) -> Option<u16>
     ensures { result ≡ number }
 {
@@ -145,43 +128,19 @@ fn push_cube(text: &mut Vec<u8>, cube: &Cube) -> Result<(), Memory>
     Ok(())
 }
 
-/// Writes the set fields behind a bracket; gives what would lead another one.
-#[tactic(auto, using(crate::proofs::LedFields::led_rules))]
-fn push_set_fields(text: &mut Vec<u8>, set: Assign) -> Result<&'static str, Memory>
-    ensures written { OnOk result (text.new.items ≡ text.old.items ++ led (codes "[") (set_fields set)) }
-    ensures next { IfOk result (λ next. next.now ≡ next_lead (codes "[") (set_fields set)) }
-{
-    let lead = push_address_field(text, "[", "srcip", set.src)?;
-    let lead = push_address_field(text, lead, "dstip", set.dst)?;
-    let lead = push_number_field(text, lead, "srcport", set.sport)?;
-    push_number_field(text, lead, "dstport", set.dport)
-}
-
-/// Writes the set fields in brackets, where there are some.
-#[tactic(auto, using(crate::proofs::LedFields::bracket_rules))]
-fn push_set(text: &mut Vec<u8>, set: Assign) -> Result<(), Memory>
-    ensures { OnOk result (text.new.items ≡ text.old.items ++ in_brackets (set_fields set)) }
-{
-    let lead = push_set_fields(text, set)?;
-    if lead == "," {
-        text.push(b']')?;
-    }
-    Ok(())
-}
-
-fn push_action(text: &mut Vec<u8>, action: Action) -> Result<(), Memory>
-    ensures { OnOk result (text.new.items ≡ text.old.items ++ action_text action) }
-{
-    push_number(text, u64::from(action.port.0))?;
-    push_set(text, action.set)
-}
-
-fn push_more_actions(text: &mut Vec<u8>, actions: &[Action]) -> Result<(), Memory>
+/// Writes the actions behind the first; the front is room to write one in.
+fn push_more_actions(
+    text: &mut Vec<u8>,
+    front: &mut Front,
+    actions: &[Action],
+) -> Result<(), Memory>
     ensures { OnOk result (text.new.items ≡ text.old.items ++ more_text actions.now) }
 {
     for action in actions {
-        text.extend_from_slice(b" + ")?;
-        push_action(text, *action)?;
+        front.clear();
+        front.action(*action);
+        front.word(b" + ");
+        text.extend_from_slice(front.text())?;
     }
     Ok(())
 }
@@ -196,8 +155,10 @@ fn push_actions(text: &mut Vec<u8>, actions: &[Action]) -> Result<(), Memory>
             Ok(())
         }
         [first, others @ ..] => {
-            push_action(text, *first)?;
-            push_more_actions(text, others)?;
+            let mut front = Front::new();
+            front.action(*first);
+            text.extend_from_slice(front.text())?;
+            push_more_actions(text, &mut front, others)?;
             Ok(())
         }
     }
@@ -220,7 +181,7 @@ fn push_listed<'a>(
             return Ok(());
         }
     }
-    let mut written = Vec::new(*text.allocator());
+    let mut written = Vec::with_capacity(*text.allocator(), actions.len().saturating_mul(ROOM))?;
     push_actions(&mut written, actions)?;
     text.extend_from_slice(written.as_slice())?;
     *last = Some(LastActions {
