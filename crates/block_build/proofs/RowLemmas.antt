@@ -1,5 +1,5 @@
 -- Cells beside what receivers make in them: receiver by receiver, and cell by cell.
-use Rattle.std.proofs.Common.{◌≡◌, ◌≤◌, ◌<◌, ◌+◌, ◌-◌, ℕ, zero, suc, IsTrue, Bool, true, false, cond, drop, take, get_or, List, [], ◌∷◌, ◌++◌, length, map, arith, refl, inl, inr, sym, ap, ◌∙◌, subst}
+use Rattle.std.proofs.Common.{◌≡◌, ◌<◌, ◌+◌, ℕ, suc, IsTrue, Bool, true, false, cond, drop, take, get_or, List, [], ◌∷◌, ◌++◌, length, map, arith, refl, inl, inr, sym, ap, ◌∙◌, subst}
 use Rattle.std.proofs.lemmas.List.{drop_more, length-drop, take-append-drop, take_more}
 use Rattle.cells.specs.Firsts.{firsts}
 use Rattle.classifier.proofs.UnionLemmas.{joined-HasNoRepeats}

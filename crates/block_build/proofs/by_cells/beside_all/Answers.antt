@@ -9,7 +9,6 @@ use Rattle.block_build.proofs.ByCellLemmas.{cubes-all}
 use Rattle.block_build.proofs.FewLemmas.{cubes-first, first-rest}
 use Rattle.block_build.proofs.RowLemmas.{all-each, all-rest, all-taken}
 use Rattle.block_build.specs.ByCells.{beside_all, beside_them, dropping}
-use Rattle.block_build.specs.Known.{AreKnown}
 use Rattle.block_build.specs.Ports.{AllTaken}
 use Rattle.block_build.specs.Tables.{AreTables}
 use Rattle.block_build.specs.declared.receive.Receiver.{Receiver}

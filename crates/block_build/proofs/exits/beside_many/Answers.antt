@@ -1,5 +1,5 @@
 -- The first rule that holds the cell gives what leaves.
-use Rattle.std.proofs.Common.{◌≡◌, IfOk, List, Some, refl, sym, ap, ◌∙◌, subst}
+use Rattle.std.proofs.Common.{◌≡◌, IfOk, List, refl, sym, ap, ◌∙◌, subst}
 use Rattle.std.specs.Prelude.{option_copied}
 use Rattle.classifier.specs.Items.{Item, add_all}
 use Rattle.block_build.proofs.ByCellLemmas.{held-received}

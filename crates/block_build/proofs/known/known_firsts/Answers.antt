@@ -1,12 +1,11 @@
 -- One more receiver is known.
-use Rattle.std.proofs.Common.{◌≡◌, ◌+◌, ◌∷◌, ◌++◌, [], List, ℕ, arith, ap, length, refl, subst, sym, take, ◌∙◌}
-use Rattle.std.proofs.lemmas.List.{length-append, take_more}
+use Rattle.std.proofs.Common.{◌+◌, ◌∷◌, [], List, ap, length, refl, subst, sym, ◌∙◌}
+use Rattle.std.proofs.lemmas.List.{length-append}
 use Rattle.net_types.specs.declared.cube.Cube.{Cube}
 use Rattle.block_build.proofs.RowLemmas.{known-more}
-use Rattle.block_build.specs.Known.{AreKnown, IsKnown}
+use Rattle.block_build.specs.Known.{AreKnown}
 use Rattle.block_build.specs.Tables.{AreTables}
 use Rattle.block_build.specs.declared.known.Known.{Known}
-use Rattle.block_build.specs.declared.receive.Receiver.{Receiver}
 use Rattle.block_build.proofs.known.known_firsts.Goals as goal
 
 pub loop-receiver-init : goal.loop-receiver-init

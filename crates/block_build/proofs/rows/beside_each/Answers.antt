@@ -1,7 +1,6 @@
 -- One more cell.
 use Rattle.std.proofs.Common.{◌≡◌, ◌++◌, ◌∷◌, List, inl, length, arith, ap, refl, sym, subst, ◌∙◌}
 use Rattle.std.proofs.lemmas.List.{length-map}
-use Rattle.classifier.specs.Meaning.{cubes_of}
 use Rattle.classifier.specs.declared.line.Line.{Line}
 use Rattle.net_types.proofs.SetLemmas
 use Rattle.net_types.specs.Sets.{Member}

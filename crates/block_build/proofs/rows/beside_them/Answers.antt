@@ -1,7 +1,7 @@
 -- One more receiver: what it makes is beside what there is.
-use Rattle.std.proofs.Common.{◌≡◌, ◌∷◌, ◌++◌, [], List, drop, length, ap, refl, sym, subst, ◌∙◌, ◌<◌, ◌+◌}
+use Rattle.std.proofs.Common.{◌≡◌, ◌∷◌, ◌++◌, [], List, drop, ap, sym, subst, ◌∙◌, ◌+◌}
 use Rattle.std.proofs.lemmas.Bool.{false≢true}
-use Rattle.cells.specs.Firsts.{first_place, firsts}
+use Rattle.cells.specs.Firsts.{first_place}
 use Rattle.classifier.specs.Items.{Item}
 use Rattle.classifier.specs.Lines.{line}
 use Rattle.classifier.specs.Meaning.{cubes_of}

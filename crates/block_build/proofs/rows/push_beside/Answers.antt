@@ -1,5 +1,4 @@
 -- What the receiver makes is new.
-use Rattle.std.proofs.Common.{[]}
 use Rattle.classifier.specs.Items.{AreNew}
 use Rattle.block_build.proofs.TakenLemmas.{held-of}
 use Rattle.block_build.proofs.rows.push_beside.Goals as goal
